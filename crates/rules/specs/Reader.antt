@@ -1,0 +1,132 @@
+-- Reading an image: "each record in turn 1 if nothing is left, 2, 7 for place, 1, 6, 3, 4, 7 for keys and counts; then 7 for bytes after the end; then 8".
+use Prim.Native.Nat.{_+_, _-_, suc, zero, ℕ}
+use mathlib.Core.Bool.{Bool, _&&_, _||_, cond}
+use mathlib.Core.List.{List, [], _++_, _∷_}
+use lib.Dec.{eqb, leb, ltb}
+use lib.ListN.{drop, getD, length, take}
+use Rattle.rules.specs.Bytes.{lineAt, numOf}
+use Rattle.rules.specs.Contradiction.{contradicts}
+use Rattle.rules.specs.Image.{Listed, Logged, Persistent}
+use Rattle.rules.specs.Lists.{all, count}
+use Rattle.rules.specs.Refusal.{inRange}
+use Rattle.rules.specs.Tables.{keyOf, threadOf}
+
+-- what a record does: it stops the reading with a refusal, it is added to what was read, or it is the end
+pub data Turn : Type 0 where
+  Stop : ℕ → Turn
+  Next : Persistent → Turn
+  Last : Persistent → Turn
+
+-- nothing read yet; T is 0 until the head is read
+abbrev pub nothing : Persistent
+nothing = record { threads = 0; lines = 0; medium = []; regions = []; log = [] }
+
+-- the lengths of the bodies of 32 to 36
+abbrev pub imageBody : ℕ → ℕ
+imageBody k = getD (3 ∷ 64 ∷ 16 ∷ 68 ∷ []) (k - 32) 0
+
+abbrev pub isImageKind : ℕ → Bool
+isImageKind k = leb 32 k && leb k 36
+
+-- 32, then L of 33, then any of 34, then any of 35, then 36
+abbrev pub isPlaced : Persistent → ℕ → Bool
+isPlaced p k =
+    cond (eqb (p .threads) 0) (eqb k 32)
+    (cond (ltb (length (p .medium)) (p .lines)) (eqb k 33)
+    (cond (eqb (length (p .log)) 0) (leb 34 k) (leb 35 k)))
+
+-- thread and number at a place of the body
+abbrev pub keyAt : List ℕ → ℕ → ℕ
+keyAt bs i = keyOf (getD bs i 0) (numOf (take 2 (drop (i + 1) bs)))
+
+-- ---- the fields of each record, once its place and its length are right
+
+unfoldable pub headTurn : List ℕ → Turn
+headTurn bs =
+    cond (inRange (getD bs 0 0) (numOf (take 2 (drop 1 bs))))
+    (Next (record { threads = getD bs 0 0; lines = numOf (take 2 (drop 1 bs)); medium = []; regions = []; log = [] }))
+    (Stop 6)
+
+unfoldable pub lineTurn : Persistent → List ℕ → Turn
+lineTurn p bs =
+    Next (record { threads = p .threads; lines = p .lines; medium = p .medium ++ (lineAt bs 0 ∷ []); regions = p .regions; log = p .log })
+
+-- the entry that a body of kind 34 holds
+unfoldable pub listedAt : List ℕ → Listed
+listedAt bs = record { key = keyAt bs 0; state = getD bs 3 0; deps = keyAt bs 4 ∷ keyAt bs 7 ∷ keyAt bs 10 ∷ keyAt bs 13 ∷ [] }
+
+-- 3 "thread not below T, in a dependence too"
+abbrev pub isKnownThread : ℕ → ℕ → Bool
+isKnownThread n k = ltb (threadOf k) n
+
+abbrev pub lastListed : List Listed → ℕ
+lastListed rs = getD rs (length rs - 1) (record { key = 0; state = 0; deps = [] }) .key
+
+-- 7 "thread and number not rising, over 32 entries of kind 34"
+unfoldable pub listedTurn : Persistent → Listed → Turn
+listedTurn p r =
+    cond (all (isKnownThread (p .threads)) (r .key ∷ r .deps))
+    (cond (eqb (length (p .regions)) 0 || ltb (lastListed (p .regions)) (r .key))
+    (cond (ltb (length (p .regions)) 32)
+    (Next (record { threads = p .threads; lines = p .lines; medium = p .medium; regions = p .regions ++ (r ∷ []); log = p .log }))
+    (Stop 7)) (Stop 7)) (Stop 3)
+
+-- the entry that a body of kind 35 holds
+unfoldable pub loggedAt : List ℕ → Logged
+loggedAt bs = record { key = keyAt bs 0; line = getD bs 3 0; old = lineAt bs 4 }
+
+abbrev pub lastLogged : List Logged → ℕ
+lastLogged es = getD es (length es - 1) (record { key = 0; line = 0; old = [] }) .key
+
+abbrev pub isLoggedBy : ℕ → Logged → Bool
+isLoggedBy t e = eqb (threadOf (e .key)) t
+
+-- 4 "line not below L"; 7 "in kind 35: falling", "over 32 log entries of a thread"
+unfoldable pub loggedTurn : Persistent → Logged → Turn
+loggedTurn p e =
+    cond (isKnownThread (p .threads) (e .key))
+    (cond (ltb (e .line) (p .lines))
+    (cond (leb (lastLogged (p .log)) (e .key))
+    (cond (ltb (count (isLoggedBy (threadOf (e .key))) (p .log)) 32)
+    (Next (record { threads = p .threads; lines = p .lines; medium = p .medium; regions = p .regions; log = p .log ++ (e ∷ []) }))
+    (Stop 7)) (Stop 7)) (Stop 4)) (Stop 3)
+
+-- 7 "bytes after the end"
+unfoldable pub endTurn : Persistent → List ℕ → Turn
+endTurn p bs = cond (eqb (length bs) 0) (Last p) (Stop 7)
+
+unfoldable pub fieldsTurn : Persistent → ℕ → List ℕ → Turn
+fieldsTurn p k bs =
+    cond (eqb k 32) (headTurn bs)
+    (cond (eqb k 33) (lineTurn p bs)
+    (cond (eqb k 34) (listedTurn p (listedAt bs))
+    (cond (eqb k 35) (loggedTurn p (loggedAt bs)) (endTurn p bs))))
+
+-- ---- a record at the front of the bytes
+unfoldable pub turnOf : Persistent → List ℕ → Turn
+turnOf p [] = Stop 1
+turnOf p (k ∷ bs) =
+    cond (isImageKind k)
+    (cond (isPlaced p k) (cond (leb (imageBody k) (length bs)) (fieldsTurn p k bs) (Stop 1)) (Stop 7))
+    (Stop 2)
+
+-- ---- the whole image
+
+pub data Verdict : Type 0 where
+  Refuses : ℕ → Verdict
+  Reads : Persistent → Verdict
+
+-- the records one behind the other, where k bytes are still to pass before the next one
+unfoldable pub recordsRead : Persistent → ℕ → List ℕ → Verdict
+recordsRead p k [] = Refuses 1
+recordsRead p (suc k) (b ∷ bs) = recordsRead p k bs
+recordsRead p zero (b ∷ bs) =
+    elim (turnOf p (b ∷ bs)) [ Stop n ↦ Refuses n | Next q ↦ recordsRead q (imageBody b) bs | Last q ↦ Reads q ]
+
+-- 8 after all others
+abbrev pub unlessContradicted : Verdict → Verdict
+unlessContradicted (Refuses n) = Refuses n
+unlessContradicted (Reads p) = cond (contradicts p) (Refuses 8) (Reads p)
+
+unfoldable pub readImage : List ℕ → Verdict
+readImage bs = unlessContradicted (recordsRead nothing 0 bs)

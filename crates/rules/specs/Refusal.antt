@@ -1,0 +1,119 @@
+-- "Refused because of the input" (6, 3, 4, 5) and "Refused because of the state" (11 to 23): for each event its tests, in the order of document 01.
+use Prim.Native.Nat.{_*_, ℕ}
+use mathlib.Core.Bool.{Bool, _&&_, _||_, cond, not}
+use mathlib.Core.List.{List, [], _∷_}
+use lib.Dec.{eqb, leb, ltb}
+use Rattle.rules.specs.Access.{dependence, isHad, isOf, needsLog}
+use Rattle.rules.specs.Lists.{count}
+use Rattle.rules.specs.Slots.{carries, isFull, slotFor}
+use Rattle.rules.specs.Tables.{current, isHeld, locked, ownerOf, regionAt, threadAt, threadOf}
+use Rattle.rules.specs.declared.Event.{Event}
+use Rattle.rules.specs.declared.Event.the-variants.{Begin, Cut, DataAck, End, Fence, LogAck, Read, Setup, Write}
+use Rattle.rules.specs.declared.Region.{Region}
+use Rattle.rules.specs.declared.Size.{Size}
+use Rattle.rules.specs.declared.Tables.{Tables}
+use Rattle.undo.specs.Table.{any}
+
+pub record Test : Type 0 where
+  pub code : ℕ
+  pub bad : Bool
+
+-- the number of the first test that refuses; 0 if none does
+abbrev pub firstBad : List Test → ℕ
+firstBad [] = 0
+firstBad (t ∷ ts) = cond (t .bad) (t .code) (firstBad ts)
+
+abbrev pub refuse : ℕ → Bool → Test
+refuse n b = record { code = n; bad = b }
+
+-- ---- the conditions
+
+-- "Threads T: 1 to 8. Lines L: 1 to 256."
+abbrev pub inRange : ℕ → ℕ → Bool
+inRange n l = (leb 1 n && leb n 8) && (leb 1 l && leb l 256)
+
+abbrev pub isSetUp : Tables → Bool
+isSetUp ts = inRange (ts .size .threads) (ts .size .lines)
+
+-- "lent memory not 64 × L bytes"
+abbrev pub fits : ℕ → Size → Bool
+fits l z = z .zero || eqb (z .lent) (64 * l)
+
+abbrev pub depthOf : ℕ → Tables → ℕ
+depthOf t ts = threadAt t ts .depth
+
+abbrev pub isOfThread : ℕ → Region → Bool
+isOfThread t r = isHeld r && eqb (threadOf (r .key)) t
+
+-- a region of the thread that is in the modified list
+abbrev pub isModified : ℕ → Region → Bool
+isModified t r = isOfThread t r && not (r .done)
+
+-- "17 owner is another thread's open region"
+abbrev pub isForeignOpen : ℕ → ℕ → Tables → Bool
+isForeignOpen t o ts = not (eqb o 0) && (not (eqb (threadOf o) t) && not (regionAt o (ts .regions) .ended))
+
+-- "19 new dependence and four held"
+abbrev pub noRoomForDep : ℕ → List ℕ → Bool
+noRoomForDep d ds = not (isHad d ds) && not (any (eqb 0) ds)
+
+-- a slot of some region carries line l
+abbrev pub inFlight : ℕ → Tables → Bool
+inFlight l ts = any (λ r. any (carries l) (r .slots)) (ts .regions)
+
+-- ---- the tests of each event
+
+unfoldable pub testsOf : Tables → Event → List Test
+testsOf ts (Setup n l) = refuse 6 (not (inRange n l)) ∷ refuse 6 (not (fits l (ts .size))) ∷ refuse 6 (isSetUp ts) ∷ []
+testsOf ts (Begin t) =
+    refuse 6 (not (isSetUp ts))
+    ∷ refuse 3 (leb (ts .size .threads) t)
+    ∷ refuse 11 (ts .cut)
+    ∷ refuse 13 (leb 15 (depthOf t ts))
+    ∷ refuse 14 (eqb (depthOf t ts) 0 && leb 65535 (threadAt t ts .last))
+    ∷ refuse 15 (eqb (depthOf t ts) 0 && leb 4 (count (isModified t) (ts .regions)))
+    ∷ refuse 16 (eqb (depthOf t ts) 0 && leb 32 (count isHeld (ts .regions)))
+    ∷ []
+testsOf ts (End t) =
+    refuse 6 (not (isSetUp ts))
+    ∷ refuse 3 (leb (ts .size .threads) t)
+    ∷ refuse 11 (ts .cut)
+    ∷ refuse 12 (eqb (depthOf t ts) 0)
+    ∷ []
+testsOf ts (Read t l w) =
+    refuse 6 (not (isSetUp ts))
+    ∷ refuse 3 (leb (ts .size .threads) t)
+    ∷ refuse 4 (leb (ts .size .lines) l)
+    ∷ refuse 5 (ltb 7 w)
+    ∷ refuse 11 (ts .cut)
+    ∷ refuse 12 (eqb (depthOf t ts) 0)
+    ∷ refuse 17 (isForeignOpen t (ownerOf l ts) ts)
+    ∷ refuse 19 (noRoomForDep (dependence (current t ts) l ts) (regionAt (current t ts) (ts .regions) .deps))
+    ∷ []
+testsOf ts (Write t l w v) =
+    refuse 6 (not (isSetUp ts))
+    ∷ refuse 3 (leb (ts .size .threads) t)
+    ∷ refuse 4 (leb (ts .size .lines) l)
+    ∷ refuse 5 (ltb 7 w)
+    ∷ refuse 11 (ts .cut)
+    ∷ refuse 12 (eqb (depthOf t ts) 0)
+    ∷ refuse 17 (isForeignOpen t (ownerOf l ts) ts)
+    ∷ refuse 18 (needsLog (current t ts) l ts && locked l ts)
+    ∷ refuse 19 (noRoomForDep (dependence (current t ts) l ts) (regionAt (current t ts) (ts .regions) .deps))
+    ∷ refuse 20 (isFull (slotFor l (regionAt (current t ts) (ts .regions) .slots)))
+    ∷ refuse 21 (needsLog (current t ts) l ts && not (any (isOf 0) (threadAt t ts .log)))
+    ∷ []
+testsOf ts (LogAck l) =
+    refuse 6 (not (isSetUp ts)) ∷ refuse 4 (leb (ts .size .lines) l) ∷ refuse 11 (ts .cut) ∷ refuse 22 (not (locked l ts)) ∷ []
+testsOf ts (DataAck l) =
+    refuse 6 (not (isSetUp ts)) ∷ refuse 4 (leb (ts .size .lines) l) ∷ refuse 11 (ts .cut) ∷ refuse 22 (not (inFlight l ts)) ∷ []
+testsOf ts (Fence t) =
+    refuse 6 (not (isSetUp ts))
+    ∷ refuse 3 (leb (ts .size .threads) t)
+    ∷ refuse 11 (ts .cut)
+    ∷ refuse 23 (not (eqb (depthOf t ts) 0))
+    ∷ []
+testsOf ts Cut = refuse 6 (not (isSetUp ts)) ∷ refuse 11 (ts .cut) ∷ []
+
+unfoldable pub refusal : Tables → Event → ℕ
+refusal ts e = firstBad (testsOf ts e)

@@ -1,0 +1,156 @@
+-- "The engine holds current memory, the persistent medium, an owner and a lock for each line, and the lists."
+use Prim.Native.Nat.{_%_, _*_, _+_, _/_, suc, zero, ℕ}
+use mathlib.Core.Bool.{Bool, _&&_, cond, false, not, true}
+use mathlib.Core.List.{List, [], _∷_}
+use lib.Dec.{eqb, leb}
+use lib.ListN.{getD, length, replicate, set}
+use Rattle.rules.specs.Bytes.{lineAt}
+use Rattle.rules.specs.Lists.{place}
+use Rattle.rules.specs.declared.Entry.{Entry}
+use Rattle.rules.specs.declared.Region.{Region}
+use Rattle.rules.specs.declared.Slot.{Slot}
+use Rattle.rules.specs.declared.SlotState.the-variants.{Empty}
+use Rattle.rules.specs.declared.Tables.{Tables}
+use Rattle.rules.specs.declared.Thread.{Thread}
+use Rattle.undo.specs.Table.{any}
+
+-- the tables and the four line memories: current memory, the medium, the old lines of the log (entry k of thread t at 32 * t + k), and the line that
+-- the flight of each line carries ("at most one flight per line exists")
+pub record Board : Type 0 where
+  pub tables : Tables
+  pub cur : List (List ℕ)
+  pub med : List (List ℕ)
+  pub old : List (List ℕ)
+  pub car : List (List ℕ)
+
+-- ---- what a free place holds
+
+abbrev pub noSlot : Slot
+noSlot = record { line = 0; state = Empty }
+
+abbrev pub noRegion : Region
+noRegion = record { key = 0; ended = false; done = false; stamp = 0; deps = replicate 4 0; slots = replicate 8 noSlot }
+
+abbrev pub noEntry : Entry
+noEntry = record { key = 0; line = 0; rank = 0; persistent = false }
+
+abbrev pub noThread : Thread
+noThread = record { depth = 0; last = 0; log = replicate 32 noEntry }
+
+-- ---- the starting memory: "a program starts with zero memory, a library caller lends the starting memory"
+
+pub data Memory : Type 0 where
+  Zero : Memory
+  Lent : List ℕ → Memory
+
+abbrev pub isZero : Memory → Bool
+isZero Zero = true
+isZero (Lent bs) = false
+
+abbrev pub lentLength : Memory → ℕ
+lentLength Zero = 0
+lentLength (Lent bs) = length bs
+
+-- line i of lent memory, zero where the memory does not hold the whole line
+unfoldable pub lentLine : List ℕ → ℕ → List ℕ
+lentLine bs i = cond (leb (64 * i + 64) (length bs)) (lineAt bs (64 * i)) (replicate 8 0)
+
+-- n lines of lent memory, from line i on
+unfoldable pub lentFrom : List ℕ → ℕ → ℕ → List (List ℕ)
+lentFrom bs i zero = []
+lentFrom bs i (suc n) = lentLine bs i ∷ lentFrom bs (suc i) n
+
+unfoldable pub startLines : Memory → List (List ℕ)
+startLines Zero = replicate 256 (replicate 8 0)
+startLines (Lent bs) = lentFrom bs 0 256
+
+abbrev pub freshTables : Bool → ℕ → Tables
+freshTables zeroed n =
+    record {
+      size = record { threads = 0; lines = 0; zero = zeroed; lent = n };
+      cut = false;
+      clock = 0;
+      threads = replicate 8 noThread;
+      regions = replicate 32 noRegion;
+      owner = replicate 256 0;
+      lock = replicate 256 false;
+    }
+
+-- "Current memory and medium both begin as it, with no owner, no lock and empty lists"
+unfoldable pub fresh : Memory → Board
+fresh m =
+    record {
+      tables = freshTables (isZero m) (lentLength m);
+      cur = startLines m;
+      med = startLines m;
+      old = replicate 256 (replicate 8 0);
+      car = replicate 256 (replicate 8 0);
+    }
+
+-- ---- looking up
+
+abbrev pub keyOf : ℕ → ℕ → ℕ
+keyOf t n = 65536 * t + n
+
+abbrev pub threadOf : ℕ → ℕ
+threadOf k = k / 65536
+
+abbrev pub numberOf : ℕ → ℕ
+numberOf k = k % 65536
+
+abbrev pub threadAt : ℕ → Tables → Thread
+threadAt t ts = getD (ts .threads) t noThread
+
+-- the key of the thread's last region, which is the open one at any depth but 0
+abbrev pub current : ℕ → Tables → ℕ
+current t ts = keyOf t (threadAt t ts .last)
+
+abbrev pub isKey : ℕ → Region → Bool
+isKey k r = eqb (r .key) k
+
+-- a place of the list that holds a region
+abbrev pub isHeld : Region → Bool
+isHeld r = not (eqb (r .key) 0)
+
+-- region k is uncommitted
+abbrev pub listed : ℕ → List Region → Bool
+listed k rs = not (eqb k 0) && any (isKey k) rs
+
+abbrev pub placeOf : ℕ → List Region → ℕ
+placeOf k rs = place (isKey k) rs
+
+abbrev pub regionAt : ℕ → List Region → Region
+regionAt k rs = getD rs (placeOf k rs) noRegion
+
+abbrev pub lineOf : ℕ → List (List ℕ) → List ℕ
+lineOf l m = getD m l []
+
+abbrev pub locked : ℕ → Tables → Bool
+locked l ts = getD (ts .lock) l false
+
+-- the uncommitted owner of a line; 0 if there is none
+unfoldable pub ownerOf : ℕ → Tables → ℕ
+ownerOf l ts = cond (listed (getD (ts .owner) l 0) (ts .regions)) (getD (ts .owner) l 0) 0
+
+-- ---- storing
+
+abbrev pub withRegions : List Region → Tables → Tables
+withRegions rs ts =
+    record { size = ts .size; cut = ts .cut; clock = ts .clock; threads = ts .threads; regions = rs; owner = ts .owner; lock = ts .lock }
+
+abbrev pub withThread : ℕ → Thread → Tables → Tables
+withThread t th ts =
+    record { size = ts .size; cut = ts .cut; clock = ts .clock; threads = set (ts .threads) t th; regions = ts .regions; owner = ts .owner; lock = ts .lock }
+
+abbrev pub withLock : ℕ → Bool → Tables → Tables
+withLock l b ts =
+    record { size = ts .size; cut = ts .cut; clock = ts .clock; threads = ts .threads; regions = ts .regions; owner = ts .owner; lock = set (ts .lock) l b }
+
+abbrev pub withSlots : List Slot → Region → Region
+withSlots ss r = record { key = r .key; ended = r .ended; done = r .done; stamp = r .stamp; deps = r .deps; slots = ss }
+
+abbrev pub withDeps : List ℕ → Region → Region
+withDeps ds r = record { key = r .key; ended = r .ended; done = r .done; stamp = r .stamp; deps = ds; slots = r .slots }
+
+abbrev pub withTables : Tables → Board → Board
+withTables ts b = record { tables = ts; cur = b .cur; med = b .med; old = b .old; car = b .car }

@@ -1,0 +1,94 @@
+// The tables of the board and its events, as plain structs and enums. The definitions of specs/ and the programs of the other crates work on these same types.
+//
+// A region's key is 65536 * thread + number; 0 is no region. A place of a list that holds the key 0 is free.
+
+// A slot is empty, waits with its count, or is in flight.
+pub enum SlotState {
+    Empty,
+    Waiting(u8),
+    InFlight,
+}
+
+// A line that a region has yet to bring to the medium.
+pub struct Slot {
+    pub line: u8,
+    pub state: SlotState,
+}
+
+// An uncommitted region. Every region listed here is in the dependence list; those that are not done are the modified list.
+// `stamp` tells which region ended first. `deps` are the keys of the regions on which it depends, 0 for a free place.
+pub struct Region {
+    pub key: u32,
+    pub ended: bool,
+    pub done: bool,
+    pub stamp: u32,
+    pub deps: [u32; 4],
+    pub slots: [Slot; 8],
+}
+
+// A log entry: region `key` logged the old line. It is in flight until it is persistent. `rank` is the number of entries that its region wrote before it.
+// The old line itself stands in the memory of old lines, entry k of thread t at 32 * t + k.
+pub struct Entry {
+    pub key: u32,
+    pub line: u8,
+    pub rank: u8,
+    pub persistent: bool,
+}
+
+// A thread: its depth, the number of its last region, its log.
+pub struct Thread {
+    pub depth: u8,
+    pub last: u16,
+    pub log: [Entry; 32],
+}
+
+// The numbers T and L of the setup, 0 before it; and the starting memory, which is zero or lent with a length in bytes.
+pub struct Size {
+    pub threads: u8,
+    pub lines: u16,
+    pub zero: bool,
+    pub lent: u64,
+}
+
+// All tables. `clock` counts the regions that ended. A line's owner is the last region that wrote it, committed or not.
+pub struct Tables {
+    pub size: Size,
+    pub cut: bool,
+    pub clock: u32,
+    pub threads: [Thread; 8],
+    pub regions: [Region; 32],
+    pub owner: [u32; 256],
+    pub lock: [bool; 256],
+}
+
+// An event: thread, line, word and value as far as its kind has them, in the order of its record.
+pub enum Event {
+    Setup(u8, u16),
+    Begin(u8),
+    End(u8),
+    Read(u8, u8, u8),
+    Write(u8, u8, u8, u64),
+    LogAck(u8),
+    DataAck(u8),
+    Fence(u8),
+    Cut,
+}
+
+// What the record reader answers: a refusal with its number, or the event.
+pub enum Reading {
+    Refused(u8),
+    Whole(Event),
+}
+
+// The answer to an event, a save or a recovery step: a refusal, 0 for accepted, and a value, 0 with every refusal.
+#[repr(C)]
+pub struct Answer {
+    pub refusal: u8,
+    pub value: u64,
+}
+
+// Where a line's slot is: at an index, or there is none and none is free.
+pub enum Found {
+    At(usize),
+    Full,
+}

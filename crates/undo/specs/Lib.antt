@@ -1,0 +1,6 @@
+-- The definitions and the claims.
+pub mod Table
+pub mod Machine
+pub mod History
+pub mod Recovery
+pub mod Claim
