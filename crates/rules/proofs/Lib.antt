@@ -1,1 +1,3 @@
 pub mod Cases
+pub mod Views
+pub mod Sim
