@@ -63,6 +63,7 @@ pub record Shape (ts : Tables) : Type 0 where
       → getD (getD (ts .regions) i noRegion .deps) a 0 ≡ getD (getD (ts .regions) i noRegion .deps) b 0 → a ≡ b
   -- before setup nothing has happened: at most 8 threads and 256 lines after it
   pub size : isSetUp ts ≡ false → ts .size .threads ≡ 0
+  pub cut-setup : ts .cut ≡ true → isSetUp ts ≡ true
   pub thread-range : (t : ℕ) → ts .size .threads ≤ t → threadAt t ts ≡ noThread
 
 pub record Memories (b : Board) : Type 0 where
