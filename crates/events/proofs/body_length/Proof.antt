@@ -1,0 +1,20 @@
+use Rattle.events.proofs.Laws.{no-body}
+use mathlib.Core.Path.{sym}
+use borrow.Author.Needs.{needs}
+use Rattle.events.proofs.body_length.Statement.{statement}
+use Rattle.events.proofs.body_length.Tie as tie
+
+mul-result : tie.Need-mul-result
+mul-result c = search needs
+
+array-read-result : tie.Need-array-read-result
+array-read-result c = search needs
+
+returns : tie.Need-returns
+returns c = search needs
+
+returns-2 : tie.Need-returns-2
+returns-2 c = sym (no-body _ (c .if1 .left))
+
+pub body-length-spec : {M : Type 1} → statement M
+body-length-spec = tie.close (tie.spec mul-result array-read-result returns returns-2)

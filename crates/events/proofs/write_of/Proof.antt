@@ -1,0 +1,30 @@
+use Rattle.rules.specs.Record.{eventOf}
+use borrow.Author.Needs.{needs}
+use Rattle.events.proofs.write_of.Statement.{statement}
+use Rattle.events.proofs.write_of.Tie as tie
+
+shared-slice-read-t3 : tie.Need-shared-slice-read-t3
+shared-slice-read-t3 c = search needs
+
+shared-slice-read-t5 : tie.Need-shared-slice-read-t5
+shared-slice-read-t5 c = search needs
+
+shared-slice-read-t7 : tie.Need-shared-slice-read-t7
+shared-slice-read-t7 c = search needs
+
+take-word-requires : tie.Need-take-word-requires
+take-word-requires c κs = search needs
+
+returns : tie.Need-returns
+unfolding eventOf
+returns c = rw (c .take-word .ensures)
+
+pub write-of-spec : {M : Type 1} → statement M
+write-of-spec =
+    tie.close
+    (tie.spec
+    shared-slice-read-t3
+    shared-slice-read-t5
+    shared-slice-read-t7
+    take-word-requires
+    returns)
