@@ -4,9 +4,10 @@ use mathlib.Core.Bool.{Bool, _&&_, _||_, cond, false, not, true}
 use mathlib.Core.List.{List, [], _∷_}
 use lib.Dec.{eqb, ltb}
 use lib.ListN.{getD, length}
-use Rattle.rules.specs.Image.{Listed, Logged, Persistent}
+use Rattle.rules.specs.Image.{Logged, Persistent}
 use Rattle.rules.specs.Lists.{all, place}
 use Rattle.rules.specs.Tables.{numberOf, threadOf}
+use Rattle.rules.specs.declared.Listed.{Listed}
 use Rattle.undo.specs.Table.{any}
 
 abbrev pub isListed : ℕ → List Listed → Bool

@@ -10,13 +10,8 @@ use Rattle.rules.specs.Refusal.{isSetUp}
 use Rattle.rules.specs.Run.{Wrote, runFile, wroteInto}
 use Rattle.rules.specs.Tables.{Board, Lent, lineOf, noEntry, numberOf, regionAt, threadAt, threadOf}
 use Rattle.rules.specs.declared.Entry.{Entry}
+use Rattle.rules.specs.declared.Listed.{Listed}
 use Rattle.rules.specs.declared.Region.{Region}
-
--- an entry of the dependence list: "state 1: 0 in progress, 1 done"; four keys, "rising by thread then number, empty ones last as zeros"
-pub record Listed : Type 0 where
-  pub key : ℕ
-  pub state : ℕ
-  pub deps : List ℕ
 
 -- a persistent log entry
 pub record Logged : Type 0 where

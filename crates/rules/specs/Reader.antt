@@ -6,10 +6,11 @@ use lib.Dec.{eqb, leb, ltb}
 use lib.ListN.{drop, getD, length, take}
 use Rattle.rules.specs.Bytes.{lineAt, numOf}
 use Rattle.rules.specs.Contradiction.{contradicts}
-use Rattle.rules.specs.Image.{Listed, Logged, Persistent}
+use Rattle.rules.specs.Image.{Logged, Persistent}
 use Rattle.rules.specs.Lists.{all, count}
 use Rattle.rules.specs.Refusal.{inRange}
 use Rattle.rules.specs.Tables.{keyOf, threadOf}
+use Rattle.rules.specs.declared.Listed.{Listed}
 
 -- what a record does: it stops the reading with a refusal, it is added to what was read, or it is the end
 pub data Turn : Type 0 where

@@ -4,8 +4,9 @@ use mathlib.Core.Bool.{Bool, false, not, true}
 use mathlib.Core.List.{List, [], _++_, _∷_, reverse}
 use lib.Dec.{eqb, ltb}
 use lib.ListN.{drop, getD, length, take}
-use Rattle.rules.specs.Image.{Listed, Logged, Persistent}
+use Rattle.rules.specs.Image.{Logged, Persistent}
 use Rattle.rules.specs.Lists.{place}
+use Rattle.rules.specs.declared.Listed.{Listed}
 use Rattle.undo.specs.Table.{any, keep}
 
 -- some region of the list depends on region k

@@ -92,3 +92,10 @@ pub enum Found {
     At(usize),
     Full,
 }
+
+// An entry of the dependence list in an image: state 0 in progress, 1 done; four keys in rising order, empty ones last as 0.
+pub struct Listed {
+    pub key: u32,
+    pub state: u8,
+    pub deps: [u32; 4],
+}

@@ -1,0 +1,279 @@
+/* Demand 3 tried on the plain engine: seeded event lists, a cut after any event, recovery steps with cuts between.
+   What must be found is worked out of the list of accepted events and the set of committed regions. */
+#include <stdio.h>
+#include <stdlib.h>
+#include <string.h>
+
+#include "common.h"
+#include "random.h"
+
+static uint64_t seed, cuts_tried, steps_tried, regions_committed;
+
+static void require(int holds, const char *what) {
+    if (holds) return;
+    printf("FAILED demand 3, seed %llu: %s\n", (unsigned long long)seed, what);
+    exit(1);
+}
+
+/* ---- The history: accepted events and what they say ---- */
+
+enum { MOST_EVENTS = 256 };
+
+typedef struct { plain_region region; int ended, committed; } history_region;
+typedef struct { int region; uint8_t line, word; uint64_t value; } history_write;
+typedef struct { int region, on; } history_dependence;
+
+static struct {
+    int regions, writes, dependences;
+    int depth[PLAIN_THREADS];
+    int newest[PLAIN_THREADS];     /* each thread's newest region, -1 before the first */
+    int last_writer[PLAIN_LINES];  /* -1 before the first write */
+    history_region region[MOST_EVENTS];
+    history_write write[MOST_EVENTS];
+    history_dependence dependence[2 * MOST_EVENTS];
+} history;
+
+static void history_clear(void) {
+    memset(&history, 0, sizeof history);
+    for (int t = 0; t < PLAIN_THREADS; t++) history.newest[t] = -1;
+    for (int l = 0; l < PLAIN_LINES; l++) history.last_writer[l] = -1;
+}
+
+static void note_dependence(int region, int on) {
+    if (on >= 0 && on != region) history.dependence[history.dependences++] = (history_dependence){region, on};
+}
+
+static void note_begin(uint8_t thread) {
+    if (history.depth[thread]++ > 0) return;
+    int predecessor = history.newest[thread], region = history.regions++;
+    uint16_t number = predecessor < 0 ? 1 : (uint16_t)(history.region[predecessor].region.number + 1);
+    history.region[region] = (history_region){{thread, number}, 0, 0};
+    history.newest[thread] = region;
+    note_dependence(region, predecessor);
+}
+
+static void note_access(const uint8_t *record) {
+    int region = history.newest[record[1]];
+    note_dependence(region, history.last_writer[record[2]]);
+    if (record[0] == EVENT_READ) return;
+    history.write[history.writes++] = (history_write){region, record[2], record[3], get64(record + 4)};
+    history.last_writer[record[2]] = region;
+}
+
+static void note_event(const uint8_t *record) {
+    switch (record[0]) {
+    case EVENT_BEGIN: note_begin(record[1]); break;
+    case EVENT_END:
+        if (--history.depth[record[1]] == 0) history.region[history.newest[record[1]]].ended = 1;
+        break;
+    case EVENT_READ: case EVENT_WRITE: note_access(record); break;
+    }
+}
+
+static int is_listed(const plain_engine *e, plain_region r) {
+    for (uint32_t i = 0; i < e->listed_len; i++)
+        if (same(e->listed[i].region, r)) return 1;
+    return 0;
+}
+
+/* Regions that left the dependence list have committed; the event's value must count them. */
+static void note_commits(const plain_engine *e, const uint8_t *record, plain_answer answer) {
+    uint64_t commits = 0;
+    for (int i = 0; i < history.regions; i++) {
+        history_region *r = &history.region[i];
+        if (r->committed || is_listed(e, r->region)) continue;
+        require(r->ended, "an open region committed");
+        r->committed = 1;
+        commits++;
+    }
+    for (int i = 0; i < history.dependences; i++) {
+        const history_dependence *d = &history.dependence[i];
+        require(!history.region[d->region].committed || history.region[d->on].committed, "committed before a dependence");
+    }
+    regions_committed += commits;
+    if (record[0] != EVENT_SETUP && record[0] != EVENT_READ && record[0] != EVENT_FENCE)
+        require(answer.value == commits, "value is not the number of commits");
+    else require(commits == 0, "a commit in a step that has none");
+}
+
+/* ---- The tables after each event, rule by rule ---- */
+
+static void check_slots(const plain_engine *e, plain_region r, const plain_modified *m, int flights[PLAIN_LINES]) {
+    int held = 0;
+    for (int i = 0; i < PLAIN_SLOTS; i++) {
+        const plain_slot *s = &m->slot[i];
+        if (s->state == SLOT_EMPTY) continue;
+        held++;
+        for (int j = 0; j < i; j++)
+            require(m->slot[j].state == SLOT_EMPTY || m->slot[j].line != s->line, "two slots name one line");
+        if (s->state == SLOT_IN_FLIGHT) {
+            flights[s->line]++;
+            require(same(e->flight[s->line], r), "the line's flight is another's");
+        } else {
+            require(e->locked[s->line] || (s->count < PLAIN_COUNT && !m->ended), "a waiting slot that may fly");
+        }
+    }
+    require(held > 0 || !m->ended, "an ended region without slots is not done");
+}
+
+static void check_lines(const plain_engine *e, const int flights[PLAIN_LINES]) {
+    int in_flight[PLAIN_LINES] = {0};
+    for (uint8_t t = 0; t < e->threads; t++)
+        for (uint32_t i = 0; i < e->log_len[t]; i++)
+            if (!e->log[t][i].persistent) {
+                in_flight[e->log[t][i].line]++;
+                require(same(e->owner[e->log[t][i].line], (plain_region){t, e->log[t][i].number}), "log in flight, another owner");
+            }
+    for (int l = 0; l < e->lines; l++) {
+        require(in_flight[l] == e->locked[l], "lock and log entry in flight differ");
+        require(flights[l] == (e->flight[l].number != 0), "flights of a line");
+    }
+}
+
+static void check_tables(const plain_engine *e) {
+    int flights[PLAIN_LINES] = {0};
+    for (uint8_t t = 0; t < e->threads; t++)
+        for (int i = 0; i < PLAIN_MODIFIED; i++)
+            if (e->modified[t][i].number != 0)
+                check_slots(e, (plain_region){t, e->modified[t][i].number}, &e->modified[t][i], flights);
+    for (uint32_t i = 0; i < e->listed_len; i++)
+        require(!e->listed[i].done || e->listed[i].held > 0, "a region that may commit");
+    check_lines(e, flights);
+}
+
+/* ---- A cut here, and recovery ---- */
+
+static uint8_t start_memory[PLAIN_LINES * PLAIN_LINE_BYTES];
+
+/* The starting memory with the writes of the committed regions, in event order. */
+static void expected_memory(uint8_t *memory, size_t length) {
+    memcpy(memory, start_memory, length);
+    for (int i = 0; i < history.writes; i++) {
+        const history_write *w = &history.write[i];
+        if (history.region[w->region].committed) put64(memory + PLAIN_LINE_BYTES * w->line + 8 * w->word, w->value);
+    }
+}
+
+static uint64_t count_logs(const uint8_t *image, size_t length) {
+    plain_contents contents;
+    require(plain_read_image(image, length, &contents) == 0, "a saved image is refused");
+    return contents.logs;
+}
+
+/* Steps with cuts between, then from the last cut on until 'finished', which must come in time and not before. */
+static void recover(random_source *source, uint8_t *image, size_t length) {
+    uint8_t place[8] = {0};
+    uint64_t logs = count_logs(image, length), due = logs > 0 ? logs : 1;
+    for (uint64_t cuts = random_below(source, 4); cuts > 0; cuts--) {
+        for (uint64_t steps = random_below(source, due + 2); steps > 0; steps--)
+            require(plain_recovery_step(image, length, place, sizeof place).refusal == 0, "a step is refused");
+        memset(place, 0, sizeof place);
+    }
+    for (uint64_t i = 1; i <= due; i++, steps_tried++) {
+        plain_answer a = plain_recovery_step(image, length, place, sizeof place);
+        require(a.refusal == 0 && a.value == (i < due), "'finished' too late or too early");
+    }
+    require(get64(place) == logs, "place at 'finished'");
+}
+
+/* Cuts a copy of the engine, saves, recovers, and compares the memory found. */
+static void try_cut(random_source *source, const plain_engine *engine) {
+    static plain_engine e;
+    static uint8_t image[PLAIN_IMAGE_BYTES], saved[PLAIN_IMAGE_BYTES], memory[sizeof start_memory];
+    int uncommitted = 0;
+    for (int i = 0; i < history.regions; i++) uncommitted += !history.region[i].committed;
+    e = *engine;
+    plain_answer cut = plain_event(&e, (uint8_t[]){EVENT_CUT}, 1), save = plain_save(&e, image, sizeof image);
+    require(cut.refusal == 0 && cut.value == (uint64_t)uncommitted, "value of the cut");
+    require(save.refusal == 0, "the image is not saved");
+    memcpy(saved, image, save.value);
+    recover(source, image, save.value);
+    expected_memory(memory, PLAIN_LINE_BYTES * (size_t)e.lines);
+    for (size_t l = 0; l < e.lines; l++)
+        require(memcmp(image + 4 + 65 * l + 1, memory + PLAIN_LINE_BYTES * l, PLAIN_LINE_BYTES) == 0, "the memory found");
+    size_t behind = 4 + 65 * (size_t)e.lines;
+    require(memcmp(image + behind, saved + behind, save.value - behind) == 0, "a step changed more than a line");
+    cuts_tried++;
+}
+
+/* ---- Lists ---- */
+
+/* One event; a refused one must leave the engine as it was. */
+static void try_event(plain_engine *e, const uint8_t *record, size_t length) {
+    static plain_engine entry;
+    uint8_t refusal = plain_refusal(e, record, length);
+    if (refusal != 0) entry = *e;
+    plain_answer answer = plain_event(e, record, length);
+    require(answer.refusal == refusal, "refusal foretold");
+    if (refusal != 0) {
+        require(answer.value == 0 && memcmp(&entry, e, sizeof entry) == 0, "a refused event changed something");
+        return;
+    }
+    note_event(record);
+    note_commits(e, record, answer);
+    check_tables(e);
+}
+
+/* A record that follows the engine, or one with any fields near the board's; now and then cut short or unknown. */
+static size_t next_record(random_events *events, const plain_engine *e, int wild, uint8_t record[PLAIN_RECORD_BYTES]) {
+    random_source *source = &events->source;
+    size_t length = random_record(events, e, record);
+    if (wild) {
+        record[0] = (uint8_t)random_below(source, 8);
+        record[1] = (uint8_t)random_below(source, e->threads + 1u);
+        if (record[0] == EVENT_LOG_ACK || record[0] == EVENT_DATA_ACK)
+            record[1] = (uint8_t)random_below(source, e->lines + 1u);
+        record[2] = (uint8_t)random_below(source, e->lines + 1u);
+        length = PLAIN_RECORD_BYTES;
+    }
+    if (random_chance(source, 60)) record[0] = (uint8_t)(9 + random_below(source, 247));
+    if (random_chance(source, 60)) length = random_below(source, length);
+    return length;
+}
+
+/* The recorded file must give the same image as the events one by one. */
+static void compare_file(plain_engine *e, uint8_t *file, size_t length, size_t lent) {
+    static uint8_t one[PLAIN_IMAGE_BYTES], other[PLAIN_IMAGE_BYTES];
+    file[length++] = EVENT_CUT;
+    plain_event(e, (uint8_t[]){EVENT_CUT}, 1);
+    plain_answer a = plain_save(e, one, sizeof one);
+    plain_answer b = plain_image(file, length, start_memory, lent, other, sizeof other);
+    require(a.refusal == 0 && b.refusal == 0 && a.value == b.value && memcmp(one, other, a.value) == 0, "file and events differ");
+}
+
+static void try_list(void) {
+    static plain_engine e;
+    static uint8_t file[(MOST_EVENTS + 2) * PLAIN_RECORD_BYTES];
+    random_events events;
+    random_start(&events, seed, (random_mode)(seed % 3));
+    random_source *source = &events.source;
+    uint8_t threads = (uint8_t)(1 + random_below(source, seed % 16 == 0 ? 8 : 3));
+    uint16_t lines = (uint16_t)(1 + random_below(source, seed % 8 == 0 ? 40 : 4));
+    uint64_t count = 4 + random_below(source, MOST_EVENTS - 4);
+    size_t lent = PLAIN_LINE_BYTES * (size_t)lines, length = 4;
+    int wild = random_chance(source, 4);
+    for (size_t i = 0; i < lent; i++) start_memory[i] = (uint8_t)random_next(source);
+    memcpy(file, (uint8_t[]){EVENT_SETUP, threads, (uint8_t)lines, 0}, 4);
+    history_clear();
+    plain_init_lent(&e, start_memory, lent);
+    try_event(&e, file, 4);
+    for (uint64_t i = 0; i < count; i++) {
+        uint8_t record[PLAIN_RECORD_BYTES];
+        size_t next = next_record(&events, &e, wild, record), whole = plain_record_length(record, next);
+        if (whole > 0 && record[0] == EVENT_CUT) continue;
+        try_event(&e, record, next);
+        memcpy(file + length, record, whole);
+        length += whole;
+        if (random_chance(source, 6)) try_cut(source, &e);
+    }
+    try_cut(source, &e);
+    compare_file(&e, file, length, lent);
+}
+
+int main(int argc, char **argv) {
+    uint64_t lists = argc > 1 ? strtoull(argv[1], NULL, 10) : 2000;
+    for (seed = 1; seed <= lists; seed++) try_list();
+    printf("demand 3: %llu lists, %llu cuts, %llu last-run recovery steps, %llu commits, 0 failed\n", (unsigned long long)lists,
+           (unsigned long long)cuts_tried, (unsigned long long)steps_tried, (unsigned long long)regions_committed);
+    return 0;
+}

@@ -1,0 +1,405 @@
+/* The engine: event records, refusals, steps, and the calls that run a file. */
+#include "plain.h"
+
+#include <string.h>
+
+#include "common.h"
+
+static const size_t record_length[] = {4, 2, 2, 4, 12, 2, 2, 2, 1};
+
+typedef struct { uint8_t kind, thread, line, word; uint64_t value; } event;
+
+/* ---- Regions and lists ---- */
+
+/* The thread's newest region: the current one while the thread's depth is above 0. */
+static plain_region newest(const plain_engine *e, uint8_t thread) {
+    return (plain_region){thread, e->last[thread]};
+}
+
+static int is_open(const plain_engine *e, plain_region r) {
+    return r.number != 0 && e->depth[r.thread] > 0 && e->last[r.thread] == r.number;
+}
+
+/* Index of the region in the dependence list, or -1: a region is uncommitted while it is listed. */
+static int find_listed(const plain_engine *e, plain_region r) {
+    for (uint32_t i = 0; i < e->listed_len; i++)
+        if (same(e->listed[i].region, r)) return (int)i;
+    return -1;
+}
+
+static int find_modified(const plain_engine *e, uint8_t thread, uint16_t number) {
+    for (int i = 0; i < PLAIN_MODIFIED; i++)
+        if (e->modified[thread][i].number == number) return i;
+    return -1;
+}
+
+static int holds(const plain_listed *entry, plain_region r) {
+    for (uint32_t i = 0; i < entry->held; i++)
+        if (same(entry->dependence[i], r)) return 1;
+    return 0;
+}
+
+/* Adds a dependence that is not held yet, in rising order. */
+static void add_dependence(plain_listed *entry, plain_region r) {
+    uint32_t i = entry->held++;
+    for (; i > 0 && before(r, entry->dependence[i - 1]); i--) entry->dependence[i] = entry->dependence[i - 1];
+    entry->dependence[i] = r;
+}
+
+static void drop_dependence(plain_listed *entry, plain_region r) {
+    uint32_t kept = 0;
+    for (uint32_t i = 0; i < entry->held; i++)
+        if (!same(entry->dependence[i], r)) entry->dependence[kept++] = entry->dependence[i];
+    entry->held = kept;
+}
+
+/* Index of the slot that names the line, or -1. */
+static int find_slot(const plain_modified *m, uint8_t line) {
+    for (int i = 0; i < PLAIN_SLOTS; i++)
+        if (m->slot[i].state != SLOT_EMPTY && m->slot[i].line == line) return i;
+    return -1;
+}
+
+static int free_slot(const plain_modified *m) {
+    for (int i = 0; i < PLAIN_SLOTS; i++)
+        if (m->slot[i].state == SLOT_EMPTY) return i;
+    return -1;
+}
+
+/* A region's entry in the modified list; the region is there. */
+static plain_modified *modified_of(plain_engine *e, plain_region r) {
+    return &e->modified[r.thread][find_modified(e, r.thread, r.number)];
+}
+
+/* ---- Refusals ---- */
+
+static uint8_t setup_refusal(const plain_engine *e, uint64_t threads, uint64_t lines) {
+    if (threads < 1 || threads > PLAIN_THREADS || lines < 1 || lines > PLAIN_LINES) return 6;
+    if (e->is_lent && e->lent_len != PLAIN_LINE_BYTES * lines) return 6;
+    return e->threads != 0 ? 6 : 0;
+}
+
+/* Takes a whole record of a kind from 1 to 8 apart. */
+static event decode(const uint8_t *record) {
+    event ev = {record[0], 0, 0, 0, 0};
+    switch (ev.kind) {
+    case EVENT_LOG_ACK: case EVENT_DATA_ACK:
+        ev.line = record[1];
+        break;
+    case EVENT_READ: case EVENT_WRITE:
+        ev.line = record[2];
+        ev.word = record[3];
+        if (ev.kind == EVENT_WRITE) ev.value = get64(record + 4);
+        ev.thread = record[1];
+        break;
+    case EVENT_BEGIN: case EVENT_END: case EVENT_FENCE:
+        ev.thread = record[1];
+    }
+    return ev;
+}
+
+/* Refusals because of the input, for a kind from 1 to 8; a field that the kind lacks is 0 and never refused. */
+static uint8_t input_refusal(const plain_engine *e, const event *ev) {
+    if (e->threads == 0) return 6;
+    if (ev->thread >= e->threads) return 3;
+    if (ev->line >= e->lines) return 4;
+    return ev->word >= PLAIN_WORDS ? 5 : 0;
+}
+
+static uint8_t begin_refusal(const plain_engine *e, uint8_t thread) {
+    if (e->depth[thread] == PLAIN_DEPTH) return 13;
+    if (e->depth[thread] > 0) return 0;
+    if (e->last[thread] == PLAIN_NUMBERS) return 14;
+    if (find_modified(e, thread, 0) < 0) return 15;
+    return e->listed_len == PLAIN_LISTED ? 16 : 0;
+}
+
+/* Refusals of a read or a write. */
+static uint8_t access_refusal(const plain_engine *e, const event *ev) {
+    if (e->depth[ev->thread] == 0) return 12;
+    plain_region region = newest(e, ev->thread), owner = e->owner[ev->line];
+    int needs_log = ev->kind == EVENT_WRITE && !same(owner, region);
+    if (owner.thread != region.thread && is_open(e, owner)) return 17;
+    if (needs_log && e->locked[ev->line]) return 18;
+    if (!same(owner, region) && find_listed(e, owner) >= 0) {
+        const plain_listed *entry = &e->listed[find_listed(e, region)];
+        if (!holds(entry, owner) && entry->held == PLAIN_HELD) return 19;
+    }
+    if (ev->kind == EVENT_READ) return 0;
+    const plain_modified *m = &e->modified[ev->thread][find_modified(e, ev->thread, region.number)];
+    if (find_slot(m, ev->line) < 0 && free_slot(m) < 0) return 20;
+    return needs_log && e->log_len[ev->thread] == PLAIN_LOG ? 21 : 0;
+}
+
+static uint8_t state_refusal(const plain_engine *e, const event *ev) {
+    if (e->cut) return 11;
+    switch (ev->kind) {
+    case EVENT_BEGIN: return begin_refusal(e, ev->thread);
+    case EVENT_END: return e->depth[ev->thread] == 0 ? 12 : 0;
+    case EVENT_READ: case EVENT_WRITE: return access_refusal(e, ev);
+    case EVENT_LOG_ACK: return e->locked[ev->line] ? 0 : 22;
+    case EVENT_DATA_ACK: return e->flight[ev->line].number != 0 ? 0 : 22;
+    case EVENT_FENCE: return e->depth[ev->thread] > 0 ? 23 : 0;
+    }
+    return 0;
+}
+
+/* ---- Steps ---- */
+
+/* Lets every slot of the region fly that may. */
+static void fly(plain_engine *e, plain_region r) {
+    plain_modified *m = modified_of(e, r);
+    for (int i = 0; i < PLAIN_SLOTS; i++) {
+        plain_slot *s = &m->slot[i];
+        if (s->state != SLOT_WAITING || e->locked[s->line]) continue;
+        if (s->count < PLAIN_COUNT && !m->ended) continue;
+        s->state = SLOT_IN_FLIGHT;
+        e->flight[s->line] = r;
+        e->carried[s->line] = e->current[s->line];
+    }
+}
+
+/* Ends the line's flight and empties its slot; gives the slot's region. */
+static plain_region land(plain_engine *e, uint8_t line) {
+    plain_region r = e->flight[line];
+    plain_modified *m = modified_of(e, r);
+    m->slot[find_slot(m, line)].state = SLOT_EMPTY;
+    e->flight[line].number = 0;
+    return r;
+}
+
+/* Commits one listed region: frees its log entries, its list entry and the dependences on it. */
+static void commit(plain_engine *e, uint32_t index) {
+    plain_region r = e->listed[index].region;
+    uint32_t kept = 0;
+    for (uint32_t i = 0; i < e->log_len[r.thread]; i++)
+        if (e->log[r.thread][i].number != r.number) e->log[r.thread][kept++] = e->log[r.thread][i];
+    e->log_len[r.thread] = kept;
+    e->listed[index] = e->listed[--e->listed_len];
+    for (uint32_t i = 0; i < e->listed_len; i++) drop_dependence(&e->listed[i], r);
+}
+
+/* Commits while a done region without dependences exists, the earliest ended first. */
+static uint64_t commit_all(plain_engine *e) {
+    for (uint64_t commits = 0;; commits++) {
+        int first = -1;
+        for (uint32_t i = 0; i < e->listed_len; i++) {
+            if (!e->listed[i].done || e->listed[i].held > 0) continue;
+            if (first < 0 || e->listed[i].end_stamp < e->listed[first].end_stamp) first = (int)i;
+        }
+        if (first < 0) return commits;
+        commit(e, (uint32_t)first);
+    }
+}
+
+/* After a slot of the region was emptied or the region ended: done if it may be, then the commits. */
+static uint64_t settle(plain_engine *e, plain_region r) {
+    plain_modified *m = modified_of(e, r);
+    if (!m->ended) return 0;
+    for (int i = 0; i < PLAIN_SLOTS; i++)
+        if (m->slot[i].state != SLOT_EMPTY) return 0;
+    m->number = 0;
+    e->listed[find_listed(e, r)].done = 1;
+    return commit_all(e);
+}
+
+static uint64_t apply_begin(plain_engine *e, uint8_t thread) {
+    if (e->depth[thread]++ > 0) return 0;
+    plain_region predecessor = newest(e, thread);
+    int uncommitted = find_listed(e, predecessor) >= 0;
+    plain_modified *m = &e->modified[thread][find_modified(e, thread, 0)];
+    plain_listed *entry = &e->listed[e->listed_len++];
+    memset(m, 0, sizeof *m);
+    memset(entry, 0, sizeof *entry);
+    m->number = ++e->last[thread];
+    entry->region = newest(e, thread);
+    if (uncommitted) add_dependence(entry, predecessor);
+    return 0;
+}
+
+static uint64_t apply_end(plain_engine *e, uint8_t thread) {
+    if (--e->depth[thread] > 0) return 0;
+    plain_region r = newest(e, thread);
+    modified_of(e, r)->ended = 1;
+    e->listed[find_listed(e, r)].end_stamp = e->ends++;
+    fly(e, r);
+    return settle(e, r);
+}
+
+/* The line's owner joins the dependences of the region that reads or writes it. */
+static void join_owner(plain_engine *e, plain_region r, plain_region owner) {
+    if (same(owner, r) || find_listed(e, owner) < 0) return;
+    plain_listed *entry = &e->listed[find_listed(e, r)];
+    if (!holds(entry, owner)) add_dependence(entry, owner);
+}
+
+static uint64_t apply_read(plain_engine *e, const event *ev) {
+    join_owner(e, newest(e, ev->thread), e->owner[ev->line]);
+    return e->current[ev->line].word[ev->word];
+}
+
+/* The written line's slot waits with count 0, a flight of it is taken back;
+   the region's other waiting slots count one more. */
+static void count_write(plain_engine *e, plain_region r, uint8_t line) {
+    plain_modified *m = modified_of(e, r);
+    int own = find_slot(m, line);
+    if (own < 0) own = free_slot(m);
+    else if (m->slot[own].state == SLOT_IN_FLIGHT) e->flight[line].number = 0;
+    for (int i = 0; i < PLAIN_SLOTS; i++)
+        if (i != own && m->slot[i].state == SLOT_WAITING && m->slot[i].count < PLAIN_COUNT) m->slot[i].count++;
+    m->slot[own] = (plain_slot){line, SLOT_WAITING, 0};
+}
+
+static uint64_t apply_write(plain_engine *e, const event *ev) {
+    plain_region r = newest(e, ev->thread);
+    plain_line *line = &e->current[ev->line];
+    join_owner(e, r, e->owner[ev->line]);
+    if (!same(e->owner[ev->line], r)) {
+        e->log[ev->thread][e->log_len[ev->thread]++] = (plain_log){r.number, ev->line, 0, *line};
+        e->owner[ev->line] = r;
+        e->locked[ev->line] = 1;
+    }
+    line->word[ev->word] = ev->value;
+    count_write(e, r, ev->line);
+    fly(e, r);
+    return 0;
+}
+
+/* A locked line's log entry in flight is its owner's; a flight on the line is an earlier region's. */
+static uint64_t apply_log_ack(plain_engine *e, uint8_t line) {
+    plain_region owner = e->owner[line], earlier = {0, 0};
+    e->locked[line] = 0;
+    for (uint32_t i = 0; i < e->log_len[owner.thread]; i++) {
+        plain_log *entry = &e->log[owner.thread][i];
+        if (entry->number == owner.number && entry->line == line) entry->persistent = 1;
+    }
+    if (e->flight[line].number != 0) earlier = land(e, line);
+    fly(e, owner);
+    return earlier.number != 0 ? settle(e, earlier) : 0;
+}
+
+static uint64_t apply_data_ack(plain_engine *e, uint8_t line) {
+    e->medium[line] = e->carried[line];
+    return settle(e, land(e, line));
+}
+
+static uint64_t apply_fence(const plain_engine *e, uint8_t thread) {
+    for (uint32_t i = 0; i < e->listed_len; i++)
+        if (e->listed[i].region.thread == thread) return 0;
+    return 1;
+}
+
+static uint64_t apply(plain_engine *e, const event *ev) {
+    switch (ev->kind) {
+    case EVENT_BEGIN: return apply_begin(e, ev->thread);
+    case EVENT_END: return apply_end(e, ev->thread);
+    case EVENT_READ: return apply_read(e, ev);
+    case EVENT_WRITE: return apply_write(e, ev);
+    case EVENT_LOG_ACK: return apply_log_ack(e, ev->line);
+    case EVENT_DATA_ACK: return apply_data_ack(e, ev->line);
+    case EVENT_FENCE: return apply_fence(e, ev->thread);
+    }
+    e->cut = 1;
+    return e->listed_len;
+}
+
+static void apply_setup(plain_engine *e, uint8_t threads, uint16_t lines) {
+    e->threads = threads;
+    e->lines = lines;
+    for (size_t l = 0; e->is_lent && l < lines; l++) e->current[l] = get_line(e->lent + PLAIN_LINE_BYTES * l);
+    memcpy(e->medium, e->current, sizeof e->medium);
+}
+
+/* ---- Events one by one ---- */
+
+void plain_init(plain_engine *e) { memset(e, 0, sizeof *e); }
+
+void plain_init_lent(plain_engine *e, const uint8_t *memory, size_t memory_len) {
+    plain_init(e);
+    e->is_lent = 1;
+    e->lent = memory;
+    e->lent_len = memory_len;
+}
+
+size_t plain_record_length(const uint8_t *bytes, size_t len) {
+    if (len == 0 || bytes[0] > EVENT_CUT || len < record_length[bytes[0]]) return 0;
+    return record_length[bytes[0]];
+}
+
+/* The refusals 1 and 2, which end a file. */
+static uint8_t record_refusal(const uint8_t *record, size_t len) {
+    if (len > 0 && record[0] > EVENT_CUT) return 2;
+    return plain_record_length(record, len) == 0 ? 1 : 0;
+}
+
+uint8_t plain_refusal(const plain_engine *e, const uint8_t *record, size_t len) {
+    uint8_t refusal = record_refusal(record, len);
+    if (refusal != 0) return refusal;
+    if (record[0] == EVENT_SETUP) return setup_refusal(e, record[1], get16(record + 2));
+    event ev = decode(record);
+    refusal = input_refusal(e, &ev);
+    return refusal != 0 ? refusal : state_refusal(e, &ev);
+}
+
+plain_answer plain_event(plain_engine *e, const uint8_t *record, size_t len) {
+    uint8_t refusal = plain_refusal(e, record, len);
+    if (refusal != 0) return (plain_answer){refusal, 0};
+    if (record[0] == EVENT_SETUP) {
+        apply_setup(e, record[1], get16(record + 2));
+        return (plain_answer){0, 0};
+    }
+    event ev = decode(record);
+    return (plain_answer){0, apply(e, &ev)};
+}
+
+/* ---- Calls over a file ---- */
+
+plain_answer plain_start(uint64_t threads, uint64_t lines, const uint8_t *memory, size_t memory_len) {
+    plain_engine e;
+    plain_init_lent(&e, memory, memory_len);
+    return (plain_answer){setup_refusal(&e, threads, lines), 0};
+}
+
+/* Runs a file; writes the answers if they are asked for. */
+static void run_file(plain_engine *e, const uint8_t *file, size_t file_len, uint8_t *answers) {
+    for (size_t at = 0; at < file_len;) {
+        size_t length = plain_record_length(file + at, file_len - at);
+        plain_answer answer = plain_event(e, file + at, file_len - at);
+        if (answers != NULL) {
+            answers[0] = answer.refusal;
+            put64(answers + 1, answer.value);
+            answers += PLAIN_ANSWER_BYTES;
+        }
+        if (length == 0) return;
+        at += length;
+    }
+}
+
+/* The number of answers hangs on the records alone. */
+static uint64_t count_answers(const uint8_t *file, size_t file_len) {
+    uint64_t answers = 0;
+    for (size_t at = 0; at < file_len; answers++) {
+        size_t length = plain_record_length(file + at, file_len - at);
+        if (length == 0) return answers + 1;
+        at += length;
+    }
+    return answers;
+}
+
+plain_answer plain_events(const uint8_t *file, size_t file_len, const uint8_t *memory, size_t memory_len,
+                          uint8_t *answers, size_t answers_len) {
+    plain_engine e;
+    uint64_t count = count_answers(file, file_len);
+    if (answers_len / PLAIN_ANSWER_BYTES < count) return (plain_answer){6, 0};
+    plain_init_lent(&e, memory, memory_len);
+    run_file(&e, file, file_len, answers);
+    return (plain_answer){0, count};
+}
+
+plain_answer plain_image(const uint8_t *file, size_t file_len, const uint8_t *memory, size_t memory_len,
+                         uint8_t *image, size_t image_len) {
+    plain_engine e;
+    plain_init_lent(&e, memory, memory_len);
+    run_file(&e, file, file_len, NULL);
+    return plain_save(&e, image, image_len);
+}

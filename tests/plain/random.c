@@ -1,0 +1,138 @@
+/* Seeded event records and files. */
+#include "random.h"
+
+#include <string.h>
+
+#include "common.h"
+
+uint64_t random_next(random_source *source) {
+    uint64_t x = source->state += UINT64_C(0x9e3779b97f4a7c15);
+    x = (x ^ x >> 30) * UINT64_C(0xbf58476d1ce4e5b9);
+    x = (x ^ x >> 27) * UINT64_C(0x94d049bb133111eb);
+    return x ^ x >> 31;
+}
+
+uint64_t random_below(random_source *source, uint64_t bound) { return random_next(source) % bound; }
+
+int random_chance(random_source *source, uint64_t one_in) { return random_below(source, one_in) == 0; }
+
+void random_start(random_events *events, uint64_t seed, random_mode mode) {
+    memset(events, 0, sizeof *events);
+    events->source.state = seed;
+    events->mode = mode;
+    events->phase = PHASE_DRAINING;
+}
+
+/* Weights of the kinds 1 to 7. */
+static const uint8_t mixed_weight[] = {6, 9, 6, 20, 16, 14, 1};
+static const uint8_t filling_weight[] = {20, 24, 14, 36, 30, 2, 1};
+static const uint8_t draining_weight[] = {4, 8, 3, 8, 16, 12, 1};
+static const uint8_t nesting_weight[] = {24, 1, 10, 40, 40, 40, 1};
+
+static uint8_t random_kind(random_events *events) {
+    static const uint8_t *const phase_weight[] = {filling_weight, draining_weight, nesting_weight};
+    const uint8_t *weight = events->mode == RANDOM_DEEP ? phase_weight[events->phase] : mixed_weight;
+    uint64_t sum = 0;
+    for (int i = 0; i < 7; i++) sum += weight[i];
+    uint64_t pick = random_below(&events->source, sum);
+    uint8_t kind = EVENT_BEGIN;
+    for (; pick >= weight[kind - 1]; kind++) pick -= weight[kind - 1];
+    return kind;
+}
+
+static uint8_t random_line(random_source *source, const plain_engine *e) {
+    uint64_t bound = random_chance(source, 2) && e->lines > 16 ? 16 : e->lines; /* half of them on shared lines */
+    return (uint8_t)random_below(source, bound);
+}
+
+/* A line that waits for the acknowledgement, searched from a random one on. */
+static uint8_t random_awaiting(random_source *source, const plain_engine *e, uint8_t kind) {
+    uint64_t from = random_below(source, e->lines);
+    for (uint64_t i = 0; i < e->lines; i++) {
+        uint64_t line = (from + i) % e->lines;
+        if (kind == EVENT_LOG_ACK ? e->locked[line] : e->flight[line].number != 0) return (uint8_t)line;
+    }
+    return (uint8_t)from;
+}
+
+/* A thread for the kind: a begin mostly goes to a thread without an open region. */
+static uint8_t random_thread(random_source *source, const plain_engine *e, uint8_t kind) {
+    uint64_t from = random_below(source, e->threads);
+    if (kind != EVENT_BEGIN || random_chance(source, 4)) return (uint8_t)from;
+    for (uint64_t i = 0; i < e->threads; i++)
+        if (e->depth[(from + i) % e->threads] == 0) return (uint8_t)((from + i) % e->threads);
+    return (uint8_t)from;
+}
+
+/* A record of the kind, its fields in range. */
+static void fill_record(random_source *source, const plain_engine *e, uint8_t kind, uint8_t *record) {
+    record[0] = kind;
+    record[1] = random_thread(source, e, kind);
+    record[2] = random_line(source, e);
+    record[3] = (uint8_t)random_below(source, PLAIN_WORDS);
+    put64(record + 4, random_next(source));
+    if (kind == EVENT_LOG_ACK || kind == EVENT_DATA_ACK) record[1] = random_awaiting(source, e, kind);
+    if (kind == EVENT_SETUP) put16(record + 2, (uint16_t)(1 + random_below(source, PLAIN_LINES)));
+}
+
+/* A record of any content: one byte of a good record changed, or a kind that does not fit here. */
+static void damage_record(random_source *source, const plain_engine *e, uint8_t *record) {
+    if (random_chance(source, 4)) {
+        fill_record(source, e, random_chance(source, 8) ? EVENT_SETUP : (uint8_t)random_below(source, 8), record);
+        return;
+    }
+    uint64_t at = 1 + random_below(source, 3);
+    record[at] = random_chance(source, 2) ? (uint8_t)(record[at] + 1) : (uint8_t)random_next(source);
+}
+
+/* Filling and draining take turns; now and then, after a draining, regions stay open and nest. */
+static void move_phase(random_events *events) {
+    static const uint32_t longest[] = {500, 120, 800};
+    if (events->phase_left-- > 0) return;
+    if (events->phase != PHASE_DRAINING) events->phase = PHASE_DRAINING;
+    else events->phase = random_chance(&events->source, 6) ? PHASE_NESTING : PHASE_FILLING;
+    events->phase_left = longest[events->phase] / 4 + (uint32_t)random_below(&events->source, longest[events->phase] * 3 / 4);
+}
+
+size_t random_record(random_events *events, const plain_engine *e, uint8_t record[PLAIN_RECORD_BYTES]) {
+    random_source *source = &events->source;
+    int tries = random_chance(source, 32) ? 1 : 24;
+    move_phase(events);
+    for (; tries > 0; tries--) {
+        fill_record(source, e, random_kind(events), record);
+        if (plain_refusal(e, record, PLAIN_RECORD_BYTES) == 0) break;
+    }
+    if (events->mode == RANDOM_DAMAGED && random_chance(source, 12)) damage_record(source, e, record);
+    return plain_record_length(record, PLAIN_RECORD_BYTES);
+}
+
+/* Flips a few bytes anywhere, and perhaps cuts the file short or puts an unknown kind at its end. */
+static size_t damage_file(random_source *source, uint8_t *file, size_t length) {
+    for (uint64_t flips = random_below(source, 3); flips > 0; flips--)
+        file[random_below(source, length)] ^= (uint8_t)(1 << random_below(source, 8));
+    switch (random_below(source, 4)) {
+    case 0: return random_below(source, length + 1);
+    case 1: file[length] = (uint8_t)(9 + random_below(source, 247)); return length + 1;
+    case 2: file[length] = EVENT_WRITE; memset(file + length + 1, 0, 3); return length + 1 + random_below(source, 4);
+    }
+    return length;
+}
+
+size_t random_file(uint64_t seed, random_mode mode, uint8_t threads, uint16_t lines, uint64_t count, uint8_t *file) {
+    plain_engine e;
+    random_events events;
+    size_t length = 4;
+    random_start(&events, seed, mode);
+    plain_init(&e);
+    file[0] = EVENT_SETUP;
+    file[1] = threads;
+    put16(file + 2, lines);
+    plain_event(&e, file, length);
+    for (uint64_t i = 2; i < count; i++) {
+        size_t next = random_record(&events, &e, file + length);
+        plain_event(&e, file + length, next);
+        length += next;
+    }
+    file[length++] = EVENT_CUT;
+    return mode == RANDOM_DAMAGED ? damage_file(&events.source, file, length) : length;
+}

@@ -1,0 +1,36 @@
+/* Seeded event records and event files that follow an engine, so that most events are accepted. */
+#ifndef PLAIN_RANDOM_H
+#define PLAIN_RANDOM_H
+
+#include "plain.h"
+
+typedef struct { uint64_t state; } random_source;
+
+uint64_t random_next(random_source *source);
+uint64_t random_below(random_source *source, uint64_t bound);
+int random_chance(random_source *source, uint64_t one_in);
+
+/* mixed: events of every kind, tables about half full.
+   deep: phases of filling, draining and nesting, lists near or at their limits.
+   damaged: mixed, with records of any content, bytes flipped, and an end cut short or of unknown kind. */
+typedef enum { RANDOM_MIXED, RANDOM_DEEP, RANDOM_DAMAGED } random_mode;
+
+enum { PHASE_FILLING, PHASE_DRAINING, PHASE_NESTING }; /* of a deep run */
+
+typedef struct {
+    random_source source;
+    random_mode mode;
+    uint8_t phase;
+    uint32_t phase_left; /* events until the next phase */
+} random_events;
+
+void random_start(random_events *events, uint64_t seed, random_mode mode);
+
+/* Proposes the next record (never a cut, except a damaged one); gives its length. The engine stays as it is. */
+size_t random_record(random_events *events, const plain_engine *engine, uint8_t record[PLAIN_RECORD_BYTES]);
+
+/* A whole file: setup, events, a cut last, `count` records in all; gives its length.
+   The buffer must hold `count` times the longest record, and one record more. */
+size_t random_file(uint64_t seed, random_mode mode, uint8_t threads, uint16_t lines, uint64_t count, uint8_t *file);
+
+#endif
