@@ -1,3 +1,12 @@
 pub mod Cases
+pub mod CodecBytes
+pub mod CodecValid
+pub mod CodecTurns
+pub mod CodecBack
+pub mod CodecStore
+pub mod CodecParts
+pub mod CodecSteps
+pub mod CodecOnly
+pub mod CodecImage
 pub mod Views
 pub mod Sim

@@ -3,10 +3,9 @@ use Rattle.undo.specs.Machine as u
 use Prim.Native.Nat.{ℕ}
 use mathlib.Core.Bool.{Bool, _&&_, cond, not}
 use mathlib.Core.List.{List, [], _∷_}
-use lib.Dec.{eqb, leb, ltb}
-use lib.ListN.{getD, length}
+use lib.Dec.{eqb, leb}
+use lib.ListN.{getD}
 use Rattle.rules.specs.History.{openedIn}
-use Rattle.rules.specs.Lists.{all}
 use Rattle.rules.specs.Slots.{names}
 use Rattle.rules.specs.Tables.{Board, lineOf, noEntry, numberOf, regionAt, threadAt, threadOf}
 use Rattle.rules.specs.declared.Entry.{Entry}
@@ -48,7 +47,3 @@ newest (e ∷ c) = e .rid
 -- entry i of thread t
 abbrev pub entryAt : ℕ → ℕ → Tables → Entry
 entryAt t i ts = getD (threadAt t ts .log) i noEntry
-
--- a line: eight words of 64 bits
-abbrev pub isLine : List ℕ → Bool
-isLine l = eqb (length l) 8 && all (λ w. ltb w 18446744073709551616) l

@@ -1,0 +1,126 @@
+-- The lines inside an image: a line that is put back, and the memory found.
+use Prim.Native.Nat.{_*_, _+_, _<_, _^_, suc, zero, ℕ}
+use mathlib.Core.Path.{_∙_, _≡_, ap, refl}
+use mathlib.Core.Bool.{true}
+use mathlib.Core.List.{List, [], _++_, _∷_, append-assoc}
+use lib.ListN.{drop, length, length-set, set, take}
+use native.Mathlib.Omega.{arith}
+use lib.Seq.{drop-append-add, drop-at, drop-drop, take-append-add, take-at}
+use Rattle.rules.proofs.CodecBytes.{all-set, isLine, length-bytes, length-words, num-bytes}
+use Rattle.rules.proofs.CodecTurns.{size-lines}
+use Rattle.rules.proofs.CodecValid.{Valid}
+use Rattle.rules.specs.Bytes.{bytesOf, lineBytes, numOf, paste}
+use Rattle.rules.specs.Contradiction.{contradicts}
+use Rattle.rules.specs.History.{foundFrom, memoryFound}
+use Rattle.rules.specs.Image.{Logged, Persistent, encode, entryRecord, headRecord, lineRecord, regionRecord}
+use Rattle.rules.specs.Lists.{flat}
+use Rattle.rules.specs.Recovery.{putBack}
+use Rattle.rules.specs.Walk.{walk, walkEntries}
+
+abbrev pub withMedium : List (List ℕ) → Persistent → Persistent
+withMedium m p = record { threads = p .threads; lines = p .lines; medium = m; regions = p .regions; log = p .log }
+
+-- bytes behind a front part
+paste-behind : (a d bs : List ℕ) (i : ℕ) → paste (a ++ d) (length a + i) bs ≡ a ++ paste d i bs
+paste-behind a d bs i =
+    let o : length a + i + length bs ≡ length a + (i + length bs) = omega arith in
+    rw (o, take-append-add a d i, drop-append-add a d (i + length bs), append-assoc a (take i d) (bs ++ drop (i + length bs) d))
+
+pub length-line : (l : List ℕ) → length (lineRecord l) ≡ 65
+unfolding lineRecord
+length-line l = ap suc (length-words 8 l)
+
+paste-first : (x v t : List ℕ) → paste (lineRecord x ++ t) 1 (lineBytes v) ≡ lineRecord v ++ t
+unfolding lineRecord
+paste-first x v t = rw (length-words 8 v, drop-at (lineBytes x) t 64 (length-words 8 x))
+
+-- the bytes of line i among the lines
+paste-line : (m : List (List ℕ)) (i : ℕ) (v t : List ℕ) → i < length m
+    → paste (flat lineRecord m ++ t) (65 * i + 1) (lineBytes v) ≡ flat lineRecord (set m i v) ++ t
+unfolding flat
+paste-line [] i v t h = absurd (omega arith)
+paste-line (x ∷ m) zero v t h =
+    rw (append-assoc (lineRecord x) (flat lineRecord m) t, append-assoc (lineRecord v) (flat lineRecord m) t) (paste-first x v (flat lineRecord m ++ t))
+paste-line (x ∷ m) (suc i) v t h =
+    let o : 65 * suc i + 1 ≡ length (lineRecord x) + (65 * i + 1) = omega (arith, length-line x) in
+    rw (
+      append-assoc (lineRecord x) (flat lineRecord m) t,
+      append-assoc (lineRecord x) (flat lineRecord (set m i v)) t,
+      o,
+      paste-behind (lineRecord x) (flat lineRecord m ++ t) (lineBytes v) (65 * i + 1),
+      paste-line m i v t (omega arith),
+    )
+
+length-head : (n l : ℕ) → length (headRecord n l) ≡ 4
+unfolding headRecord
+length-head n l = ap suc (ap suc (length-bytes 2 l))
+
+-- an entry that is put back into an image gives the image of the state in which its line is put back
+pub put-back : (p : Persistent) (e : Logged) → Valid p → e .line < p .lines → putBack e (encode p) ≡ encode (withMedium (set (p .medium) (e .line) (e .old)) p)
+unfolding encode
+put-back p e v h =
+    let t = flat regionRecord (p .regions) ++ (flat entryRecord (p .log) ++ (36 ∷ [])) in
+    let o : 4 + (65 * e .line + 1) ≡ length (headRecord (p .threads) (p .lines)) + (65 * e .line + 1) = omega (arith, length-head (p .threads) (p .lines)) in
+    rw (
+      o,
+      paste-behind (headRecord (p .threads) (p .lines)) (flat lineRecord (p .medium) ++ t) (lineBytes (e .old)) (65 * e .line + 1),
+      paste-line (p .medium) (e .line) (e .old) t (omega arith),
+    )
+
+pub put-valid : (p : Persistent) (e : Logged) → Valid p → isLine (e .old) ≡ true → Valid (withMedium (set (p .medium) (e .line) (e .old)) p)
+put-valid p e v o =
+    record {
+      size = v .size;
+      whole = length-set (p .medium) (e .line) (e .old) ∙ v .whole;
+      medium = all-set isLine (p .medium) (e .line) (e .old) (v .medium) o;
+      few = v .few;
+      rising = v .rising;
+      regions = v .regions;
+      room = v .room;
+      climbing = v .climbing;
+      entries = v .entries;
+    }
+
+-- ---- the memory found
+
+take-line : (x t : List ℕ) → take 64 (drop 1 (lineRecord x ++ t)) ≡ lineBytes x
+unfolding lineRecord
+take-line x t = take-at (lineBytes x) t 64 (length-words 8 x)
+
+-- lines that stand behind i others
+found-from : (i : ℕ) (bs : List ℕ) (m : List (List ℕ)) (t : List ℕ) → drop (4 + 65 * i) bs ≡ flat lineRecord m ++ t → foundFrom i (length m) bs ≡ flat lineBytes m
+unfolding foundFrom flat
+found-from i bs [] t e = refl
+found-from i bs (x ∷ m) t e =
+    let a : drop (4 + 65 * i) bs ≡ lineRecord x ++ (flat lineRecord m ++ t) = e ∙ append-assoc (lineRecord x) (flat lineRecord m) t in
+    let o : 4 + (65 * i + 1) ≡ 4 + 65 * i + 1 = omega arith in
+    let q : 4 + 65 * suc i ≡ 4 + 65 * i + 65 = omega arith in
+    let b : drop (4 + 65 * suc i) bs ≡ flat lineRecord m ++ t =
+    rw (q, ← drop-drop 65 (4 + 65 * i) bs, a) (drop-at (lineRecord x) (flat lineRecord m ++ t) 65 (length-line x)) in
+    rw (o, ← drop-drop 1 (4 + 65 * i) bs, a, take-line x (flat lineRecord m ++ t), found-from (suc i) bs m t b)
+
+-- the number of lines in the head
+head-lines : (n l : ℕ) (t : List ℕ) → l < 256 ^ 2 → numOf (take 2 (drop 2 (headRecord n l ++ t))) ≡ l
+unfolding headRecord
+head-lines n l t h = rw (take-at (bytesOf 2 l) t 2 (length-bytes 2 l)) (num-bytes 2 l h)
+
+pub found : (p : Persistent) → Valid p → memoryFound (encode p) ≡ flat lineBytes (p .medium)
+unfolding encode
+found p v =
+    let t = flat regionRecord (p .regions) ++ (flat entryRecord (p .log) ++ (36 ∷ [])) in
+    let h = headRecord (p .threads) (p .lines) in
+    let s : p .lines < 256 ^ 2 = omega (arith, size-lines (p .threads) (p .lines) (v .size) .1) in
+    let d : drop (4 + 65 * 0) (h ++ (flat lineRecord (p .medium) ++ t)) ≡ flat lineRecord (p .medium) ++ t =
+    drop-at h (flat lineRecord (p .medium) ++ t) 4 (length-head (p .threads) (p .lines)) in
+    rw (head-lines (p .threads) (p .lines) (flat lineRecord (p .medium) ++ t) s)
+    (rw (v .whole) at (found-from 0 (h ++ (flat lineRecord (p .medium) ++ t)) (p .medium) t d))
+
+-- ---- the lines bear on no contradiction and on no walk
+
+pub medium-clear : (m : List (List ℕ)) (p : Persistent) → contradicts (withMedium m p) ≡ contradicts p
+unfolding contradicts
+medium-clear m p = refl
+
+pub medium-walk : (m : List (List ℕ)) (p : Persistent) → walkEntries (withMedium m p) ≡ walkEntries p
+unfolding walkEntries walk
+medium-walk m p = refl

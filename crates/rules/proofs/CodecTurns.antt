@@ -1,0 +1,127 @@
+-- A record that was written, read at the front of the bytes: it adds what it holds, and the reading isOn on behind it.
+use Prim.Native.Nat.{_*_, _<_, _^_, _≤_, suc, zero, ℕ}
+use mathlib.Core.Path.{_∙_, _≡_, ap, refl}
+use mathlib.Core.Bool.{_&&_, false, true}
+use mathlib.Core.List.{List, [], _++_, _∷_}
+use lib.Dec.{eqb, leb}
+use lib.ListN.{drop, length, length-append}
+use native.Mathlib.Omega.{arith}
+use borrow.Author.Tests.{le-leb, leb-true, lt-ltb, ne-eqb}
+use lib.Seq.{drop-at, take-at}
+use Rattle.rules.proofs.CodecBytes.{isLine, key-back, length-bytes, length-words, line-back, num-bytes}
+use Rattle.rules.proofs.Sim.{more}
+use Rattle.rules.specs.Bytes.{bytesOf, lineBytes, numOf}
+use Rattle.rules.specs.Image.{Logged, Persistent, headRecord, keyBytes, lineRecord}
+use Rattle.rules.specs.Lists.{flat}
+use Rattle.rules.specs.Reader.{Last, Next, Reads, Refuses, Stop, Turn, Verdict, fieldsTurn, headTurn, imageBody, isImageKind, isPlaced, lineTurn, listedAt, loggedAt, nothing, recordsRead, turnOf}
+use Rattle.rules.specs.Refusal.{inRange}
+use Rattle.rules.specs.Tables.{numberOf}
+use Rattle.rules.specs.declared.Listed.{Listed}
+use Rattle.undo.proofs.Laws.{and-true}
+
+-- a persistent state by its parts
+abbrev pub stateOf : ℕ → ℕ → List (List ℕ) → List Listed → List Logged → Persistent
+stateOf n l m rs es = record { threads = n; lines = l; medium = m; regions = rs; log = es }
+
+-- bytes to pass are dropped
+pub skip-bytes : (p : Persistent) (k : ℕ) (bs : List ℕ) → recordsRead p k bs ≡ recordsRead p 0 (drop k bs)
+unfolding recordsRead
+skip-bytes p zero bs = refl
+skip-bytes p (suc k) [] = refl
+skip-bytes p (suc k) (b ∷ bs) = skip-bytes p k bs
+
+-- what follows a turn
+abbrev pub afterTurn : ℕ → List ℕ → Turn → Verdict
+afterTurn b bs t = elim t [ Stop n ↦ Refuses n | Next q ↦ recordsRead q (imageBody b) bs | Last q ↦ Reads q ]
+
+pub turn-next : (p q : Persistent) (b : ℕ) (bs : List ℕ) → turnOf p (b ∷ bs) ≡ Next q → recordsRead p 0 (b ∷ bs) ≡ recordsRead q 0 (drop (imageBody b) bs)
+unfolding recordsRead
+turn-next p q b bs e = ap (afterTurn b bs) e ∙ skip-bytes q (imageBody b) bs
+
+pub turn-last : (p q : Persistent) (b : ℕ) (bs : List ℕ) → turnOf p (b ∷ bs) ≡ Last q → recordsRead p 0 (b ∷ bs) ≡ Reads q
+unfolding recordsRead
+turn-last p q b bs e = ap (afterTurn b bs) e
+
+-- a record of a kind that may stand here, with a body of the right length
+pub record-read : (p q : Persistent) (k : ℕ) (body more : List ℕ) → isImageKind k ≡ true → isPlaced p k ≡ true → length body ≡ imageBody k
+    → fieldsTurn p k (body ++ more) ≡ Next q → recordsRead p 0 (k ∷ (body ++ more)) ≡ recordsRead q 0 more
+unfolding turnOf
+record-read p q k body more a b c e =
+    let h : leb (imageBody k) (length (body ++ more)) ≡ true = le-leb (imageBody k) (length (body ++ more)) (simp length-append (omega arith)) in
+    let t : turnOf p (k ∷ (body ++ more)) ≡ Next q = rw (a, b, h) e in
+    turn-next p q k (body ++ more) t ∙ ap (recordsRead q 0) (drop-at body more (imageBody k) c)
+
+-- ---- the head
+
+pub size-threads : (n l : ℕ) → inRange n l ≡ true → (1 ≤ n) × (n ≤ 8)
+size-threads n l e =
+    let a = and-true (leb 1 n && leb n 8) (leb 1 l && leb l 256) e in
+    let b = and-true (leb 1 n) (leb n 8) (a .0) in
+    (leb-true 1 n (b .0), leb-true n 8 (b .1))
+
+pub size-lines : (n l : ℕ) → inRange n l ≡ true → (1 ≤ l) × (l ≤ 256)
+size-lines n l e =
+    let a = and-true (leb 1 n && leb n 8) (leb 1 l && leb l 256) e in
+    let b = and-true (leb 1 l) (leb l 256) (a .1) in
+    (leb-true 1 l (b .0), leb-true l 256 (b .1))
+
+pub head-read : (n l : ℕ) (more : List ℕ) → inRange n l ≡ true → recordsRead nothing 0 (headRecord n l ++ more) ≡ recordsRead (stateOf n l [] [] []) 0 more
+unfolding headRecord fieldsTurn headTurn
+head-read n l more e =
+    let s : l < 256 ^ 2 = omega (arith, size-lines n l e .1) in
+    let t : fieldsTurn nothing 32 (n ∷ (bytesOf 2 l ++ more)) ≡ Next (stateOf n l [] [] []) =
+    rw (take-at (bytesOf 2 l) more 2 (length-bytes 2 l), num-bytes 2 l s, e) in
+    record-read nothing (stateOf n l [] [] []) 32 (n ∷ bytesOf 2 l) more refl refl (ap suc (length-bytes 2 l)) t
+
+-- ---- behind the head
+
+-- with T read, L and the lines read so far tell which kind may stand here
+module _ (n l : ℕ) (m : List (List ℕ)) (rs : List Listed) (es : List Logged) (size : inRange n l ≡ true) where
+  headed : eqb n 0 ≡ false
+  headed = ne-eqb n 0 (λ z. omega (arith, size-threads n l size .0))
+
+  pub line-read : (x more : List ℕ) → isLine x ≡ true → length m < l
+      → recordsRead (stateOf n l m rs es) 0 (lineRecord x ++ more) ≡ recordsRead (stateOf n l (m ++ (x ∷ [])) rs es) 0 more
+  unfolding lineRecord fieldsTurn lineTurn
+  line-read x more e h =
+      record-read (stateOf n l m rs es) (stateOf n l (m ++ (x ∷ [])) rs es) 33 (lineBytes x) more
+      refl (rw (headed, lt-ltb (length m) l h)) (length-words 8 x) (rw (line-back x more e))
+
+-- ---- regions
+
+abbrev pub regionBody : Listed → List ℕ
+regionBody r = keyBytes (r .key) ++ (r .state ∷ flat keyBytes (r .deps))
+
+four : (k s : ℕ) (ds more : List ℕ) → length ds ≡ 4 → listedAt ((keyBytes k ++ (s ∷ flat keyBytes ds)) ++ more) ≡ record { key = k; state = s; deps = ds }
+unfolding bytesOf numOf flat listedAt
+four k s [] more h = absurd (omega arith)
+four k s (a ∷ []) more h = absurd (omega arith)
+four k s (a ∷ (b ∷ [])) more h = absurd (omega arith)
+four k s (a ∷ (b ∷ (c ∷ []))) more h = absurd (omega arith)
+four k s (a ∷ (b ∷ (c ∷ (d ∷ [])))) more h =
+    λ i. record { key = key-back k i; state = s; deps = key-back a i ∷ key-back b i ∷ key-back c i ∷ key-back d i ∷ [] }
+four k s (a ∷ (b ∷ (c ∷ (d ∷ (x ∷ xs))))) more h = absurd (omega arith)
+
+length-keys : (ds : List ℕ) → length (flat keyBytes ds) ≡ 3 * length ds
+unfolding flat
+length-keys [] = refl
+length-keys (d ∷ ds) = rw (length-append (bytesOf 2 (numberOf d)) (flat keyBytes ds), length-bytes 2 (numberOf d), length-keys ds) (omega arith)
+
+pub length-region : (r : Listed) → length (r .deps) ≡ 4 → length (regionBody r) ≡ 16
+length-region r h =
+    simp (length-append, length-bytes, length-keys, h)
+
+pub listed-back : (r : Listed) (more : List ℕ) → length (r .deps) ≡ 4 → listedAt (regionBody r ++ more) ≡ r
+listed-back r more h = four (r .key) (r .state) (r .deps) more h
+
+-- ---- log entries
+
+abbrev pub entryBody : Logged → List ℕ
+entryBody e = keyBytes (e .key) ++ (e .line ∷ lineBytes (e .old))
+
+pub length-entry : (e : Logged) → length (entryBody e) ≡ 68
+length-entry e = simp (length-append, length-bytes, length-words)
+
+pub logged-back : (e : Logged) (more : List ℕ) → isLine (e .old) ≡ true → loggedAt (entryBody e ++ more) ≡ e
+unfolding bytesOf numOf loggedAt
+logged-back e more o = λ i. record { key = key-back (e .key) i; line = e .line; old = line-back (e .old) more o i }
