@@ -11,15 +11,14 @@ use lib.Seq.{append-snoc}
 use Rattle.rules.proofs.CodecBytes.{isLine}
 use Rattle.rules.proofs.CodecTurns.{entryBody, head-read, length-entry, length-region, line-read, listed-back, logged-back, record-read, regionBody, size-threads, stateOf, turn-last}
 use Rattle.rules.proofs.CodecValid.{Valid, bound, count-append, fitsEntry, fitsRegion, keyOfListed, keyOfLogged, listed-test, logged-test, rises, rises-append}
-use Rattle.rules.proofs.Sim.{more}
 use Rattle.rules.specs.Claim.{isByte}
 use Rattle.rules.specs.Contradiction.{contradicts}
 use Rattle.rules.specs.Image.{Logged, Persistent, encode, entryRecord, lineRecord, regionRecord}
+use Rattle.rules.specs.declared.Listed.{Listed}
 use Rattle.rules.specs.Lists.{all, count, flat}
 use Rattle.rules.specs.Reader.{Reads, endTurn, fieldsTurn, isKnownThread, isLoggedBy, listedTurn, loggedTurn, nothing, readImage, recordsRead, turnOf}
 use Rattle.rules.specs.Refusal.{inRange}
 use Rattle.rules.specs.Tables.{threadOf}
-use Rattle.rules.specs.declared.Listed.{Listed}
 use Rattle.undo.proofs.Laws.{and-true, is-same, test}
 
 -- ---- behind the lines: regions, log entries, the end

@@ -10,7 +10,6 @@ use native.Mathlib.Numerals.{add-one}
 use borrow.Author.Tests.{eqb-true, lt-ltb, ltb-true}
 use lib.Seq.{drop-at, drop-cons, drop-drop, length-take-le, take-at}
 use native.Mathlib.Nat.{div-lt-iff-lt-mul, mod-add-div, pow-suc}
-use Rattle.rules.proofs.Sim.{more}
 use Rattle.rules.specs.Bytes.{bytesOf, lineAt, lineBytes, numOf, wordsBytes, wordsOf}
 use Rattle.rules.specs.Claim.{isByte}
 use Rattle.rules.specs.Image.{keyBytes}

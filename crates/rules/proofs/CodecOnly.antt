@@ -14,11 +14,11 @@ use Rattle.rules.proofs.CodecTurns.{afterTurn, size-threads}
 use Rattle.rules.proofs.CodecValid.{Sound, Valid, listed-test, logged-test}
 use Rattle.rules.specs.Claim.{isByte}
 use Rattle.rules.specs.Image.{Logged, Persistent, encode}
+use Rattle.rules.specs.declared.Listed.{Listed}
 use Rattle.rules.specs.Lists.{all, count}
 use Rattle.rules.specs.Reader.{Last, Next, Reads, Refuses, Stop, Turn, Verdict, endTurn, fieldsTurn, imageBody, isImageKind, isKnownThread, isLoggedBy, isPlaced, lastListed, lastLogged, lineTurn, listedAt, listedTurn, loggedAt, loggedTurn, nothing, recordsRead, turnOf}
 use Rattle.rules.specs.Refusal.{inRange}
 use Rattle.rules.specs.Tables.{threadOf}
-use Rattle.rules.specs.declared.Listed.{Listed}
 use Rattle.undo.proofs.Laws.{and-true, never, test}
 
 -- ---- the kinds

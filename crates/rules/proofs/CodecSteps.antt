@@ -14,11 +14,11 @@ use Rattle.rules.proofs.CodecValid.{Sound, bound, count-append, fitsEnt
 use Rattle.rules.specs.Bytes.{lineAt}
 use Rattle.rules.specs.Claim.{isByte}
 use Rattle.rules.specs.Image.{Logged, Persistent, encode, entryRecord, headRecord, lineRecord, regionRecord}
+use Rattle.rules.specs.declared.Listed.{Listed}
 use Rattle.rules.specs.Lists.{all, count, flat}
 use Rattle.rules.specs.Reader.{imageBody, isKnownThread, isLoggedBy, listedAt, loggedAt}
 use Rattle.rules.specs.Refusal.{inRange}
 use Rattle.rules.specs.Tables.{threadOf}
-use Rattle.rules.specs.declared.Listed.{Listed}
 use Rattle.undo.proofs.Laws.{never, test}
 
 -- the records but the end

@@ -9,14 +9,13 @@ use native.Mathlib.Omega.{arith}
 use borrow.Author.Tests.{le-leb, leb-true, lt-ltb, ne-eqb}
 use lib.Seq.{drop-at, take-at}
 use Rattle.rules.proofs.CodecBytes.{isLine, key-back, length-bytes, length-words, line-back, num-bytes}
-use Rattle.rules.proofs.Sim.{more}
 use Rattle.rules.specs.Bytes.{bytesOf, lineBytes, numOf}
 use Rattle.rules.specs.Image.{Logged, Persistent, headRecord, keyBytes, lineRecord}
+use Rattle.rules.specs.declared.Listed.{Listed}
 use Rattle.rules.specs.Lists.{flat}
 use Rattle.rules.specs.Reader.{Last, Next, Reads, Refuses, Stop, Turn, Verdict, fieldsTurn, headTurn, imageBody, isImageKind, isPlaced, lineTurn, listedAt, loggedAt, nothing, recordsRead, turnOf}
 use Rattle.rules.specs.Refusal.{inRange}
 use Rattle.rules.specs.Tables.{numberOf}
-use Rattle.rules.specs.declared.Listed.{Listed}
 use Rattle.undo.proofs.Laws.{and-true}
 
 -- a persistent state by its parts

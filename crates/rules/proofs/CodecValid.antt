@@ -10,10 +10,10 @@ use borrow.Author.Tests.{le-leb, ne-eqb}
 use Rattle.rules.proofs.CodecBytes.{isLine}
 use Rattle.rules.specs.Claim.{isByte}
 use Rattle.rules.specs.Image.{Logged, Persistent}
+use Rattle.rules.specs.declared.Listed.{Listed}
 use Rattle.rules.specs.Lists.{all, count}
 use Rattle.rules.specs.Reader.{isKnownThread, isLoggedBy, lastListed, lastLogged}
 use Rattle.rules.specs.Refusal.{inRange}
-use Rattle.rules.specs.declared.Listed.{Listed}
 use Rattle.undo.proofs.Laws.{test}
 
 -- ---- numbers that rise
