@@ -9,7 +9,7 @@ use native.Mathlib.Omega.{arith}
 use borrow.Author.Tests.{eqb-true, le-ltb, lt-ltb, ne-eqb}
 use lib.Seq.{append-snoc}
 use Rattle.rules.proofs.CodecBytes.{isLine}
-use Rattle.rules.proofs.CodecTurns.{entryBody, head-read, length-entry, length-region, line-read, listed-back, logged-back, record-read, regionBody, size-threads, stateOf, turn-last}
+use Rattle.rules.proofs.CodecTurns.{entryBody, head-read, length-entry, length-region, line-read, listed-back, logged-back, record-read, regionBody, size-threads, persistentOf, turn-last}
 use Rattle.rules.proofs.CodecValid.{Valid, bound, count-append, fitsEntry, fitsRegion, keyOfListed, keyOfLogged, listed-test, logged-test, rises, rises-append}
 use Rattle.rules.specs.Claim.{isByte}
 use Rattle.rules.specs.Contradiction.{contradicts}
@@ -31,12 +31,12 @@ module _ (n l : ℕ) (m : List (List ℕ)) (size : inRange n l ≡ true) (whole 
   lined = le-ltb (length m) l (omega arith)
 
   pub region-read : (rs : List Listed) (r : Listed) (more : List ℕ) → fitsRegion n r ≡ true → length rs < 32 → leb (bound keyOfListed 1 0 rs) (r .key) ≡ true
-      → recordsRead (stateOf n l m rs []) 0 (regionRecord r ++ more) ≡ recordsRead (stateOf n l m (rs ++ (r ∷ [])) []) 0 more
+      → recordsRead (persistentOf n l m rs []) 0 (regionRecord r ++ more) ≡ recordsRead (persistentOf n l m (rs ++ (r ∷ [])) []) 0 more
   unfolding regionRecord fieldsTurn listedTurn
   region-read rs r more e h o =
       let a = and-true (all (isKnownThread n) (r .key ∷ r .deps)) (eqb (length (r .deps)) 4 && isByte (r .state)) e in
       let d : length (r .deps) ≡ 4 = eqb-true (length (r .deps)) 4 (and-true (eqb (length (r .deps)) 4) (isByte (r .state)) (a .1) .0) in
-      record-read (stateOf n l m rs []) (stateOf n l m (rs ++ (r ∷ [])) []) 34 (regionBody r) more refl (rw (headed, lined)) (length-region r d)
+      record-read (persistentOf n l m rs []) (persistentOf n l m (rs ++ (r ∷ [])) []) 34 (regionBody r) more refl (rw (headed, lined)) (length-region r d)
       (rw (listed-back r more d, a .0, listed-test rs (r .key), o, lt-ltb (length rs) 32 h))
 
   any-entry : (es : List Logged) → cond (eqb (length es) 0) (leb 34 35) (leb 35 35) ≡ true
@@ -44,26 +44,26 @@ module _ (n l : ℕ) (m : List (List ℕ)) (size : inRange n l ≡ true) (whole 
 
   pub entry-read : (rs : List Listed) (es : List Logged) (e : Logged) (more : List ℕ) → fitsEntry n l e ≡ true
       → count (isLoggedBy (threadOf (e .key))) es < 32 → leb (bound keyOfLogged 0 0 es) (e .key) ≡ true
-      → recordsRead (stateOf n l m rs es) 0 (entryRecord e ++ more) ≡ recordsRead (stateOf n l m rs (es ++ (e ∷ []))) 0 more
+      → recordsRead (persistentOf n l m rs es) 0 (entryRecord e ++ more) ≡ recordsRead (persistentOf n l m rs (es ++ (e ∷ []))) 0 more
   unfolding entryRecord fieldsTurn loggedTurn
   entry-read rs es e more b h o =
       let a = and-true (isKnownThread n (e .key)) (ltb (e .line) l && isLine (e .old)) b in
       let c = and-true (ltb (e .line) l) (isLine (e .old)) (a .1) in
-      record-read (stateOf n l m rs es) (stateOf n l m rs (es ++ (e ∷ []))) 35 (entryBody e) more refl (rw (headed, lined) (any-entry es)) (length-entry e)
+      record-read (persistentOf n l m rs es) (persistentOf n l m rs (es ++ (e ∷ []))) 35 (entryBody e) more refl (rw (headed, lined) (any-entry es)) (length-entry e)
       (rw (logged-back e more (c .1), a .0, c .0, logged-test es (e .key), o, lt-ltb (count (isLoggedBy (threadOf (e .key))) es) 32 h))
 
   any-end : (es : List Logged) → cond (eqb (length es) 0) (leb 34 36) (leb 35 36) ≡ true
   any-end es = test (eqb (length es) 0) (λ b. rw b) (λ b. rw b)
 
-  pub end-read : (rs : List Listed) (es : List Logged) → recordsRead (stateOf n l m rs es) 0 (36 ∷ []) ≡ Reads (stateOf n l m rs es)
+  pub end-read : (rs : List Listed) (es : List Logged) → recordsRead (persistentOf n l m rs es) 0 (36 ∷ []) ≡ Reads (persistentOf n l m rs es)
   unfolding turnOf fieldsTurn endTurn
-  end-read rs es = turn-last (stateOf n l m rs es) (stateOf n l m rs es) 36 [] (rw (headed, lined, any-end es))
+  end-read rs es = turn-last (persistentOf n l m rs es) (persistentOf n l m rs es) 36 [] (rw (headed, lined, any-end es))
 
 -- ---- lists of records: what is read before them and they together are the parts of a valid state
 
 pub lines-read : (n l : ℕ) (rs : List Listed) (es : List Logged) → inRange n l ≡ true → (m ls : List (List ℕ)) (more : List ℕ)
     → length (m ++ ls) ≤ l → all isLine ls ≡ true
-    → recordsRead (stateOf n l m rs es) 0 (flat lineRecord ls ++ more) ≡ recordsRead (stateOf n l (m ++ ls) rs es) 0 more
+    → recordsRead (persistentOf n l m rs es) 0 (flat lineRecord ls ++ more) ≡ recordsRead (persistentOf n l (m ++ ls) rs es) 0 more
 unfolding flat
 lines-read n l rs es size m [] more h e = rw (append-nil m)
 lines-read n l rs es size m (x ∷ ls) more h e =
@@ -75,7 +75,7 @@ lines-read n l rs es size m (x ∷ ls) more h e =
 
 module _ (n l : ℕ) (m : List (List ℕ)) (size : inRange n l ≡ true) (whole : length m ≡ l) where
   pub regions-read : (rs qs : List Listed) (more : List ℕ) → length (rs ++ qs) ≤ 32 → rises keyOfListed 1 0 (rs ++ qs) ≡ true → all (fitsRegion n) qs ≡ true
-      → recordsRead (stateOf n l m rs []) 0 (flat regionRecord qs ++ more) ≡ recordsRead (stateOf n l m (rs ++ qs) []) 0 more
+      → recordsRead (persistentOf n l m rs []) 0 (flat regionRecord qs ++ more) ≡ recordsRead (persistentOf n l m (rs ++ qs) []) 0 more
   unfolding flat
   regions-read rs [] more h o e = rw (append-nil rs)
   regions-read rs (r ∷ qs) more h o e =
@@ -89,7 +89,7 @@ module _ (n l : ℕ) (m : List (List ℕ)) (size : inRange n l ≡ true) (whole 
 
   pub entries-read : (rs : List Listed) (es fs : List Logged) (more : List ℕ) → ((t : ℕ) → count (isLoggedBy t) (es ++ fs) ≤ 32)
       → rises keyOfLogged 0 0 (es ++ fs) ≡ true → all (fitsEntry n l) fs ≡ true
-      → recordsRead (stateOf n l m rs es) 0 (flat entryRecord fs ++ more) ≡ recordsRead (stateOf n l m rs (es ++ fs)) 0 more
+      → recordsRead (persistentOf n l m rs es) 0 (flat entryRecord fs ++ more) ≡ recordsRead (persistentOf n l m rs (es ++ fs)) 0 more
   unfolding flat count
   entries-read rs es [] more h o e = rw (append-nil es)
   entries-read rs es (x ∷ fs) more h o e =

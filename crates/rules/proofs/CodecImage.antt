@@ -7,7 +7,7 @@ use lib.ListN.{drop, getD, take}
 use Rattle.rules.proofs.CodecOnly.{Kind, Only, endKind, entryKind, headKind, isLast, isReading, kind-of, lineKind, not-last, onward, regionKind, stateIn, stateRead}
 use Rattle.rules.proofs.CodecParts.{Passed, head-again, past-test, turn-passed}
 use Rattle.rules.proofs.CodecSteps.{Begun, head-begun, without-head, withoutEnd}
-use Rattle.rules.proofs.CodecTurns.{afterTurn, stateOf}
+use Rattle.rules.proofs.CodecTurns.{afterTurn, persistentOf}
 use Rattle.rules.proofs.CodecValid.{Valid}
 use Rattle.rules.specs.Bytes.{numOf}
 use Rattle.rules.specs.Claim.{OnlyImage, isByte}
@@ -26,8 +26,8 @@ module _ (r : Persistent) (bs : List ℕ) (bytes : all isByte bs ≡ true) where
   head-first c =
       let n = getD bs 0 0 in
       let l = numOf (take 2 (drop 1 bs)) in
-      let x = past-test (inRange n l) (Next (stateOf n l [] [] [])) 6 (Next r) refl (c .fields) in
-      let s : withoutEnd (stateOf n l [] [] []) ++ drop 3 bs ≡ 32 ∷ bs = rw (without-head n l) (head-again bs bytes (c .long)) in
+      let x = past-test (inRange n l) (Next (persistentOf n l [] [] [])) 6 (Next r) refl (c .fields) in
+      let s : withoutEnd (persistentOf n l [] [] []) ++ drop 3 bs ≡ 32 ∷ bs = rw (without-head n l) (head-again bs bytes (c .long)) in
       subst (λ q. (Begun q) × (withoutEnd q ++ drop 3 bs ≡ 32 ∷ bs)) (ap stateIn (x .1)) (head-begun n l (x .0), s)
 
   first-next : {k : ℕ} → Kind k → Passed nothing k bs (Next r) → (Begun r) × (withoutEnd r ++ drop (imageBody k) bs ≡ k ∷ bs)

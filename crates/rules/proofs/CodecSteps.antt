@@ -9,7 +9,7 @@ use native.Mathlib.Omega.{arith}
 use borrow.Author.Tests.{eqb-true, lt-ltb}
 use Rattle.rules.proofs.CodecBytes.{all-append, all-at, isLine, line-small}
 use Rattle.rules.proofs.CodecParts.{entry-again, line-again, region-again}
-use Rattle.rules.proofs.CodecTurns.{stateOf}
+use Rattle.rules.proofs.CodecTurns.{persistentOf}
 use Rattle.rules.proofs.CodecValid.{Sound, bound, count-append, fitsEntry, fitsRegion, keyOfListed, keyOfLogged, rises, rises-append}
 use Rattle.rules.specs.Bytes.{lineAt}
 use Rattle.rules.specs.Claim.{isByte}
@@ -70,27 +70,27 @@ onto : (a b x t y : List ℕ) → b ≡ a ++ x → x ++ t ≡ y → b ++ t ≡ a
 onto a b x t y p q = rw (p, append-assoc a x t, q)
 
 module _ (n l : ℕ) (m : List (List ℕ)) (rs : List Listed) (es : List Logged) where
-  without-line : (x : List ℕ) → withoutEnd (stateOf n l (m ++ (x ∷ [])) [] []) ≡ withoutEnd (stateOf n l m [] []) ++ lineRecord x
+  without-line : (x : List ℕ) → withoutEnd (persistentOf n l (m ++ (x ∷ [])) [] []) ≡ withoutEnd (persistentOf n l m [] []) ++ lineRecord x
   unfolding withoutEnd flat
   without-line x = rw (flat-end lineRecord m x) (two (headRecord n l) (flat lineRecord m) (lineRecord x))
 
-  without-region : (r : Listed) → withoutEnd (stateOf n l m (rs ++ (r ∷ [])) []) ≡ withoutEnd (stateOf n l m rs []) ++ regionRecord r
+  without-region : (r : Listed) → withoutEnd (persistentOf n l m (rs ++ (r ∷ [])) []) ≡ withoutEnd (persistentOf n l m rs []) ++ regionRecord r
   unfolding withoutEnd flat
   without-region r = rw (flat-end regionRecord rs r) (three (headRecord n l) (flat lineRecord m) (flat regionRecord rs) (regionRecord r))
 
-  without-entry : (e : Logged) → withoutEnd (stateOf n l m rs (es ++ (e ∷ []))) ≡ withoutEnd (stateOf n l m rs es) ++ entryRecord e
+  without-entry : (e : Logged) → withoutEnd (persistentOf n l m rs (es ++ (e ∷ []))) ≡ withoutEnd (persistentOf n l m rs es) ++ entryRecord e
   unfolding withoutEnd
   without-entry e = rw (flat-end entryRecord es e) (four (headRecord n l) (flat lineRecord m) (flat regionRecord rs) (flat entryRecord es) (entryRecord e))
 
 -- ---- each kind
 
 module _ (n l : ℕ) (m : List (List ℕ)) (rs : List Listed) (es : List Logged) (bs : List ℕ) (bytes : all isByte bs ≡ true) where
-  line-same : 64 ≤ length bs → withoutEnd (stateOf n l (m ++ (lineAt bs 0 ∷ [])) [] []) ++ drop 64 bs ≡ withoutEnd (stateOf n l m [] []) ++ (33 ∷ bs)
+  line-same : 64 ≤ length bs → withoutEnd (persistentOf n l (m ++ (lineAt bs 0 ∷ [])) [] []) ++ drop 64 bs ≡ withoutEnd (persistentOf n l m [] []) ++ (33 ∷ bs)
   line-same h =
-      onto (withoutEnd (stateOf n l m [] [])) (withoutEnd (stateOf n l (m ++ (lineAt bs 0 ∷ [])) [] [])) (lineRecord (lineAt bs 0)) (drop 64 bs) (33 ∷ bs)
+      onto (withoutEnd (persistentOf n l m [] [])) (withoutEnd (persistentOf n l (m ++ (lineAt bs 0 ∷ [])) [] [])) (lineRecord (lineAt bs 0)) (drop 64 bs) (33 ∷ bs)
       (without-line n l m rs es (lineAt bs 0)) (line-again bs bytes h)
 
-  pub line-added : Begun (stateOf n l m rs es) → 64 ≤ length bs → length m < l → Added (stateOf n l m rs es) (stateOf n l (m ++ (lineAt bs 0 ∷ [])) rs es) 33 bs
+  pub line-added : Begun (persistentOf n l m rs es) → 64 ≤ length bs → length m < l → Added (persistentOf n l m rs es) (persistentOf n l (m ++ (lineAt bs 0 ∷ [])) rs es) 33 bs
   line-added b h s =
       let x = lineAt bs 0 in
       let e = b .early s in
@@ -114,18 +114,18 @@ module _ (n l : ℕ) (m : List (List ℕ)) (rs : List Listed) (es : List Logged)
         same = rw (e .0, e .1) (line-same h);
       }
 
-  region-same : 16 ≤ length bs → withoutEnd (stateOf n l m (rs ++ (listedAt bs ∷ [])) []) ++ drop 16 bs ≡ withoutEnd (stateOf n l m rs []) ++ (34 ∷ bs)
+  region-same : 16 ≤ length bs → withoutEnd (persistentOf n l m (rs ++ (listedAt bs ∷ [])) []) ++ drop 16 bs ≡ withoutEnd (persistentOf n l m rs []) ++ (34 ∷ bs)
   region-same h =
-      onto (withoutEnd (stateOf n l m rs [])) (withoutEnd (stateOf n l m (rs ++ (listedAt bs ∷ [])) [])) (regionRecord (listedAt bs)) (drop 16 bs) (34 ∷ bs)
+      onto (withoutEnd (persistentOf n l m rs [])) (withoutEnd (persistentOf n l m (rs ++ (listedAt bs ∷ [])) [])) (regionRecord (listedAt bs)) (drop 16 bs) (34 ∷ bs)
       (without-region n l m rs es (listedAt bs)) (region-again bs bytes h)
 
   listed-fits : 16 ≤ length bs → all (isKnownThread n) (listedAt bs .key ∷ listedAt bs .deps) ≡ true → fitsRegion n (listedAt bs) ≡ true
   unfolding listedAt
   listed-fits h k = rw (k, all-at isByte bs 3 0 bytes (omega arith))
 
-  pub region-added : Begun (stateOf n l m rs es) → 16 ≤ length bs → ltb (length m) l ≡ false → es ≡ []
+  pub region-added : Begun (persistentOf n l m rs es) → 16 ≤ length bs → ltb (length m) l ≡ false → es ≡ []
       → all (isKnownThread n) (listedAt bs .key ∷ listedAt bs .deps) ≡ true → leb (bound keyOfListed 1 0 rs) (listedAt bs .key) ≡ true → length rs < 32
-      → Added (stateOf n l m rs es) (stateOf n l m (rs ++ (listedAt bs ∷ [])) es) 34 bs
+      → Added (persistentOf n l m rs es) (persistentOf n l m (rs ++ (listedAt bs ∷ [])) es) 34 bs
   region-added b h s z k o f =
       let r = listedAt bs in
       let g = b .sound in
@@ -148,9 +148,9 @@ module _ (n l : ℕ) (m : List (List ℕ)) (rs : List Listed) (es : List Logged)
         same = rw z (region-same h);
       }
 
-  entry-same : 68 ≤ length bs → withoutEnd (stateOf n l m rs (es ++ (loggedAt bs ∷ []))) ++ drop 68 bs ≡ withoutEnd (stateOf n l m rs es) ++ (35 ∷ bs)
+  entry-same : 68 ≤ length bs → withoutEnd (persistentOf n l m rs (es ++ (loggedAt bs ∷ []))) ++ drop 68 bs ≡ withoutEnd (persistentOf n l m rs es) ++ (35 ∷ bs)
   entry-same h =
-      onto (withoutEnd (stateOf n l m rs es)) (withoutEnd (stateOf n l m rs (es ++ (loggedAt bs ∷ [])))) (entryRecord (loggedAt bs)) (drop 68 bs) (35 ∷ bs)
+      onto (withoutEnd (persistentOf n l m rs es)) (withoutEnd (persistentOf n l m rs (es ++ (loggedAt bs ∷ [])))) (entryRecord (loggedAt bs)) (drop 68 bs) (35 ∷ bs)
       (without-entry n l m rs es (loggedAt bs)) (entry-again bs bytes h)
 
   logged-fits : 68 ≤ length bs → isKnownThread n (loggedAt bs .key) ≡ true → ltb (loggedAt bs .line) l ≡ true → fitsEntry n l (loggedAt bs) ≡ true
@@ -163,10 +163,10 @@ module _ (n l : ℕ) (m : List (List ℕ)) (rs : List Listed) (es : List Logged)
       rw (count-end (isLoggedBy t) es e)
       (test (isLoggedBy t e) (λ b. rw b (rw (eqb-true (threadOf (e .key)) t b) at h)) (λ b. rw b (g t)))
 
-  pub entry-added : Begun (stateOf n l m rs es) → 68 ≤ length bs → ltb (length m) l ≡ false
+  pub entry-added : Begun (persistentOf n l m rs es) → 68 ≤ length bs → ltb (length m) l ≡ false
       → isKnownThread n (loggedAt bs .key) ≡ true → ltb (loggedAt bs .line) l ≡ true → leb (bound keyOfLogged 0 0 es) (loggedAt bs .key) ≡ true
       → count (isLoggedBy (threadOf (loggedAt bs .key))) es < 32
-      → Added (stateOf n l m rs es) (stateOf n l m rs (es ++ (loggedAt bs ∷ []))) 35 bs
+      → Added (persistentOf n l m rs es) (persistentOf n l m rs (es ++ (loggedAt bs ∷ []))) 35 bs
   entry-added b h s k i o c =
       let e = loggedAt bs in
       let g = b .sound in
@@ -197,11 +197,11 @@ encode-end p = four (headRecord (p .threads) (p .lines)) (flat lineRecord (p .me
 
 -- ---- the head
 
-pub without-head : (n l : ℕ) → withoutEnd (stateOf n l [] [] []) ≡ headRecord n l
+pub without-head : (n l : ℕ) → withoutEnd (persistentOf n l [] [] []) ≡ headRecord n l
 unfolding withoutEnd flat
 without-head n l = append-nil (headRecord n l)
 
-pub head-begun : (n l : ℕ) → inRange n l ≡ true → Begun (stateOf n l [] [] [])
+pub head-begun : (n l : ℕ) → inRange n l ≡ true → Begun (persistentOf n l [] [] [])
 unfolding count
 head-begun n l e =
     record {

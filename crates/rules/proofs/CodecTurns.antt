@@ -19,8 +19,8 @@ use Rattle.rules.specs.Tables.{numberOf}
 use Rattle.undo.proofs.Laws.{and-true}
 
 -- a persistent state by its parts
-abbrev pub stateOf : ℕ → ℕ → List (List ℕ) → List Listed → List Logged → Persistent
-stateOf n l m rs es = record { threads = n; lines = l; medium = m; regions = rs; log = es }
+abbrev pub persistentOf : ℕ → ℕ → List (List ℕ) → List Listed → List Logged → Persistent
+persistentOf n l m rs es = record { threads = n; lines = l; medium = m; regions = rs; log = es }
 
 -- bytes to pass are dropped
 pub skip-bytes : (p : Persistent) (k : ℕ) (bs : List ℕ) → recordsRead p k bs ≡ recordsRead p 0 (drop k bs)
@@ -64,13 +64,13 @@ size-lines n l e =
     let b = and-true (leb 1 l) (leb l 256) (a .1) in
     (leb-true 1 l (b .0), leb-true l 256 (b .1))
 
-pub head-read : (n l : ℕ) (more : List ℕ) → inRange n l ≡ true → recordsRead nothing 0 (headRecord n l ++ more) ≡ recordsRead (stateOf n l [] [] []) 0 more
+pub head-read : (n l : ℕ) (more : List ℕ) → inRange n l ≡ true → recordsRead nothing 0 (headRecord n l ++ more) ≡ recordsRead (persistentOf n l [] [] []) 0 more
 unfolding headRecord fieldsTurn headTurn
 head-read n l more e =
     let s : l < 256 ^ 2 = omega (arith, size-lines n l e .1) in
-    let t : fieldsTurn nothing 32 (n ∷ (bytesOf 2 l ++ more)) ≡ Next (stateOf n l [] [] []) =
+    let t : fieldsTurn nothing 32 (n ∷ (bytesOf 2 l ++ more)) ≡ Next (persistentOf n l [] [] []) =
     rw (take-at (bytesOf 2 l) more 2 (length-bytes 2 l), num-bytes 2 l s, e) in
-    record-read nothing (stateOf n l [] [] []) 32 (n ∷ bytesOf 2 l) more refl refl (ap suc (length-bytes 2 l)) t
+    record-read nothing (persistentOf n l [] [] []) 32 (n ∷ bytesOf 2 l) more refl refl (ap suc (length-bytes 2 l)) t
 
 -- ---- behind the head
 
@@ -80,10 +80,10 @@ module _ (n l : ℕ) (m : List (List ℕ)) (rs : List Listed) (es : List Logged)
   headed = ne-eqb n 0 (λ z. omega (arith, size-threads n l size .0))
 
   pub line-read : (x more : List ℕ) → isLine x ≡ true → length m < l
-      → recordsRead (stateOf n l m rs es) 0 (lineRecord x ++ more) ≡ recordsRead (stateOf n l (m ++ (x ∷ [])) rs es) 0 more
+      → recordsRead (persistentOf n l m rs es) 0 (lineRecord x ++ more) ≡ recordsRead (persistentOf n l (m ++ (x ∷ [])) rs es) 0 more
   unfolding lineRecord fieldsTurn lineTurn
   line-read x more e h =
-      record-read (stateOf n l m rs es) (stateOf n l (m ++ (x ∷ [])) rs es) 33 (lineBytes x) more
+      record-read (persistentOf n l m rs es) (persistentOf n l (m ++ (x ∷ [])) rs es) 33 (lineBytes x) more
       refl (rw (headed, lt-ltb (length m) l h)) (length-words 8 x) (rw (line-back x more e))
 
 -- ---- regions

@@ -10,8 +10,7 @@ use mathlib.Core.List.{List, [], _∷_}
 use lib.Dec.{eqb, ltb}
 use lib.ListN.{getD, length, set}
 use Rattle.rules.proofs.CodecBytes.{isLine}
-use Rattle.rules.proofs.CodecTurns.{stateOf}
-use Rattle.rules.proofs.Views.{depView, entryAt, isOpened, newest, slotView}
+use Rattle.rules.proofs.Views.{depView, entryAt, isOpened, newest, slotView, stateOf}
 use Rattle.rules.specs.Access.{isOf, logged}
 use Rattle.rules.specs.Acknowledge.{isEntry}
 use Rattle.rules.specs.Commit.{commits}

@@ -3,9 +3,10 @@ use Rattle.undo.specs.Machine as u
 use Prim.Native.Nat.{ℕ}
 use mathlib.Core.Bool.{Bool, _&&_, cond, not}
 use mathlib.Core.List.{List, [], _∷_}
-use lib.Dec.{eqb, leb}
-use lib.ListN.{getD}
+use lib.Dec.{eqb, leb, ltb}
+use lib.ListN.{getD, length}
 use Rattle.rules.specs.History.{openedIn}
+use Rattle.rules.specs.Lists.{all}
 use Rattle.rules.specs.Slots.{names}
 use Rattle.rules.specs.Tables.{Board, lineOf, noEntry, numberOf, regionAt, threadAt, threadOf}
 use Rattle.rules.specs.declared.Entry.{Entry}
