@@ -99,3 +99,9 @@ pub struct Listed {
     pub state: u8,
     pub deps: [u32; 4],
 }
+
+// A log entry of an image by its region and line; the old line stays in the image.
+pub struct Mark {
+    pub key: u32,
+    pub line: u8,
+}
