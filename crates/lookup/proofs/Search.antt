@@ -1,0 +1,90 @@
+-- One turn and the end of each search over a list, for any element type and any test: a loop at index i still has `drop i xs` before it.
+use lib.Dec.{ltb, leb·suc-suc}  -- keep
+use Prim.Native.Nat.{_+_, _<_, _≤_, suc, zero, ℕ}
+use mathlib.Core.Path.{_∙_, _≡_, refl, sym}
+use mathlib.Core.Bool.{Bool, cond, false, true}
+use mathlib.Core.List.{List, [], _∷_}
+use lib.ListN.{drop, drop-of-length-le, getD, length}
+use native.Mathlib.Omega.{arith}
+use native.Mathlib.Numerals.{add-one}
+use borrow.Author.Tests.{lt-ltb}
+use lib.Seq.{drop-cons}
+use Rattle.rules.specs.Lists.{count, place}
+use Rattle.rules.specs.Slots.{isEmpty, names, orAt, slotFrom}
+use Rattle.rules.specs.declared.Found.{Found}
+use Rattle.rules.specs.declared.Found.the-variants.{At}
+use Rattle.rules.specs.declared.Slot.{Slot}
+use Rattle.undo.proofs.Laws.{test}
+use Rattle.undo.specs.Table.{any}
+
+module _ {A : Type 0} where
+  -- inside a list the default does not matter
+  pub getD-any : (xs : List A) (i : ℕ) (a b : A) → i < length xs → getD xs i a ≡ getD xs i b
+  getD-any [] i a b h = absurd (omega arith)
+  getD-any (x ∷ xs) zero a b h = refl
+  getD-any (x ∷ xs) (suc i) a b h = getD-any xs i a b (omega arith)
+
+module _ {A : Type 0} (p : A → Bool) where
+  pub place-le : (xs : List A) → place p xs ≤ length xs
+  unfolding place
+  place-le [] = omega arith
+  place-le (x ∷ xs) = let ih = place-le xs in test (p x) (λ e. rw e (omega arith)) (λ e. rw e (omega arith))
+
+  pub count-le : (xs : List A) → count p xs ≤ length xs
+  unfolding count
+  count-le [] = omega arith
+  count-le (x ∷ xs) = let ih = count-le xs in test (p x) (λ e. rw e (omega arith)) (λ e. rw e (omega arith))
+
+  -- some element passes where the place of the first is inside the list
+  pub any-place : (xs : List A) → any p xs ≡ ltb (place p xs) (length xs)
+  unfolding place
+  any-place [] = refl
+  any-place (x ∷ xs) = test (p x) (λ e. rw e (sym (lt-ltb 0 (suc (length xs)) (omega arith)))) (λ e. rw e (any-place xs ∙ sym (leb·suc-suc (suc (place p xs)) (length xs))))
+
+  -- so a place r below the length n tells that one does
+  pub found : (xs : List A) (r n : ℕ) → length xs ≡ n → r ≡ place p xs → ltb r n ≡ any p xs
+  found xs r n h e = rw (← h, e) (sym (any-place xs))
+
+  pub place-end : (i : ℕ) (xs : List A) → length xs ≤ i → i + place p (drop i xs) ≡ i
+  unfolding place
+  place-end i xs h = rw (drop-of-length-le xs h) (omega arith)
+
+  pub count-end : (c i : ℕ) (xs : List A) → length xs ≤ i → c + count p (drop i xs) ≡ c
+  unfolding count
+  count-end c i xs h = rw (drop-of-length-le xs h) (omega arith)
+
+  module _ (i : ℕ) (xs : List A) (d : A) (h : i < length xs) where
+    pub place-hit : p (getD xs i d) ≡ true → i + place p (drop i xs) ≡ i
+    unfolding place
+    place-hit e = rw (drop-cons xs i d h, e) (omega arith)
+
+    pub place-on : p (getD xs i d) ≡ false → (i + 1) + place p (drop (i + 1) xs) ≡ i + place p (drop i xs)
+    unfolding place
+    place-on e = rw (add-one i, drop-cons xs i d h, e) (omega arith)
+
+    pub count-on : (c : ℕ) → (c + cond (p (getD xs i d)) 1 0) + count p (drop (i + 1) xs) ≡ c + count p (drop i xs)
+    unfolding count
+    count-on c = test (p (getD xs i d)) (λ e. rw (add-one i, drop-cons xs i d h, e) (omega arith)) (λ e. rw (add-one i, drop-cons xs i d h, e) (omega arith))
+
+-- a test counts at most one
+pub one-le : (b : Bool) → cond b 1 0 ≤ 1
+one-le true = omega arith
+one-le false = omega arith
+
+-- ---- the slot for a line
+
+module _ (l : ℕ) (free : Found) (i : ℕ) (ss : List Slot) (d : Slot) (h : i < length ss) where
+  -- the slot at i does not name the line: the walk goes on
+  pub slot-on : names l (getD ss i d .state) (getD ss i d .line) ≡ false → slotFrom l free i (drop i ss) ≡ slotFrom l (orAt free (isEmpty (getD ss i d .state)) i) (i + 1) (drop (i + 1) ss)
+  unfolding slotFrom
+  slot-on e = rw (add-one i, drop-cons ss i d h, e)
+
+  -- it does: the walk ends there
+  pub slot-hit : names l (getD ss i d .state) (getD ss i d .line) ≡ true → slotFrom l free i (drop i ss) ≡ At i
+  unfolding slotFrom
+  slot-hit e = rw (drop-cons ss i d h, e)
+
+-- past the last slot the answer is the empty one that was seen
+pub slot-end : (l : ℕ) (free : Found) (i : ℕ) (ss : List Slot) → length ss ≤ i → slotFrom l free i (drop i ss) ≡ free
+unfolding slotFrom
+slot-end l free i ss h = rw (drop-of-length-le ss h)

@@ -1,0 +1,63 @@
+use Rattle.lookup.proofs.entry_count.Statement.{statement}
+use Rattle.lookup.proofs.entry_count.Tie as tie
+use Prim.Native.Nat.{_+_, _-_, _≤_}
+use mathlib.Core.Path.{_∙_, _≡_, sym}
+use lib.ListN.{drop}
+use native.Mathlib.Omega.{arith}
+use borrow.Author.Needs.{needs}
+use Rattle.lookup.proofs.Search.{count-end, count-on, one-le}
+use Rattle.rules.specs.Access.{isOf}
+use Rattle.rules.specs.Lists.{count}
+
+abbrev Inv-loop : tie.InvT-loop
+Inv-loop key log c₀ i₀ c i = (i ≤ 32) × ((c ≤ i) × (c + count (isOf key) (drop i log) ≡ count (isOf key) log))
+
+abbrev μ-loop : tie.MeasureT-loop
+μ-loop key log c₀ i₀ c i = 32 - i
+
+loop-holds : tie.Need-loop-holds Inv-loop μ-loop
+loop-holds c = (search needs, (search needs, omega arith))
+
+mul-x : tie.Need-mul-x Inv-loop μ-loop
+mul-x c = search needs
+
+array-copy-out-x : tie.Need-array-copy-out-x Inv-loop μ-loop
+array-copy-out-x c = search needs
+
+is-of-requires : tie.Need-is-of-requires Inv-loop μ-loop
+is-of-requires c κs = search needs
+
+one-requires : tie.Need-one-requires Inv-loop μ-loop
+one-requires c κs = search needs
+
+add-c : tie.Need-add-c Inv-loop μ-loop
+add-c c = omega (arith, c .one .ensures, one-le (c .before .is-of .result))
+
+add-i : tie.Need-add-i Inv-loop μ-loop
+add-i c = search needs
+
+loop-less : tie.Need-loop-less Inv-loop μ-loop
+loop-less c = search needs
+
+loop-again : tie.Need-loop-again Inv-loop μ-loop
+loop-again c = let at = c .before .before .before .before .loop in (search needs, (omega (arith, c .one .ensures, one-le (c .before .is-of .result)), rw (c .one .ensures, c .before .is-of .ensures) (count-on (isOf (c .before .before .before .before .before .args .key)) (at .i) (c .before .before .before .before .before .args .t1) _ (search needs) (at .c) ∙ at .inv .1 .1)))
+
+returns : tie.Need-returns Inv-loop μ-loop
+returns c = sym (count-end (isOf (c .before .before .args .key)) (c .before .loop .c) (c .before .loop .i) (c .before .before .args .t1) (search needs)) ∙ c .before .loop .inv .1 .1
+
+pub entry-count-spec : {M : Type 1} → statement M
+entry-count-spec =
+    tie.close
+    (tie.spec
+    Inv-loop
+    μ-loop
+    loop-holds
+    mul-x
+    array-copy-out-x
+    is-of-requires
+    one-requires
+    add-c
+    add-i
+    loop-less
+    loop-again
+    returns)
