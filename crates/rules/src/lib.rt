@@ -1,6 +1,7 @@
 // The tables of the board and its events, as plain structs and enums. The definitions of specs/ and the programs of the other crates work on these same types.
 //
 // A region's key is 65536 * thread + number; 0 is no region. A place of a list that holds the key 0 is free.
+ghost use Rattle.rules.specs.Claim.{Demand3, OnlyImage, ReadsBack};
 
 // A slot is empty, waits with its count, or is in flight.
 pub enum SlotState {
@@ -105,3 +106,13 @@ pub struct Mark {
     pub key: u32,
     pub line: u8,
 }
+
+// Demand 3: after every list of events, an accepted cut, and every list of recovery steps and cuts, recovery leaves the expected memory.
+pub fn recovery_is_right()
+    ensures { λ r. ⌜ Demand3 ⌝ }
+{}
+
+// A saved image reads back to the same persistent state, and is the only image of it.
+pub fn image_is_right()
+    ensures { λ r. ⌜ ReadsBack × OnlyImage ⌝ }
+{}

@@ -1,0 +1,75 @@
+-- Demand 3, and that a saved image reads back: from what every list of records keeps.
+use Rattle.undo.specs.Machine as u
+use Rattle.undo.specs.History as v
+use Rattle.undo.specs.Claim.{Reach}
+use Rattle.undo.proofs.Main.{closes}
+use Rattle.rules.proofs.Sim.{Kept, Rest, Sim, Simulated, by}
+use Rattle.rules.specs.History.{acceptedIn, committed, drawsOn, expected, expectedBytes, linesIn, memoryFound, usesIn}
+use Prim.Native.Nat.{_-_, ℕ}
+use mathlib.Core.Path.{_∙_, _≡_, sym}
+use mathlib.Core.Logic.{_≢_, ⊎-elim}
+use mathlib.Core.Bool.{true}
+use mathlib.Core.List.{List}
+use native.Mathlib.Omega.{arith}
+use Rattle.rules.proofs.CodecBack.{image-read}
+use Rattle.rules.proofs.FoundExpected.{committed-done, expected-length, expected-same}
+use Rattle.rules.proofs.FoundSound.{sound}
+use Rattle.rules.proofs.FoundSteps.{acts-stand, cut-stands, memory-found, pass-finishes, start-stands, step-accepted, step-ended, step-stands, walked-length}
+use Rattle.rules.proofs.FoundValid.{saved-valid}
+use Rattle.rules.specs.Acknowledge.{kept}
+use Rattle.rules.specs.Claim.{Demand3, Holds, ReadsBack, boardAfter, isByte, isByteMemory, passLength}
+use Rattle.rules.specs.Image.{image, saved}
+use Rattle.rules.specs.Lists.{all}
+use Rattle.rules.specs.Reader.{Reads, readImage}
+use Rattle.rules.specs.Recovery.{Act}
+use Rattle.rules.specs.Tables.{Memory, lineOf, startLines}
+use Rattle.undo.proofs.Shape.{rest}
+use Rattle.undo.specs.History.{History}
+use Rattle.undo.specs.Machine.{State}
+
+-- what is proved of the events: after every list of records some state of the undo log has the board's tables
+abbrev pub EveryKept : Type 0
+EveryKept = (m : Memory) (rs : List (List ℕ)) → isByteMemory m ≡ true → all (all isByte) rs ≡ true → Kept m (boardAfter m rs) (acceptedIn m rs)
+
+module _ (m : Memory) (rs : List (List ℕ)) {s : u.State (List ℕ)} {h : v.History (List ℕ)}
+    (rc : Reach (λ l. lineOf l (startLines m)) s h) (i : Sim (boardAfter m rs) (acceptedIn m rs) s h) where
+  -- what a committed region drew on had committed
+  closed-by : (k q : ℕ) → drawsOn k q (usesIn (acceptedIn m rs)) ≡ true → q ≢ 0 → committed m rs k ≡ true → committed m rs q ≡ true
+  closed-by k q e n d =
+      committed-done m rs rc i q
+      ∙ ⊎-elim
+      (λ p. closes (λ l. lineOf l (startLines m)) s h rc k q p (sym (committed-done m rs rc i k) ∙ d))
+      (λ p. p)
+      (i .told .uses k q e n)
+
+  holds : Rest (boardAfter m rs) → boardAfter m rs .tables .cut ≡ true → (as′ : List Act) → Holds m rs as′
+  unfolding expectedBytes
+  holds rest cut as′ =
+      let up = i .shape .cut-setup cut in
+      let quiet = sound rc i rest in
+      let p = acts-stand rc i up quiet as′ (start-stands rc i up quiet) in
+      let w = walked-length rc i up quiet in
+      record {
+        accepts = step-accepted rc i up quiet p;
+        recovers = λ f. memory-found rc i up quiet (expected m rs) (expected-length m rs) (expected-same m rs rc i) (step-stands rc i up quiet p) (step-ended rc i up quiet p f)
+            ∙ rw (i .told .lines up);
+        finishes = pass-finishes rc i up quiet (passLength m rs - 1) (cut-stands rc i up quiet p) (omega arith);
+        closed = closed-by;
+      }
+
+  reads-it : Rest (boardAfter m rs) → boardAfter m rs .tables .cut ≡ true → readImage (image (boardAfter m rs)) ≡ Reads (saved (boardAfter m rs))
+  unfolding image
+  reads-it rest cut =
+      image-read (saved (boardAfter m rs)) (saved-valid rc i (i .shape .cut-setup cut)) (sound rc i rest)
+
+pub demand3 : EveryKept → Demand3
+demand3 kept m rs as′ bm br cut = go (kept m rs bm br .simulated)
+  where
+    go : Simulated m (boardAfter m rs) (acceptedIn m rs) → Holds m rs as′
+    go (by s h rc i) = holds m rs rc i (kept m rs bm br .rest) cut as′
+
+pub reads-back-all : EveryKept → ReadsBack
+reads-back-all kept m rs bm br cut = go (kept m rs bm br .simulated)
+  where
+    go : Simulated m (boardAfter m rs) (acceptedIn m rs) → readImage (image (boardAfter m rs)) ≡ Reads (saved (boardAfter m rs))
+    go (by s h rc i) = reads-it m rs rc i (kept m rs bm br .rest) cut

@@ -1,0 +1,542 @@
+-- Done and commit: what becomes done in a step, and the commits of a step, each one the undo log's Commit, until no region can commit.
+use Rattle.undo.specs.Machine as u
+use Rattle.undo.specs.History as v
+use Rattle.undo.specs.Claim as c
+use Rattle.undo.proofs.Inv as n
+use Prim.Native.Nat.{_<_, _≤_, suc, zero, ℕ}
+use mathlib.Core.Path.{_∙_, _≡_, ap, refl, sym}
+use mathlib.Core.Logic.{_≢_, _⊎_, inl, inr, ⊎-elim}
+use mathlib.Core.Bool.{Bool, _&&_, _||_, cond, false, false≢true, not, true}
+use mathlib.Core.List.{List, [], _∷_, map}
+use lib.Dec.{eqb, leb, ltb}
+use lib.ListN.{List·getD-eq-default, getD, length, length-map, length-set, replicate}
+use native.Mathlib.Omega.{arith}
+use borrow.Author.Tests.{eqb-false, eqb-true, leb-true, ltb-false, ltb-true, ne-eqb, not-false, not-true}
+use Rattle.rules.proofs.Places.{Once, Unique, any-map, any-none, at-commit, count-le, count-map, count-zero, getD-map, good-free, good-mapped, held-commit, key-at, listed-any, listed-at, listed-commit, listed-key, listed-mapped, once-mapped, once-one, region-at, region-commit, region-mapped, region-none, unique-commit, unique-mapped}
+use Rattle.rules.proofs.Sim.{GoodEntry, GoodRegion, Kept, Logs, Shape, Sim, Simulated, Told, by}
+use Rattle.rules.proofs.SimBase.{clear-waits, logs-same, memories-same, thread-stored, threads-8, told-alike}
+use Rattle.rules.proofs.SimParts.{Flown}
+use Rattle.rules.proofs.SimRegions.{free-slots, state-free}
+use Rattle.rules.proofs.SlotLaws.{no-slots}
+use Rattle.rules.proofs.Views.{entryAt, newest}
+use Rattle.rules.specs.Access.{isOf, logged}
+use Rattle.rules.specs.Acknowledge.{isEntry}
+use Rattle.rules.specs.Commit.{Settled, afterCommit, commit, commits, doneRegion, earlier, earliest, earliestFrom, freed, freedEntry, settle, settled, withoutDep}
+use Rattle.rules.specs.History.{openedIn}
+use Rattle.rules.specs.Lists.{all, count}
+use Rattle.rules.specs.Recovery.{act}
+use Rattle.rules.specs.Slots.{hasSlot}
+use Rattle.rules.specs.Step.{settledBoard}
+use Rattle.rules.specs.Tables.{Board, Memory, isHeld, isKey, listed, noEntry, noRegion, noThread, numberOf, ownerOf, placeOf, regionAt, threadAt, threadOf, withDeps, withRegions, withTables}
+use Rattle.rules.specs.declared.Entry.{Entry}
+use Rattle.rules.specs.declared.Event.{Event}
+use Rattle.rules.specs.declared.Region.{Region}
+use Rattle.undo.proofs.Inv.{Link, entries, held, no-entry, one-entry}
+use Rattle.undo.proofs.Laws.{and-true, any-of-keep, flip, is-same, never, or-false, or-true, test}
+use Rattle.undo.proofs.Shape.{rest}
+use Rattle.undo.proofs.Steps.{reached}
+use Rattle.undo.specs.Claim.{Reach, then}
+use Rattle.undo.specs.History.{History, note}
+use Rattle.undo.specs.Machine.{Clear, Commit, State, owns}
+use Rattle.undo.specs.Recovery.{olds}
+use Rattle.undo.specs.Table.{any}
+
+-- ---- the done pass
+
+done-free : doneRegion noRegion ≡ noRegion
+unfolding doneRegion
+done-free = refl
+
+done-key : (r : Region) → doneRegion r .key ≡ r .key
+unfolding doneRegion
+done-key r = refl
+
+good-done : (r : Region) → GoodRegion r → GoodRegion (doneRegion r)
+unfolding doneRegion
+good-done r g =
+    record {
+      free = λ e. rw (g .free e);
+      deps = g .deps;
+      slots = g .slots;
+      distinct = g .distinct;
+      finished = λ e. ⊎-elim
+          (λ d. g .finished d)
+          (λ d. let z = and-true (r .ended) (not (hasSlot r)) d in (z .0, not-true (hasSlot r) (z .1)))
+          (or-true (r .done) (r .ended && not (hasSlot r)) e);
+    }
+
+-- the board after the done pass
+abbrev pub afterDone : Board → Board
+afterDone b = withTables (withRegions (map doneRegion (b .tables .regions)) (b .tables)) b
+
+module _ {b : Board} {es : List Event} {s : u.State (List ℕ)} {h : v.History (List ℕ)} (i : Sim b es s h) where
+  region-done : (j : ℕ) → regionAt j (map doneRegion (b .tables .regions)) ≡ doneRegion (regionAt j (b .tables .regions))
+  region-done = region-mapped doneRegion (b .tables .regions) done-free done-key
+
+  listed-done : (j : ℕ) → listed j (map doneRegion (b .tables .regions)) ≡ listed j (b .tables .regions)
+  listed-done = listed-mapped doneRegion (b .tables .regions) done-free done-key
+
+  shape-done : Shape (afterDone b .tables)
+  unfolding doneRegion
+  shape-done =
+      let sh : Shape (b .tables) = i .shape in
+      record {
+        regions = length-map (b .tables .regions) doneRegion ∙ sh .regions;
+        threads = sh .threads;
+        logs = sh .logs;
+        owner = sh .owner;
+        lock = sh .lock;
+        good = good-mapped doneRegion (b .tables .regions) done-free done-key good-done (sh .good);
+        unique = unique-mapped doneRegion (b .tables .regions) done-free done-key (sh .unique);
+        deps-once = once-mapped doneRegion (b .tables .regions) done-free done-key (λ r. refl) (sh .deps-once);
+        size = sh .size;
+        cut-setup = sh .cut-setup;
+        thread-range = sh .thread-range;
+      }
+
+  sim-done : Sim (afterDone b) es s h
+  unfolding doneRegion ownerOf
+  sim-done =
+      record {
+        shape = shape-done;
+        memories = memories-same (afterDone b .tables) (i .memories);
+        logs = logs-same {b = b} (λ t. refl) refl refl (i .logs);
+        told = told-alike {b = b} (record { opened = λ t. refl; inside = λ t p. p; outside = λ t p. p; ends = refl; writes = refl; uses = refl })
+            (i .told .depth) (λ t. refl) (i .told .lines) refl (i .told);
+        cur = i .cur;
+        med = i .med;
+        lock = i .lock;
+        slot = λ l j. rw (region-done j) (i .slot l j);
+        dep = λ a d. rw (region-done a) (i .dep a d);
+        live = λ j. rw (listed-done j) (i .live j);
+        ended = λ j p. rw (region-done j) (i .ended j (rw (listed-done j) at p));
+        top = λ l. rw (listed-done (getD (b .tables .owner) l 0)) (i .top l);
+        waits = i .waits;
+      }
+
+  flown-done : Flown b → Flown (afterDone b)
+  unfolding doneRegion
+  flown-done f k l c e w = f k l c (rw (region-done k) at e) (rw (region-done k) at w)
+
+-- ---- which region commits next
+
+-- a region that does not commit is found only where none commits
+earliest-none : (best : Region) (rs : List Region) → commits (earliestFrom best rs) ≡ false → (commits best ≡ false) × (any commits rs ≡ false)
+unfolding earliestFrom earlier
+earliest-none best [] e = (e, refl)
+earliest-none best (r ∷ rs) e =
+    let ih = earliest-none (earlier best r) rs e in
+    test (commits r)
+    (λ d. never d (test (not (commits best) || ltb (r .stamp) (best .stamp))
+    (λ x. rw (d, x) at (ih .0))
+    (λ x. never (not-false (commits best) (or-false (not (commits best)) (ltb (r .stamp) (best .stamp)) x .0)) (rw (d, x) at (ih .0)))))
+    (λ d. rw d (rw d at (ih .0), ih .1))
+
+-- what is found stands in the list, or is what the search began with
+earliest-in : (best : Region) (rs : List Region) → (earliestFrom best rs ≡ best) ⊎ ((j : ℕ) × (j < length rs) × (earliestFrom best rs ≡ getD rs j noRegion))
+unfolding earliestFrom earlier
+earliest-in best [] = inl refl
+earliest-in best (r ∷ rs) =
+    ⊎-elim
+    (λ e. test (commits r && (not (commits best) || ltb (r .stamp) (best .stamp)))
+    (λ d. inr (0, omega arith, e ∙ rw d))
+    (λ d. inl (e ∙ rw d)))
+    (λ z. inr (suc (z .0), omega (arith, z .1), z .2))
+    (earliest-in (earlier best r) rs)
+
+-- the region that is found, where one commits
+ready : (rs : List Region) → Unique rs → commits (earliest rs) ≡ true
+    → (listed (earliest rs .key) rs ≡ true) × (commits (regionAt (earliest rs .key) rs) ≡ true)
+unfolding commits
+ready rs un e =
+    ⊎-elim
+    (λ q. absurd (false≢true (rw q at e)))
+    (λ z. let held : isHeld (getD rs (z .0) noRegion) ≡ true
+    = and-true (isHeld (getD rs (z .0) noRegion)) (getD rs (z .0) noRegion .done && all (eqb 0) (getD rs (z .0) noRegion .deps)) (rw (z .2) at e) .0 in
+    let key : getD rs (z .0) noRegion .key ≢ 0 = eqb-false (getD rs (z .0) noRegion .key) 0 (not-true (eqb (getD rs (z .0) noRegion .key) 0) held) in
+    rw (z .2) (listed-at (z .0) rs key (z .1), rw (region-at (z .0) rs un key) (rw (z .2) at e)))
+    (earliest-in noRegion rs)
+
+-- ---- the tables of one commit
+
+-- dependences that are all free
+no-deps : (q : ℕ) (ds : List ℕ) → eqb q 0 ≡ false → all (eqb 0) ds ≡ true → any (eqb q) ds ≡ false
+no-deps q [] n e = refl
+no-deps q (d ∷ ds) n e =
+    let z = and-true (eqb 0 d) (all (eqb 0) ds) e in
+    let x : eqb q d ≡ false = rw (← eqb-true 0 d (z .0)) n in
+    rw x (no-deps q ds n (z .1))
+
+without-zero : (k : ℕ) → withoutDep k 0 ≡ 0
+without-zero k = test (eqb 0 k) (λ d. rw d) (λ d. rw d)
+
+any-without : (d k : ℕ) (ds : List ℕ) → eqb d 0 ≡ false → any (eqb d) (map (withoutDep k) ds) ≡ (not (eqb d k) && any (eqb d) ds)
+any-without d k [] n = test (eqb d k) (λ e. rw e) (λ e. rw e)
+any-without d k (x ∷ ds) n =
+    let ih = any-without d k ds n in
+    test (eqb x k)
+    (λ e. test (eqb d k)
+    (λ f. rw (e, n, f) (rw f at ih))
+    (λ f. let y : eqb d x ≡ false = rw (eqb-true x k e) f in rw (e, n, f, y) (rw f at ih)))
+    (λ e. test (eqb d k)
+    (λ f. let y : eqb d x ≡ false = rw (eqb-true d k f) (flip x k e) in rw (e, f, y) (rw f at ih))
+    (λ f. rw (e, f) (ap {A = Bool} (λ y. eqb d x || y) (rw f at ih))))
+
+once-without : (k : ℕ) (ds : List ℕ) → Once ds → Once (map (withoutDep k) ds)
+once-without k ds o a b n e =
+    o a b (rw (stays a n) at n) (sym (stays a n) ∙ e ∙ stays b (rw e at n))
+  where
+    stays : (a : ℕ) → getD (map (withoutDep k) ds) a 0 ≢ 0 → getD (map (withoutDep k) ds) a 0 ≡ getD ds a 0
+    stays a n =
+        let q : getD (map (withoutDep k) ds) a 0 ≡ withoutDep k (getD ds a 0) = getD-map (withoutDep k) ds a 0 0 (without-zero k) in
+        test (eqb (getD ds a 0) k)
+        (λ d. absurd (n (q ∙ rw d)))
+        (λ d. q ∙ rw d)
+
+good-after : (k : ℕ) (r : Region) → eqb k 0 ≡ false → GoodRegion r → GoodRegion (afterCommit k r)
+unfolding afterCommit
+good-after k r nz g =
+    test (eqb (r .key) k)
+    (λ d. rw d free-good)
+    (λ d. rw d (record {
+      free = λ e. rw (g .free e) (free k nz);
+      deps = length-map (r .deps) (withoutDep k) ∙ g .deps;
+      slots = g .slots;
+      distinct = g .distinct;
+      finished = g .finished;
+    }))
+  where
+    free : (k : ℕ) → eqb k 0 ≡ false → withDeps (map (withoutDep k) (replicate 4 0)) noRegion ≡ noRegion
+    free k nz = rw (flip k 0 nz)
+
+    free-good : GoodRegion noRegion
+    free-good =
+        record { free = λ e. refl; deps = refl; slots = refl; distinct = free-slots 8; finished = λ e. absurd (false≢true e) }
+
+once-after : (k : ℕ) (r : Region) → Once (r .deps) → Once (afterCommit k r .deps)
+unfolding afterCommit
+once-after k r o = test (eqb (r .key) k) (λ d. rw d (once-one 0 3)) (λ d. rw d (once-without k (r .deps) o))
+
+-- entries
+map-same : {A : Type 0} (f : A → A) (xs : List A) (d : A) → ((j : ℕ) → f (getD xs j d) ≡ getD xs j d) → map f xs ≡ xs
+map-same f [] d h = refl
+map-same f (x ∷ xs) d h = rw (h 0, map-same f xs d (λ j. h (suc j)))
+
+freed-none : (k : ℕ) → freedEntry k noEntry ≡ noEntry
+freed-none k = test (eqb 0 k) (λ d. rw d) (λ d. rw d)
+
+-- a test for another region does not see what is freed
+freed-of : (k a : ℕ) (e : Entry) → eqb a k ≡ false → eqb a 0 ≡ false → isOf a (freedEntry k e) ≡ isOf a e
+freed-of k a e d z =
+    test (eqb (e .key) k)
+    (λ x. let y : eqb (e .key) a ≡ false = rw (eqb-true (e .key) k x) (flip a k d) in rw (x, flip a 0 z, y))
+    (λ x. rw x)
+
+freed-entry : (k a l : ℕ) (e : Entry) → eqb a k ≡ false → eqb a 0 ≡ false → isEntry a l (freedEntry k e) ≡ isEntry a l e
+freed-entry k a l e d z =
+    test (eqb (e .key) k)
+    (λ x. let y : eqb (e .key) a ≡ false = rw (eqb-true (e .key) k x) (flip a k d) in rw (x, flip a 0 z, y))
+    (λ x. rw x)
+
+-- ---- a line's entries without those of region k, which depends on none: its entry can only be the oldest
+
+module _ (dep : ℕ → ℕ → Bool) (k : ℕ) (alone : (q : ℕ) → dep k q ≡ false) where
+  owns-freed : {es : List (u.Entry (List ℕ))} (j : ℕ) → eqb j k ≡ false → n.Link dep es → u.owns j (u.freed k es) ≡ u.owns j es
+  owns-freed j d n.no-entry = refl
+  owns-freed j d (n.one-entry {e}) =
+      test (eqb k (e .rid)) (λ x. rw (x, ← eqb-true k (e .rid) x, d)) (λ x. rw x)
+  owns-freed j d (n.entries {e} {f} {c} a l rest) =
+      test (eqb k (e .rid)) (λ x. never (rw (← eqb-true k (e .rid) x) at l) (alone (f .rid))) (λ x. rw x)
+
+  newest-freed : {es : List (u.Entry (List ℕ))} → n.Link dep es → newest (u.freed k es) ≡ cond (eqb (newest es) k) 0 (newest es)
+  newest-freed n.no-entry = test (eqb 0 k) (λ x. rw x) (λ x. rw x)
+  newest-freed (n.one-entry {e}) =
+      test (eqb k (e .rid)) (λ x. rw (x, ← eqb-true k (e .rid) x, is-same k)) (λ x. rw (x, flip k (e .rid) x))
+  newest-freed (n.entries {e} {f} {c} a l rest) =
+      test (eqb k (e .rid)) (λ x. never (rw (← eqb-true k (e .rid) x) at l) (alone (f .rid))) (λ x. rw (x, flip k (e .rid) x))
+
+olds-freed : (k j : ℕ) (es : List (u.Entry (List ℕ))) → eqb j k ≡ false → olds (eqb j) (u.freed k es) ≡ olds (eqb j) es
+olds-freed k j [] d = refl
+olds-freed k j (e ∷ es) d =
+    let ih = olds-freed k j es d in
+    test (eqb k (e .rid))
+    (λ x. let y : eqb j (e .rid) ≡ false = rw (← eqb-true k (e .rid) x) d in rw (x, y) ih)
+    (λ x. simp (x, ih))
+
+logged-freed : (k j : ℕ) (es : List (u.Entry (List ℕ))) → c.logged j (u.freed k es) ≡ true → (eqb j k ≡ false) × (c.logged j es ≡ true)
+logged-freed k j es e = (test (eqb j k) (λ d. never (rw (eqb-true j k d) at e) (gone es)) (λ d. d), any-of-keep (λ x. eqb j (x .rid)) (λ x. not (eqb k (x .rid))) es e)
+  where
+    gone : (es : List (u.Entry (List ℕ))) → c.logged k (u.freed k es) ≡ false
+    gone [] = refl
+    gone (x ∷ es) = test (eqb k (x .rid)) (λ d. rw d (gone es)) (λ d. rw (d, d) (gone es))
+
+-- ---- one commit
+
+module _ {m : ℕ → List ℕ} {b : Board} {es : List Event} {s : u.State (List ℕ)} {h : v.History (List ℕ)} (rc : Reach m s h) (i : Sim b es s h)
+    (k : ℕ) (in′ : listed k (b .tables .regions) ≡ true) (cm : commits (regionAt k (b .tables .regions)) ≡ true) where
+  nz : eqb k 0 ≡ false
+  nz = listed-key k (b .tables .regions) in′
+
+  is-done : (regionAt k (b .tables .regions) .done ≡ true) × (all (eqb 0) (regionAt k (b .tables .regions) .deps) ≡ true)
+  unfolding commits
+  is-done =
+      and-true (regionAt k (b .tables .regions) .done) (all (eqb 0) (regionAt k (b .tables .regions) .deps))
+      (and-true (isHeld (regionAt k (b .tables .regions))) (regionAt k (b .tables .regions) .done && all (eqb 0) (regionAt k (b .tables .regions) .deps)) cm .1)
+
+  is-finished : (regionAt k (b .tables .regions) .ended ≡ true) × (hasSlot (regionAt k (b .tables .regions)) ≡ false)
+  is-finished = i .shape .good (placeOf k (b .tables .regions)) .finished (is-done .0)
+
+  k-over : s .over k ≡ true
+  k-over = sym (i .ended k in′) ∙ is-finished .0
+
+  k-clear : (l : ℕ) → s .slot l k ≡ u.Clear
+  k-clear l = i .slot l k ∙ rw (no-slots l (regionAt k (b .tables .regions) .slots) (is-finished .1))
+
+  k-alone : (q : ℕ) → s .dep k q ≡ false
+  k-alone q =
+      i .dep k q
+      ∙ test (eqb q 0) (λ z. rw z) (λ z. rw (z, no-deps q (regionAt k (b .tables .regions) .deps) z (is-done .1)))
+
+  k-born : s .born k ≡ true
+  k-born = reached rc .begun k k-over
+
+  -- the thread of a region that has begun has one
+  k-thread : threadOf k < b .tables .size .threads
+  k-thread =
+      test (ltb (threadOf k) (b .tables .size .threads))
+      (λ d. ltb-true (threadOf k) (b .tables .size .threads) d)
+      (λ d. let e : threadAt (threadOf k) (b .tables) ≡ noThread = i .shape .thread-range (threadOf k) (ltb-false (threadOf k) (b .tables .size .threads) d) in
+      let z : openedIn (threadOf k) es ≡ 0 = sym (i .told .last (threadOf k)) ∙ rw e in
+      let x = and-true (not (eqb (numberOf k) 0)) (leb (numberOf k) (openedIn (threadOf k) es)) (sym (i .told .born k) ∙ k-born) in
+      absurd (omega (arith, z, leb-true (numberOf k) (openedIn (threadOf k) es) (x .1), eqb-false (numberOf k) 0 (not-true (eqb (numberOf k) 0) (x .0)))))
+
+  reach-commit : Reach m (u.act s (u.Commit k)) h
+  unfolding v.note
+  reach-commit = then rc (u.Commit k) (u.commits {r = k} k-over k-clear k-alone)
+
+  thread-commit : (j : ℕ) → threadAt j (commit k (b .tables)) ≡ cond (eqb j (threadOf k)) (freed k (threadAt (threadOf k) (b .tables))) (threadAt j (b .tables))
+  unfolding commit
+  thread-commit =
+      thread-stored (threadOf k) (freed k (threadAt (threadOf k) (b .tables))) (withRegions (map (afterCommit k) (b .tables .regions)) (b .tables))
+      (omega (arith, k-thread, threads-8 (b .tables) (i .shape), i .shape .threads))
+
+  -- an entry of another thread is not of region k
+  entry-other : (t j : ℕ) → eqb t (threadOf k) ≡ false → freedEntry k (entryAt t j (b .tables)) ≡ entryAt t j (b .tables)
+  entry-other t j d =
+      test (eqb (entryAt t j (b .tables) .key) k)
+      (λ e. let q : entryAt t j (b .tables) .key ≡ k = eqb-true (entryAt t j (b .tables) .key) k e in
+      let x : threadOf (entryAt t j (b .tables) .key) ≡ t
+      = i .logs .entry t j (λ z. eqb-false k 0 nz (sym q ∙ z)) .thread in
+      absurd (eqb-false t (threadOf k) d (sym x ∙ rw q)))
+      (λ e. rw e)
+
+  log-commit : (t : ℕ) → threadAt t (commit k (b .tables)) .log ≡ map (freedEntry k) (threadAt t (b .tables) .log)
+  unfolding freed
+  log-commit t =
+      rw (thread-commit t)
+      (test (eqb t (threadOf k))
+      (λ d. rw (d, eqb-true t (threadOf k) d))
+      (λ d. rw d (sym (map-same (freedEntry k) (threadAt t (b .tables) .log) noEntry (λ j. entry-other t j d)))))
+
+  entry-commit : (t j : ℕ) → entryAt t j (commit k (b .tables)) ≡ freedEntry k (entryAt t j (b .tables))
+  entry-commit t j = rw (log-commit t) (getD-map (freedEntry k) (threadAt t (b .tables) .log) j noEntry noEntry (freed-none k))
+
+  -- an entry that is left is as it was, and of another region
+  left : (t j : ℕ) → entryAt t j (commit k (b .tables)) .key ≢ 0
+      → (entryAt t j (commit k (b .tables)) ≡ entryAt t j (b .tables)) × (eqb (entryAt t j (b .tables) .key) k ≡ false)
+  left t j x =
+      test (eqb (entryAt t j (b .tables) .key) k)
+      (λ d. absurd (x (rw (entry-commit t j, d))))
+      (λ d. (rw (entry-commit t j, d), d))
+
+  isKey-at : (j : ℕ) → isKey k (regionAt j (b .tables .regions)) ≡ eqb j k
+  isKey-at j =
+      test (listed j (b .tables .regions))
+      (λ d. rw (key-at j (b .tables .regions) d))
+      (λ d. rw (region-none j (b .tables .regions) (good-free (b .tables .regions) (i .shape .good)) d, flip k 0 nz)
+      (sym (ne-eqb j k (λ q. never (rw q in′) d))))
+
+  region-after : (j : ℕ) → regionAt j (map (afterCommit k) (b .tables .regions))
+      ≡ cond (eqb j k) noRegion (withDeps (map (withoutDep k) (regionAt j (b .tables .regions) .deps)) (regionAt j (b .tables .regions)))
+  unfolding afterCommit
+  region-after j = region-commit k (b .tables .regions) nz (good-free (b .tables .regions) (i .shape .good)) j ∙ rw (isKey-at j)
+
+  listed-after : (j : ℕ) → listed j (map (afterCommit k) (b .tables .regions)) ≡ (not (eqb j k) && listed j (b .tables .regions))
+  listed-after = listed-commit k (b .tables .regions) nz
+
+  shape-commit : Shape (commit k (b .tables))
+  unfolding commit freed
+  shape-commit =
+      let sh : Shape (b .tables) = i .shape in
+      record {
+        regions = length-map (b .tables .regions) (afterCommit k) ∙ sh .regions;
+        threads = length-set (b .tables .threads) (threadOf k) (freed k (threadAt (threadOf k) (b .tables))) ∙ sh .threads;
+        logs = λ t. rw (log-commit t) (length-map (threadAt t (b .tables) .log) (freedEntry k) ∙ sh .logs t);
+        owner = sh .owner;
+        lock = sh .lock;
+        good = λ j. rw (at-commit k (b .tables .regions) nz j) (good-after k (getD (b .tables .regions) j noRegion) nz (sh .good j));
+        unique = unique-commit k (b .tables .regions) nz (sh .unique);
+        deps-once = λ j. rw (at-commit k (b .tables .regions) nz j) (once-after k (getD (b .tables .regions) j noRegion) (sh .deps-once j));
+        size = sh .size;
+        cut-setup = sh .cut-setup;
+        thread-range = λ t g. rw (thread-commit t, ne-eqb t (threadOf k) (λ q. omega (arith, k-thread))) (sh .thread-range t g);
+      }
+
+  logs-commit : Logs (withTables (commit k (b .tables)) b) (u.act s (u.Commit k))
+  unfolding u.act commit
+  logs-commit =
+      record {
+        entry = λ t j x. let z = left t j x in let y : entryAt t j (b .tables) .key ≢ 0 = rw (z .0) at x in rw (z .0) (good t j (z .1) y (i .logs .entry t j y));
+        empty = λ t j e. test (eqb (entryAt t j (b .tables) .key) k)
+            (λ d. rw (entry-commit t j, d))
+            (λ d. rw (entry-commit t j, d) (i .logs .empty t j (rw (entry-commit t j, d) at e)));
+        present = λ a l e. let z = logged-freed k a (s .chain l) e in
+            rw (
+              log-commit (threadOf a),
+              any-map (isEntry a l) (isEntry a l) (freedEntry k) (threadAt (threadOf a) (b .tables) .log) (λ x. freed-entry k a l x (z .0) (begun-nz a (reached rc .listed l a (z .1) .0))),
+            )
+            (i .logs .present a l (z .1));
+        once = λ t j a x e d. let z = left t j x in let y = left t a (rw e at x) in
+            i .logs .once t j a (rw (z .0) at x) (rw (z .0, y .0) at e) (rw (z .0, y .0) at d);
+        ranks = λ t j a x e d. let z = left t j x in let y = left t a (rw e at x) in
+            i .logs .ranks t j a (rw (z .0) at x) (rw (z .0, y .0) at e) (rw (z .0, y .0) at d);
+      }
+    where
+      -- no region that has begun has the key 0
+      begun-nz : (a : ℕ) → s .born a ≡ true → eqb a 0 ≡ false
+      begun-nz a e = ne-eqb a 0 (λ q. false≢true (sym (i .told .born 0) ∙ rw q at e))
+
+      good : (t j : ℕ) → eqb (entryAt t j (b .tables) .key) k ≡ false → entryAt t j (b .tables) .key ≢ 0 → GoodEntry b s t j (entryAt t j (b .tables))
+          → GoodEntry (withTables (commit k (b .tables)) b) (u.act s (u.Commit k)) t j (entryAt t j (b .tables))
+      good t j d x g =
+          record {
+            thread = g .thread;
+            line = g .line;
+            rank = rw (
+              log-commit t,
+              count-map (isOf (entryAt t j (b .tables) .key)) (isOf (entryAt t j (b .tables) .key)) (freedEntry k) (threadAt t (b .tables) .log)
+                  (λ e. freed-of k (entryAt t j (b .tables) .key) e d (ne-eqb (entryAt t j (b .tables) .key) 0 x)),
+            )
+                (g .rank);
+            old = olds-freed k (entryAt t j (b .tables) .key) (s .chain (entryAt t j (b .tables) .line)) d ∙ g .old;
+            flight = rw (owns-freed (s .dep) k k-alone (entryAt t j (b .tables) .key) d (reached rc .links (entryAt t j (b .tables) .line))) (g .flight);
+          }
+
+  told-commit : Told (withTables (commit k (b .tables)) b) es (u.act s (u.Commit k)) h
+  unfolding u.act commit freed
+  told-commit =
+      record {
+        depth = λ t. rw (thread-commit t) (test (eqb t (threadOf k)) (λ d. rw (d, eqb-true t (threadOf k) d) (i .told .depth (threadOf k))) (λ d. rw d (i .told .depth t)));
+        last = λ t. rw (thread-commit t) (test (eqb t (threadOf k)) (λ d. rw (d, eqb-true t (threadOf k) d) (i .told .last (threadOf k))) (λ d. rw d (i .told .last t)));
+        numbers = i .told .numbers;
+        lines = i .told .lines;
+        born = i .told .born;
+        ends = i .told .ends;
+        writes = i .told .writes;
+        uses = λ a q e x. ⊎-elim (λ y. inl y) (λ y. inr (test (eqb q k) (λ d. rw d) (λ d. rw d y))) (i .told .uses a q e x);
+        open-last = λ a p. i .told .open-last a (record { began = p .began; goes-on = p .goes-on });
+        last-open = λ t x. let p = i .told .last-open t x in record { began = p .began; goes-on = p .goes-on };
+        owner = i .told .owner;
+      }
+
+  sim-commit : Sim (withTables (commit k (b .tables)) b) es (u.act s (u.Commit k)) h
+  unfolding u.act commit ownerOf
+  sim-commit =
+      record {
+        shape = shape-commit;
+        memories = memories-same (commit k (b .tables)) (i .memories);
+        logs = logs-commit;
+        told = told-commit;
+        cur = i .cur;
+        med = i .med;
+        lock = i .lock;
+        slot = λ l j. rw (region-after j) (test (eqb j k)
+            (λ d. rw (d, eqb-true j k d, state-free l) (k-clear l))
+            (λ d. rw d (i .slot l j)));
+        dep = λ a d. rw (region-after a) (test (eqb d 0)
+            (λ z. rw z (test (eqb d k) (λ y. rw y) (λ y. rw y (i .dep a d ∙ rw z))))
+            (λ z. rw z (test (eqb a k)
+            (λ y. rw (y, z, eqb-true a k y, k-alone d) (test (eqb d k) (λ x. rw x) (λ x. rw x)))
+            (λ y. rw (y, any-without d k (regionAt a (b .tables .regions) .deps) z)
+            (test (eqb d k) (λ x. rw x) (λ x. rw x (rw z at (i .dep a d))))))));
+        live = λ j. rw (listed-after j, i .live j) (test (eqb j k)
+            (λ d. rw d (test (s .born j) (λ y. rw y) (λ y. rw y)))
+            (λ d. rw d));
+        ended = λ j p. let z = and-true (not (eqb j k)) (listed j (b .tables .regions)) (sym (listed-after j) ∙ p) in
+            rw (region-after j, not-true (eqb j k) (z .0)) (i .ended j (z .1));
+        top = λ l. rw (listed-after (getD (b .tables .owner) l 0), newest-freed (s .dep) k k-alone (reached rc .links l), i .top l)
+            (owner-after (getD (b .tables .owner) l 0) (listed (getD (b .tables .owner) l 0) (b .tables .regions)));
+        waits = λ l j w. rw (newest-freed (s .dep) k k-alone (reached rc .links l), i .waits l j w, ne-eqb j k (λ q. clear-waits (sym (k-clear l) ∙ rw q at w)));
+      }
+    where
+      owner-after : (a : ℕ) (x : Bool) → cond (eqb (cond x a 0) k) 0 (cond x a 0) ≡ cond (not (eqb a k) && x) a 0
+      owner-after a true = test (eqb a k) (λ d. rw d) (λ d. rw d)
+      owner-after a false = test (eqb 0 k) (λ d. test (eqb a k) (λ y. rw (d, y)) (λ y. rw (d, y))) (λ d. test (eqb a k) (λ y. rw (d, y)) (λ y. rw (d, y)))
+
+  flown-commit : Flown b → Flown (withTables (commit k (b .tables)) b)
+  unfolding commit
+  flown-commit f j l c e w =
+      test (eqb j k)
+      (λ d. absurd (false≢true (rw (region-after j, d) at e)))
+      (λ d. f j l c (rw (region-after j, d) at e) (rw (region-after j, d) at w))
+
+-- ---- the commits of a step
+
+commits-one : {m : Memory} {b : Board} {es : List Event} (k : ℕ) → listed k (b .tables .regions) ≡ true → commits (regionAt k (b .tables .regions)) ≡ true
+    → Simulated m b es → Flown b → Simulated m (withTables (commit k (b .tables)) b) es × Flown (withTables (commit k (b .tables)) b)
+commits-one k in′ cm (by s h rc i) f = (by (u.act s (u.Commit k)) h (reach-commit rc i k in′ cm) (sim-commit rc i k in′ cm), flown-commit rc i k in′ cm f)
+
+unique-regions : {m : Memory} {b : Board} {es : List Event} → Simulated m b es → Unique (b .tables .regions)
+unique-regions (by s h rc i) = i .shape .unique
+
+-- no region of the list commits
+none-commits : (rs : List Region) → any commits rs ≡ false → (j : ℕ) → commits (getD rs j noRegion) ≡ false
+unfolding commits
+none-commits rs e j =
+    test (ltb j (length rs))
+    (λ d. any-none commits rs j noRegion e (ltb-true j (length rs) d))
+    (λ d. rw (List·getD-eq-default rs noRegion (ltb-false j (length rs) d)))
+
+-- nor one of a list without regions
+free-list : (rs : List Region) → any isHeld rs ≡ false → any commits rs ≡ false
+unfolding commits
+free-list [] e = refl
+free-list (r ∷ rs) e = let z = or-false (isHeld r) (any isHeld rs) e in rw (z .0) (free-list rs (z .1))
+
+-- n commits are enough where n regions are listed
+settle-kept : {m : Memory} {es : List Event} (n a : ℕ) (b : Board) → count isHeld (b .tables .regions) ≤ n → Simulated m b es → Flown b
+    → Kept m (withTables (settle n a (b .tables) .tables) b) es
+unfolding settle commit
+settle-kept zero a b le k f =
+    record {
+      simulated = k;
+      rest = record {
+        flown = f;
+        settled = none-commits (b .tables .regions) (free-list (b .tables .regions) (count-zero isHeld (b .tables .regions) (omega arith)));
+      };
+    }
+settle-kept {m} {es} (suc n) a b le k f = go (commits (earliest (b .tables .regions))) refl (λ b′. settle-kept n (suc a) b′)
+  where
+    go : (x : Bool) → commits (earliest (b .tables .regions)) ≡ x
+        → ((b′ : Board) → count isHeld (b′ .tables .regions) ≤ n → Simulated m b′ es → Flown b′ → Kept m (withTables (settle n (suc a) (b′ .tables) .tables) b′) es)
+        → Kept m (withTables ((elim x as (λ y. Settled) [ false ↦ record { tables = b .tables; commits = a } | true ↦ settle n (suc a) (commit (earliest (b .tables .regions) .key) (b .tables)) ]) .tables) b) es
+    go false e ih =
+        record { simulated = k; rest = record { flown = f; settled = none-commits (b .tables .regions) (earliest-none noRegion (b .tables .regions) e .1) } }
+    go true e ih =
+        let r = ready (b .tables .regions) (unique-regions k) e in
+        let z = commits-one (earliest (b .tables .regions) .key) (r .0) (r .1) k f in
+        ih (withTables (commit (earliest (b .tables .regions) .key) (b .tables)) b)
+        (omega (
+          arith,
+          held-commit (earliest (b .tables .regions) .key) (b .tables .regions)
+              (listed-key (earliest (b .tables .regions) .key) (b .tables .regions) (r .0)) (listed-any (earliest (b .tables .regions) .key) (b .tables .regions) (r .0)),
+        ))
+        (z .0) (z .1)
+
+-- what the done pass and the commits make of a board
+pub settles : {m : Memory} {b : Board} {es : List Event} → Simulated m b es → Flown b → Kept m (settledBoard b .board) es
+unfolding settledBoard settled
+settles {b} (by s h rc i) f =
+    settle-kept (length (b .tables .regions)) 0 (afterDone b)
+    (omega (arith, count-le isHeld (map doneRegion (b .tables .regions)), length-map (b .tables .regions) doneRegion))
+    (by s h rc (sim-done i)) (flown-done i f)

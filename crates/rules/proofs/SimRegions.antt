@@ -1,0 +1,702 @@
+-- Begin, end, setup, cut and fence keep the relation.
+use Rattle.undo.specs.Machine as u
+use Rattle.undo.specs.History as v
+use Prim.Native.Nat.{_+_, _-_, _<_, suc, zero, ℕ}
+use mathlib.Core.Path.{_∙_, _≡_, ap, refl, sym}
+use mathlib.Core.Logic.{_≢_, _⊎_, inl, inr, ⊎-elim}
+use mathlib.Core.Bool.{Bool, _&&_, _||_, cond, false, false≢true, not, true, true≢false}
+use mathlib.Core.List.{List, _∷_}
+use lib.Dec.{eqb, leb, ltb}
+use lib.ListN.{List·getD-eq-default, getD, getD-replicate, length-set, replicate, set}
+use native.Mathlib.Omega.{arith}
+use borrow.Author.Tests.{eqb-false, eqb-true, le-leb, leb-false, leb-true, lt-leb, ltb-false, ltb-true, ne-eqb, not-false, not-true}
+use Rattle.rules.proofs.FoundRising.{no-more}
+use Rattle.rules.proofs.Places.{count-room, each-set, eqb-swap, getD-set, good-free, good-new, good-stored, key-at, listed-key, listed-new, listed-stored, once-new, once-one, once-stored, region-new, region-none, region-stored, unique-new, unique-stored, unlisted-any}
+use Rattle.rules.proofs.Sim.{Distinct, GoodRegion, Keeps, Kept, Rest, Shape, Sim, Simulated, Told, by, more, none}
+use Rattle.rules.proofs.SimBase.{Alike, Unrefused, accepted, alter, key-number, key-split, key-thread, logs-over, logs-same, memories-same, owner-born, rest-alter, shape-thread, sim-alter, thread-stored, threads-8, told-alike}
+use Rattle.rules.proofs.SimFlight.{flights, flown-rest}
+use Rattle.rules.proofs.SimParts.{Flown, once-at, open-listed}
+use Rattle.rules.proofs.Views.{entryAt, isOpened, stateOf}
+use Rattle.rules.specs.Begin.{begin, begun, deeper, opened}
+use Rattle.rules.specs.Commit.{commits}
+use Rattle.rules.specs.End.{closed, endRegion, endedRegion, shallower, tick}
+use Rattle.rules.specs.Flight.{flown}
+use Rattle.rules.specs.History.{Use, depthIn, drawsOn, endsIn, linesIn, openedIn, regionIn, usesIn, writesIn}
+use Rattle.rules.specs.Lists.{count}
+use Rattle.rules.specs.Reader.{nothing}
+use Rattle.rules.specs.Recovery.{act}
+use Rattle.rules.specs.Refusal.{depthOf, inRange, isSetUp, refusal, testsOf}
+use Rattle.rules.specs.Step.{apply, setup, withCut}
+use Rattle.rules.specs.Tables.{Board, Memory, current, isHeld, isKey, keyOf, listed, noEntry, noRegion, noSlot, noThread, numberOf, ownerOf, placeOf, regionAt, threadAt, threadOf, withTables, withThread}
+use Rattle.rules.specs.declared.Entry.{Entry}
+use Rattle.rules.specs.declared.Event.{Event}
+use Rattle.rules.specs.declared.Event.the-variants.{Begin, Cut, End, Fence, Setup}
+use Rattle.rules.specs.declared.Region.{Region}
+use Rattle.rules.specs.declared.Size.{Size}
+use Rattle.rules.specs.declared.SlotState.the-variants.{Empty, Waiting}
+use Rattle.rules.specs.declared.Tables.{Tables}
+use Rattle.rules.specs.declared.Thread.{Thread}
+use Rattle.undo.proofs.Laws.{and-true, flip, is-same, never, or-right, or-true, test}
+use Rattle.undo.proofs.Main.{structured}
+use Rattle.undo.specs.Claim.{Reach, Structure, then}
+use Rattle.undo.specs.History.{History, note, used}
+use Rattle.undo.specs.Machine.{Depend, Open, State, begins, depends, ends, withBorn, withDep, withOver}
+use Rattle.undo.specs.Recovery.{older}
+use Rattle.undo.specs.Table.{any, put}
+
+-- an event that says nothing of regions and lines
+pub alike-cut : (es : List Event) → Alike es (Cut ∷ es)
+unfolding openedIn depthIn endsIn writesIn usesIn
+alike-cut es =
+    record { opened = λ t. refl; inside = λ t n. n; outside = λ t n. n; ends = refl; writes = refl; uses = refl }
+
+pub alike-fence : (t : ℕ) (es : List Event) → Alike es (Fence t ∷ es)
+unfolding openedIn depthIn endsIn writesIn usesIn
+alike-fence t es =
+    record { opened = λ t. refl; inside = λ t n. n; outside = λ t n. n; ends = refl; writes = refl; uses = refl }
+
+pub alike-setup : (n l : ℕ) (es : List Event) → Alike es (Setup n l ∷ es)
+unfolding openedIn depthIn endsIn writesIn usesIn
+alike-setup n l es =
+    record { opened = λ t. refl; inside = λ t n. n; outside = λ t n. n; ends = refl; writes = refl; uses = refl }
+
+-- ---- fence, cut
+
+pub keeps-fence : (t : ℕ) → Keeps (Fence t)
+unfolding apply depthIn linesIn
+keeps-fence t m b es q r k = record { simulated = go (k .simulated); rest = k .rest }
+  where
+    go : Simulated m b es → Simulated m b (Fence t ∷ es)
+    go (by s h rc i) =
+        by s h rc
+        (sim-alter {b = b} (b .tables .size) (b .tables .cut) (b .tables .clock) (b .tables .threads) (i .shape) (i .logs)
+        (told-alike (alike-fence t es) (i .told .depth) (λ u. refl) (i .told .lines) refl (i .told)) i)
+
+pub keeps-cut : Keeps Cut
+unfolding apply testsOf depthIn linesIn
+keeps-cut m b es q r k =
+    record {
+      simulated = go (k .simulated);
+      rest = rest-alter {b = b} (b .tables .size) true (b .tables .clock) (b .tables .threads) (k .rest);
+    }
+  where
+    set-up : isSetUp (b .tables) ≡ true
+    set-up = not-false (isSetUp (b .tables)) (accepted (b .tables) Cut r .0)
+
+    go : Simulated m b es → Simulated m (withTables (withCut (b .tables)) b) (Cut ∷ es)
+    go (by s h rc i) =
+        let sh : Shape (b .tables) = i .shape in
+        by s h rc
+        (sim-alter {b = b} (b .tables .size) true (b .tables .clock) (b .tables .threads)
+        (record {
+          regions = sh .regions;
+          threads = sh .threads;
+          logs = sh .logs;
+          owner = sh .owner;
+          lock = sh .lock;
+          good = sh .good;
+          unique = sh .unique;
+          deps-once = sh .deps-once;
+          size = sh .size;
+          cut-setup = λ e. set-up;
+          thread-range = sh .thread-range;
+        })
+        (logs-same {b = b} (λ t. refl) refl refl (i .logs))
+        (told-alike {b = b} (alike-cut es) (i .told .depth) (λ t. refl) (i .told .lines) refl (i .told)) i)
+
+-- ---- setup
+
+abbrev size′ : ℕ → ℕ → Board → Size
+size′ n l b = record { threads = n; lines = l; zero = b .tables .size .zero; lent = b .tables .size .lent }
+
+pub keeps-setup : (n l : ℕ) → Keeps (Setup n l)
+unfolding apply setup testsOf depthIn linesIn
+keeps-setup n l m b es q r k =
+    record {
+      simulated = go (k .simulated);
+      rest = rest-alter {b = b} (size′ n l b) (b .tables .cut) (b .tables .clock) (b .tables .threads) (k .rest);
+    }
+  where
+    facts : (inRange n l ≡ true) × (isSetUp (b .tables) ≡ false)
+    facts =
+        let p = accepted (b .tables) (Setup n l) r in
+        (not-false (inRange n l) (p .0), p .1 .1 .0)
+
+    go : Simulated m b es → Simulated m (withTables (alter (size′ n l b) (b .tables .cut) (b .tables .clock) (b .tables .threads) (b .tables)) b) (Setup n l ∷ es)
+    go (by s h rc i) =
+        let sh : Shape (b .tables) = i .shape in
+        let none′ : (t : ℕ) → threadAt t (b .tables) ≡ noThread = λ t. sh .thread-range t (rw (sh .size (facts .1)) (omega arith)) in
+        let nothing : (t j : ℕ) → entryAt t j (b .tables) .key ≡ 0
+        = λ t j. rw (none′ t) (test (ltb j 32)
+        (λ e. ap {A = Entry} (λ x. x .key) (getD-replicate 32 j noEntry noEntry (ltb-true j 32 e)))
+        (λ e. ap {A = Entry} (λ x. x .key) (List·getD-eq-default (replicate 32 noEntry) noEntry (ltb-false j 32 e)))) in
+        by s h rc
+        (sim-alter {b = b} (size′ n l b) (b .tables .cut) (b .tables .clock) (b .tables .threads)
+        (record {
+          regions = sh .regions;
+          threads = sh .threads;
+          logs = sh .logs;
+          owner = sh .owner;
+          lock = sh .lock;
+          good = sh .good;
+          unique = sh .unique;
+          deps-once = sh .deps-once;
+          size = λ e. never (facts .0) e;
+          cut-setup = λ e. facts .0;
+          thread-range = λ t g. none′ t;
+        })
+        (record {
+          entry = λ t j n. absurd (n (nothing t j));
+          empty = i .logs .empty;
+          present = i .logs .present;
+          once = i .logs .once;
+          ranks = i .logs .ranks;
+        })
+        (told-alike {b = b} (alike-setup n l es) (i .told .depth) (λ t. refl) (λ e. refl) refl (i .told)) i)
+
+-- ---- nested begin and end: a thread gets another depth, and nothing else changes
+
+abbrev deep : ℕ → ℕ → Tables → Tables
+deep t d ts = withThread t (record { depth = d; last = threadAt t ts .last; log = threadAt t ts .log }) ts
+
+kept-depth : (m : Memory) (b : Board) (es : List Event) (e : Event) (t d : ℕ) → t < b .tables .size .threads → Alike es (e ∷ es)
+    → ((k : ℕ) → depthIn k (e ∷ es) ≡ cond (eqb k t) d (depthIn k es)) → linesIn (e ∷ es) ≡ linesIn es → Kept m b es
+    → Kept m (withTables (deep t d (b .tables)) b) (e ∷ es)
+kept-depth m b es e t d lt a f g k =
+    record {
+      simulated = go (k .simulated);
+      rest = rest-alter {b = b} (b .tables .size) (b .tables .cut) (b .tables .clock) (deep t d (b .tables) .threads) (k .rest);
+    }
+  where
+    go : Simulated m b es → Simulated m (withTables (deep t d (b .tables)) b) (e ∷ es)
+    go (by s h rc i) =
+        let at : (k : ℕ) → threadAt k (deep t d (b .tables)) ≡ cond (eqb k t) (record { depth = d; last = threadAt t (b .tables) .last; log = threadAt t (b .tables) .log }) (threadAt k (b .tables))
+        = thread-stored t (record { depth = d; last = threadAt t (b .tables) .last; log = threadAt t (b .tables) .log }) (b .tables) (omega (arith, threads-8 (b .tables) (i .shape), i .shape .threads)) in
+        by s h rc
+        (sim-alter {b = b} (b .tables .size) (b .tables .cut) (b .tables .clock) (deep t d (b .tables) .threads)
+        (shape-thread t (record { depth = d; last = threadAt t (b .tables) .last; log = threadAt t (b .tables) .log }) (b .tables) lt (i .shape .logs t) (i .shape))
+        (logs-same {b = b} (λ k. rw (at k) (test (eqb k t) (λ y. rw (y, eqb-true k t y)) (λ y. rw y))) refl refl (i .logs))
+        (told-alike {b = b} a
+        (λ k. rw (at k, f k) (test (eqb k t) (λ y. rw y) (λ y. rw y (i .told .depth k))))
+        (λ k. rw (at k) (test (eqb k t) (λ y. rw (y, eqb-true k t y)) (λ y. rw y)))
+        (λ y. g ∙ i .told .lines y) refl (i .told)) i)
+
+-- the thread's depth by the events
+depth-told : {m : Memory} {b : Board} {es : List Event} → Simulated m b es → (t : ℕ) → threadAt t (b .tables) .depth ≡ depthIn t es
+depth-told (by s h rc i) t = i .told .depth t
+
+pub keeps-deeper : (t : ℕ) (m : Memory) (b : Board) (es : List Event) → t < b .tables .size .threads → eqb (depthOf t (b .tables)) 0 ≡ false
+    → Kept m b es → Kept m (withTables (deeper t (b .tables)) b) (Begin t ∷ es)
+unfolding openedIn depthIn endsIn writesIn usesIn linesIn
+keeps-deeper t m b es lt n k =
+    kept-depth m b es (Begin t) t (depthOf t (b .tables) + 1) lt
+    (record {
+      opened = λ j. test (eqb t j) (λ d. rw (d, ← eqb-true t j d, z)) (λ d. rw d);
+      inside = λ j p. test (eqb t j) (λ d. rw d (λ y. omega arith)) (λ d. rw d p);
+      outside = λ j p. test (eqb t j) (λ d. rw (← eqb-true t j d) (eqb-false (depthIn t es) 0 z)) (λ d. rw d at p);
+      ends = refl;
+      writes = refl;
+      uses = rw z;
+    })
+    (λ j. test (eqb t j)
+    (λ d. rw (d, ← eqb-true t j d, is-same t, depth-told (k .simulated) t))
+    (λ d. rw (d, flip t j d)))
+    refl k
+  where
+    z : eqb (depthIn t es) 0 ≡ false
+    z = rw (depth-told (k .simulated) t) at n
+
+pub keeps-shallower : (t : ℕ) (m : Memory) (b : Board) (es : List Event) → t < b .tables .size .threads → eqb (depthOf t (b .tables)) 0 ≡ false
+    → eqb (depthOf t (b .tables)) 1 ≡ false → Kept m b es → Kept m (withTables (shallower t (b .tables)) b) (End t ∷ es)
+unfolding openedIn depthIn endsIn writesIn usesIn linesIn
+keeps-shallower t m b es lt n n1 k =
+    kept-depth m b es (End t) t (depthOf t (b .tables) - 1) lt
+    (record {
+      opened = λ j. refl;
+      inside = λ j p. test (eqb t j) (λ d. rw (d, ← eqb-true t j d) (λ y. omega (arith, eqb-false (depthIn t es) 0 z, eqb-false (depthIn t es) 1 z1))) (λ d. rw d p);
+      outside = λ j p. test (eqb t j) (λ d. rw (← eqb-true t j d) (eqb-false (depthIn t es) 0 z)) (λ d. rw d at p);
+      ends = rw z1;
+      writes = refl;
+      uses = refl;
+    })
+    (λ j. test (eqb t j)
+    (λ d. rw (d, ← eqb-true t j d, is-same t, depth-told (k .simulated) t))
+    (λ d. rw (d, flip t j d)))
+    refl k
+  where
+    z : eqb (depthIn t es) 0 ≡ false
+    z = rw (depth-told (k .simulated) t) at n
+
+    z1 : eqb (depthIn t es) 1 ≡ false
+    z1 = rw (depth-told (k .simulated) t) at n1
+
+-- ---- begin at depth 0
+
+pub free-slots : (n : ℕ) → Distinct (replicate n noSlot)
+free-slots zero = none
+free-slots (suc n) = more (λ e. refl) (λ e. absurd (true≢false e)) (omega arith) (free-slots n)
+
+pub state-free : (l : ℕ) → stateOf l (replicate 8 noSlot) ≡ Empty
+unfolding stateOf
+state-free l = refl
+
+abbrev newKey : ℕ → Tables → ℕ
+newKey t ts = keyOf t (threadAt t ts .last + 1)
+
+abbrev newRegion : ℕ → Tables → Region
+newRegion t ts = begun (newKey t ts) (current t ts) (ts .regions)
+
+module _ {m : ℕ → List ℕ} {b : Board} {es : List Event} {s : u.State (List ℕ)} {h : v.History (List ℕ)} (rc : Reach m s h) (i : Sim b es s h) where
+  st : Structure s h
+  st = structured m s h rc
+
+  module _ (t : ℕ) (lt : t < b .tables .size .threads) (d0 : depthIn t es ≡ 0) (few : openedIn t es < 65535)
+      (room : count isHeld (b .tables .regions) < 32) where
+    k-thread : threadOf (newKey t (b .tables)) ≡ t
+    k-thread = rw (i .told .last t) (key-thread t (openedIn t es + 1) (omega arith))
+
+    k-number : numberOf (newKey t (b .tables)) ≡ openedIn t es + 1
+    k-number = rw (i .told .last t) (key-number t (openedIn t es + 1) (omega arith))
+
+    k-nz : eqb (newKey t (b .tables)) 0 ≡ false
+    k-nz = ne-eqb (newKey t (b .tables)) 0 (λ q. omega arith)
+
+    unborn : s .born (newKey t (b .tables)) ≡ false
+    unborn =
+        rw (i .told .born (newKey t (b .tables)), k-number, k-thread)
+        (test (eqb (openedIn t es + 1) 0) (λ e. rw e) (λ e. rw e (lt-leb (openedIn t es + 1) (openedIn t es) (omega arith))))
+
+    unover : s .over (newKey t (b .tables)) ≡ false
+    unover = test (s .over (newKey t (b .tables))) (λ d. never (st .begun (newKey t (b .tables)) d) unborn) (λ d. d)
+
+    uncommitted : s .done (newKey t (b .tables)) ≡ false
+    uncommitted = test (s .done (newKey t (b .tables))) (λ d. never (st .committed (newKey t (b .tables)) d) unover) (λ d. d)
+
+    unlisted : listed (newKey t (b .tables)) (b .tables .regions) ≡ false
+    unlisted = i .live (newKey t (b .tables)) ∙ rw unborn
+
+    new : any (isKey (newKey t (b .tables))) (b .tables .regions) ≡ false
+    new = unlisted-any (newKey t (b .tables)) (b .tables .regions) k-nz unlisted
+
+    free : any (isKey 0) (b .tables .regions) ≡ true
+    free = count-room isHeld (isKey 0) (b .tables .regions) (λ r e. not-false (eqb (r .key) 0) e) (rw (i .shape .regions) room)
+
+    good-begun : GoodRegion (newRegion t (b .tables))
+    good-begun =
+        record {
+          free = λ e. absurd (eqb-false (newKey t (b .tables)) 0 k-nz e);
+          deps = refl;
+          slots = refl;
+          distinct = free-slots 8;
+          finished = λ e. absurd (false≢true e);
+        }
+
+    region-begun : (j : ℕ) → regionAt j (set (b .tables .regions) (placeOf 0 (b .tables .regions)) (newRegion t (b .tables)))
+        ≡ cond (eqb j (newKey t (b .tables))) (newRegion t (b .tables)) (regionAt j (b .tables .regions))
+    region-begun = region-new (newKey t (b .tables)) (b .tables .regions) (newRegion t (b .tables)) new k-nz free refl good-begun (i .shape .good)
+
+    listed-begun : (j : ℕ) → listed j (set (b .tables .regions) (placeOf 0 (b .tables .regions)) (newRegion t (b .tables)))
+        ≡ (eqb j (newKey t (b .tables)) || listed j (b .tables .regions))
+    listed-begun = listed-new (newKey t (b .tables)) (b .tables .regions) (newRegion t (b .tables)) new k-nz free refl
+
+    abbrev opener : Thread
+    opener = record { depth = 1; last = threadAt t (b .tables) .last + 1; log = threadAt t (b .tables) .log }
+
+    thread-begun : (j : ℕ) → threadAt j (opened t (b .tables)) ≡ cond (eqb j t) opener (threadAt j (b .tables))
+    unfolding opened
+    thread-begun j = getD-set (b .tables .threads) t j opener noThread (omega (arith, threads-8 (b .tables) (i .shape), i .shape .threads))
+
+    shape-begun : Shape (opened t (b .tables))
+    unfolding opened
+    shape-begun =
+        let sh : Shape (b .tables) = i .shape in
+        record {
+          regions = length-set (b .tables .regions) (placeOf 0 (b .tables .regions)) (newRegion t (b .tables)) ∙ sh .regions;
+          threads = length-set (b .tables .threads) t opener ∙ sh .threads;
+          logs = λ j. rw (thread-begun j) (test (eqb j t) (λ d. rw d (sh .logs t)) (λ d. rw d (sh .logs j)));
+          owner = sh .owner;
+          lock = sh .lock;
+          good = good-new (newKey t (b .tables)) (b .tables .regions) (newRegion t (b .tables)) new k-nz free refl good-begun (sh .good);
+          unique = unique-new (newKey t (b .tables)) (b .tables .regions) (newRegion t (b .tables)) new k-nz free refl (sh .unique);
+          deps-once = once-new (newKey t (b .tables)) (b .tables .regions) (newRegion t (b .tables)) new k-nz free refl
+              (once-one (cond (listed (current t (b .tables)) (b .tables .regions)) (current t (b .tables)) 0) 3) (sh .deps-once);
+          size = sh .size;
+          cut-setup = sh .cut-setup;
+          thread-range = λ j g. rw (thread-begun j, ne-eqb j t (λ q. omega arith)) (sh .thread-range j g);
+        }
+
+    depth-begun : (j : ℕ) → depthIn j (Begin t ∷ es) ≡ cond (eqb j t) 1 (depthIn j es)
+    unfolding depthIn
+    depth-begun j = rw (eqb-swap t j) (test (eqb j t) (λ d. rw (d, eqb-true j t d, d0)) (λ d. rw d))
+
+    number-begun : (j : ℕ) → openedIn j (Begin t ∷ es) ≡ cond (eqb j t) (openedIn t es + 1) (openedIn j es)
+    unfolding openedIn
+    number-begun j = rw (eqb-swap t j) (test (eqb j t) (λ d. rw (d, eqb-true j t d, d0)) (λ d. rw d))
+
+    born-begun : (j : ℕ) → put (newKey t (b .tables)) true (s .born) j ≡ isOpened (Begin t ∷ es) j
+    born-begun j =
+        rw (number-begun (threadOf j))
+        (test (eqb j (newKey t (b .tables)))
+        (λ d. let y : numberOf j ≡ openedIn t es + 1 = rw (eqb-true j (newKey t (b .tables)) d) k-number in
+        let x : threadOf j ≡ t = rw (eqb-true j (newKey t (b .tables)) d) k-thread in
+        rw (d, x, is-same t, y, ne-eqb (openedIn t es + 1) 0 (λ q. omega arith)) (sym (le-leb (openedIn t es + 1) (openedIn t es + 1) (omega arith))))
+        (λ d. rw d (i .told .born j ∙ test (eqb (threadOf j) t)
+        (λ x. rw (x, eqb-true (threadOf j) t x)
+        (ap {A = Bool} (λ y. not (eqb (numberOf j) 0) && y) (same-below (numberOf j) (openedIn t es)
+        (λ y. eqb-false j (newKey t (b .tables)) d (sym (key-split j) ∙ rw (eqb-true (threadOf j) t x, y, i .told .last t))))))
+        (λ x. rw x))))
+      where
+        same-below : (a n : ℕ) → a ≢ n + 1 → leb a n ≡ leb a (n + 1)
+        same-below a n ne =
+            test (leb a n)
+            (λ e. let z = leb-true a n e in rw (e, le-leb a (n + 1) (omega arith)))
+            (λ e. let z = leb-false a n e in rw (e, lt-leb a (n + 1) (omega (arith, ne))))
+
+    told-begun : (D : ℕ → ℕ → Bool) (us : List v.Use)
+        → ((x q : ℕ) → drawsOn x q (usesIn (Begin t ∷ es)) ≡ true → q ≢ 0 → (v.used x q us ≡ true) ⊎ (s .done q ≡ true))
+        → Told (withTables (opened t (b .tables)) b) (Begin t ∷ es) (u.withDep D (u.withBorn (put (newKey t (b .tables)) true (s .born)) s))
+        (record { writes = h .writes; ends = h .ends; uses = us })
+    unfolding endsIn writesIn linesIn opened
+    told-begun D us f =
+        record {
+          depth = λ j. rw (thread-begun j, depth-begun j) (test (eqb j t) (λ d. rw d) (λ d. rw d (i .told .depth j)));
+          last = λ j. rw (thread-begun j, number-begun j) (test (eqb j t) (λ d. rw (d, i .told .last t)) (λ d. rw d (i .told .last j)));
+          numbers = λ j. rw (number-begun j) (test (eqb j t) (λ d. rw d (omega arith)) (λ d. rw d (i .told .numbers j)));
+          lines = i .told .lines;
+          born = born-begun;
+          ends = i .told .ends;
+          writes = i .told .writes;
+          uses = f;
+          open-last = λ k p. test (eqb k (newKey t (b .tables)))
+              (λ d. let x : threadOf k ≡ t = rw (eqb-true k (newKey t (b .tables)) d) k-thread in
+              rw (x, number-begun t, depth-begun t, is-same t) (eqb-true k (newKey t (b .tables)) d ∙ rw (i .told .last t), λ e. omega arith))
+              (λ d. let z = i .told .open-last k (record { began = rw d at (p .began); goes-on = p .goes-on }) in
+              let x : eqb (threadOf k) t ≡ false = ne-eqb (threadOf k) t (λ q. z .1 (rw q d0)) in
+              rw (number-begun (threadOf k), depth-begun (threadOf k), x) z);
+          last-open = λ j p. test (eqb j t)
+              (λ d. rw (eqb-true j t d, number-begun t, is-same t, ← i .told .last t) (record { began = rw (is-same (newKey t (b .tables))); goes-on = unover }))
+              (λ d. let z = i .told .last-open j (rw (depth-begun j, d) at p) in
+              rw (number-begun j, d) (record { began = test (eqb (regionIn j es) (newKey t (b .tables))) (λ x. rw x) (λ x. rw x (z .began)); goes-on = z .goes-on }));
+          owner = i .told .owner;
+        }
+
+    sim-begun : (D : ℕ → ℕ → Bool) (us : List v.Use)
+        → ((a q : ℕ) → D a q ≡ cond (eqb a (newKey t (b .tables)))
+        (not (eqb q 0) && eqb q (cond (listed (current t (b .tables)) (b .tables .regions)) (current t (b .tables)) 0)) (s .dep a q))
+        → ((x q : ℕ) → drawsOn x q (usesIn (Begin t ∷ es)) ≡ true → q ≢ 0 → (v.used x q us ≡ true) ⊎ (s .done q ≡ true))
+        → Sim (withTables (opened t (b .tables)) b) (Begin t ∷ es) (u.withDep D (u.withBorn (put (newKey t (b .tables)) true (s .born)) s))
+        (record { writes = h .writes; ends = h .ends; uses = us })
+    unfolding opened ownerOf
+    sim-begun D us g f =
+        record {
+          shape = shape-begun;
+          memories = memories-same (opened t (b .tables)) (i .memories);
+          logs = logs-over (λ l. refl) (λ l. refl) (logs-same {b = b}
+              (λ j. rw (thread-begun j) (test (eqb j t) (λ y. rw (y, eqb-true j t y)) (λ y. rw y))) refl refl (i .logs));
+          told = told-begun D us f;
+          cur = i .cur;
+          med = i .med;
+          lock = i .lock;
+          slot = λ l j. rw (region-begun j) (test (eqb j (newKey t (b .tables)))
+              (λ d. rw (d, state-free l, eqb-true j (newKey t (b .tables)) d)
+              (i .slot l (newKey t (b .tables))
+              ∙ rw (region-none (newKey t (b .tables)) (b .tables .regions) (good-free (b .tables .regions) (i .shape .good)) unlisted, state-free l)))
+              (λ d. rw d (i .slot l j)));
+          dep = λ a q. rw (g a q, region-begun a) (test (eqb a (newKey t (b .tables)))
+              (λ d. rw d (only q (cond (listed (current t (b .tables)) (b .tables .regions)) (current t (b .tables)) 0)))
+              (λ d. rw d (i .dep a q)));
+          live = λ j. rw (listed-begun j) (test (eqb j (newKey t (b .tables)))
+              (λ d. rw (d, eqb-true j (newKey t (b .tables)) d, uncommitted))
+              (λ d. rw d (i .live j)));
+          ended = λ j p. rw (region-begun j) (test (eqb j (newKey t (b .tables)))
+              (λ d. rw (d, eqb-true j (newKey t (b .tables)) d) (sym unover))
+              (λ d. rw d (i .ended j (rw (listed-begun j, d) at p))));
+          top = λ l. rw (listed-begun (getD (b .tables .owner) l 0), older l) (i .top l);
+          waits = i .waits;
+        }
+      where
+        only : (q d : ℕ) → (not (eqb q 0) && eqb q d) ≡ (not (eqb q 0) && any (eqb q) (d ∷ replicate 3 0))
+        only q d = test (eqb q 0) (λ z. rw z) (λ z. rw z (test (eqb q d) (λ y. rw y) (λ y. rw y)))
+
+        -- the new region owns no line
+        older : (l : ℕ) → eqb (getD (b .tables .owner) l 0) (newKey t (b .tables)) ≡ false
+        older l =
+            ne-eqb (getD (b .tables .owner) l 0) (newKey t (b .tables))
+            (λ q. ⊎-elim (λ z. eqb-false (newKey t (b .tables)) 0 k-nz (sym q ∙ z)) (λ z. never (rw q at z) unborn) (owner-born rc i l))
+
+    -- what the begin adds to the uses
+    use-begun : (x q : ℕ) → drawsOn x q (usesIn (Begin t ∷ es)) ≡ true
+        → ((x ≡ newKey t (b .tables)) × (q ≡ current t (b .tables)) × (0 < openedIn t es)) ⊎ (drawsOn x q (usesIn es) ≡ true)
+    unfolding usesIn
+    use-begun x q e =
+        test (ltb 0 (openedIn t es))
+        (λ d. ⊎-elim
+        (λ y. let z = and-true (eqb (keyOf t (openedIn t es + 1)) x) (eqb (regionIn t es) q) y in
+        inl (sym (rw (i .told .last t) (eqb-true (keyOf t (openedIn t es + 1)) x (z .0))), sym (rw (i .told .last t) (eqb-true (regionIn t es) q (z .1))), ltb-true 0 (openedIn t es) d))
+        (λ y. inr y)
+        (or-true (eqb (keyOf t (openedIn t es + 1)) x && eqb (regionIn t es) q) (drawsOn x q (usesIn es)) (rw (d0, d) at e)))
+        (λ d. inr (rw (d0, d) at e))
+
+    no-dep : (q : ℕ) → s .dep (newKey t (b .tables)) q ≡ false
+    no-dep q = test (s .dep (newKey t (b .tables)) q) (λ d. never (st .of-uncommitted (newKey t (b .tables)) q d .0) unborn) (λ d. d)
+
+    p-thread : threadOf (current t (b .tables)) ≡ t
+    p-thread = rw (i .told .last t) (key-thread t (openedIn t es) (omega arith))
+
+    -- the predecessor, if it is listed, has ended
+    p-over : s .born (current t (b .tables)) ≡ true → s .over (current t (b .tables)) ≡ true
+    p-over z =
+        test (s .over (current t (b .tables)))
+        (λ d. d)
+        (λ d. absurd (i .told .open-last (current t (b .tables)) (record { began = z; goes-on = d }) .1 (rw (p-thread, d0))))
+
+    abbrev Opens : Type 0
+    Opens = (s′ : u.State (List ℕ)) × (h′ : v.History (List ℕ)) × (Reach m s′ h′ × Sim (withTables (opened t (b .tables)) b) (Begin t ∷ es) s′ h′)
+
+    opens-after : listed (current t (b .tables)) (b .tables .regions) ≡ true → Opens
+    unfolding u.act v.note
+    opens-after y =
+        let z = and-true (s .born (current t (b .tables))) (not (s .done (current t (b .tables)))) (sym (i .live (current t (b .tables))) ∙ y) in (
+          _,
+          _,
+          (
+            then (then rc (u.Begin (newKey t (b .tables))) u.begins) (u.Depend (newKey t (b .tables)) (current t (b .tables)))
+                (u.depends {r = newKey t (b .tables)} (record { began = rw (is-same (newKey t (b .tables))); goes-on = unover }) (p-over (z .0)) (not-true (s .done (current t (b .tables))) (z .1))),
+            sim-begun (put (newKey t (b .tables)) (put (current t (b .tables)) true (s .dep (newKey t (b .tables)))) (s .dep))
+                (record { from = newKey t (b .tables); on = current t (b .tables) } ∷ h .uses)
+                (λ a q. test (eqb a (newKey t (b .tables)))
+                (λ d. rw (d, y) (test (eqb q (current t (b .tables)))
+                (λ x. rw (x, eqb-true q (current t (b .tables)) x, listed-key (current t (b .tables)) (b .tables .regions) y))
+                (λ x. rw (x, no-dep q) (test (eqb q 0) (λ w. rw w) (λ w. rw w)))))
+                (λ d. rw d))
+                (λ x q e n. ⊎-elim
+                (λ w. inl (rw (w .0, w .1, is-same (newKey t (b .tables)), is-same (current t (b .tables)))))
+                (λ w. ⊎-elim (λ v. inl (or-right (eqb x (newKey t (b .tables)) && eqb q (current t (b .tables))) v)) (λ v. inr v) (i .told .uses x q w n))
+                (use-begun x q e)),
+          ),
+        )
+
+    opens-alone : listed (current t (b .tables)) (b .tables .regions) ≡ false → Opens
+    unfolding u.act v.note
+    opens-alone y = (
+      _,
+      _,
+      (
+        then rc (u.Begin (newKey t (b .tables))) u.begins,
+        sim-begun (s .dep) (h .uses)
+            (λ a q. test (eqb a (newKey t (b .tables)))
+            (λ d. rw (d, y, eqb-true a (newKey t (b .tables)) d, no-dep q) (test (eqb q 0) (λ w. rw w) (λ w. rw w)))
+            (λ d. rw d))
+            (λ x q e n. ⊎-elim
+            (λ w. inr (rw (w .1) (old (w .2))))
+            (λ w. i .told .uses x q w n)
+            (use-begun x q e)),
+      ),
+    )
+      where
+        old : 0 < openedIn t es → s .done (current t (b .tables)) ≡ true
+        old g =
+            let nm : numberOf (current t (b .tables)) ≡ openedIn t es = rw (i .told .last t) (key-number t (openedIn t es) (omega arith)) in
+            let bn : s .born (current t (b .tables)) ≡ true
+            = rw (i .told .born (current t (b .tables)), nm, p-thread, ne-eqb (openedIn t es) 0 (λ q. omega arith)) (le-leb (openedIn t es) (openedIn t es) (omega arith)) in
+            let no-more : (s .born (current t (b .tables)) && not (s .done (current t (b .tables)))) ≡ false = sym (i .live (current t (b .tables))) ∙ y in
+            not-false (s .done (current t (b .tables))) (rw bn at no-more)
+
+    rest-begun : Rest b → Rest (withTables (opened t (b .tables)) b)
+    unfolding opened commits
+    rest-begun r =
+        record {
+          flown = λ k l c e w. test (eqb k (newKey t (b .tables)))
+              (λ d. absurd (false≢true (rw (region-begun k, d) at e)))
+              (λ d. r .flown k l c (rw (region-begun k, d) at e) (rw (region-begun k, d) at w));
+          settled = each-set (λ x. commits x ≡ false) (b .tables .regions) (placeOf 0 (b .tables .regions)) (newRegion t (b .tables)) noRegion
+              (test (isHeld (newRegion t (b .tables))) (λ d. rw d) (λ d. rw d)) (r .settled);
+        }
+
+pub keeps-begin : (t : ℕ) → Keeps (Begin t)
+unfolding apply begin testsOf
+keeps-begin t m b es q r k =
+    test (eqb (depthOf t (b .tables)) 0)
+    (λ d. rw d (opens d (k .simulated) (k .rest)))
+    (λ d. rw d (keeps-deeper t m b es lt d k))
+  where
+    tests : Unrefused (testsOf (b .tables) (Begin t))
+    tests = accepted (b .tables) (Begin t) r
+
+    lt : t < b .tables .size .threads
+    lt = leb-false (b .tables .size .threads) t (tests .1 .0)
+
+    opens : eqb (depthOf t (b .tables)) 0 ≡ true → Simulated m b es → Rest b → Kept m (withTables (opened t (b .tables)) b) (Begin t ∷ es)
+    opens d (by s h rc i) rt =
+        let d0 : depthIn t es ≡ 0 = sym (i .told .depth t) ∙ eqb-true (depthOf t (b .tables)) 0 d in
+        let few : openedIn t es < 65535 = rw (i .told .last t) at (leb-false 65535 (threadAt t (b .tables) .last) (rw d at (tests .1 .1 .1 .1 .0))) in
+        let room : count isHeld (b .tables .regions) < 32 = leb-false 32 (count isHeld (b .tables .regions)) (rw d at (tests .1 .1 .1 .1 .1 .1 .0)) in
+        record {
+          simulated = test (listed (current t (b .tables)) (b .tables .regions))
+              (λ y. let z = opens-after rc i t lt d0 few room y in by (z .0) (z .1) (z .2 .0) (z .2 .1))
+              (λ y. let z = opens-alone rc i t lt d0 few room y in by (z .0) (z .1) (z .2 .0) (z .2 .1));
+          rest = rest-begun rc i t lt d0 few room rt;
+        }
+
+-- ---- end to depth 0: the region ends, before its flights
+
+-- the tables after the end
+abbrev over : ℕ → Tables → Tables
+over t ts = closed (current t ts) (shallower t ts)
+
+abbrev overRegion : ℕ → Tables → Region
+overRegion t ts = endedRegion (tick (ts .clock)) (regionAt (current t ts) (ts .regions))
+
+abbrev overThread : ℕ → Tables → Thread
+overThread t ts = record { depth = threadAt t ts .depth - 1; last = threadAt t ts .last; log = threadAt t ts .log }
+
+module _ {m : ℕ → List ℕ} {b : Board} {es : List Event} {s : u.State (List ℕ)} {h : v.History (List ℕ)} (rc : Reach m s h) (i : Sim b es s h)
+    (t : ℕ) (lt : t < b .tables .size .threads) (d1 : depthIn t es ≡ 1) where
+  mine : current t (b .tables) ≡ regionIn t es
+  mine = rw (i .told .last t)
+
+  mine-open : u.Open s (current t (b .tables))
+  mine-open = rw mine (i .told .last-open t (λ q. omega arith))
+
+  pub ended-listed : listed (current t (b .tables)) (b .tables .regions) ≡ true
+  ended-listed = open-listed rc i (current t (b .tables)) mine-open
+
+  key-over : overRegion t (b .tables) .key ≡ current t (b .tables)
+  key-over = key-at (current t (b .tables)) (b .tables .regions) ended-listed
+
+  region-over : (j : ℕ) → regionAt j (over t (b .tables) .regions)
+      ≡ cond (eqb j (current t (b .tables))) (overRegion t (b .tables)) (regionAt j (b .tables .regions))
+  unfolding closed
+  region-over = region-stored (current t (b .tables)) (b .tables .regions) (overRegion t (b .tables)) ended-listed key-over
+
+  listed-over : (j : ℕ) → listed j (over t (b .tables) .regions) ≡ listed j (b .tables .regions)
+  unfolding closed
+  listed-over = listed-stored (current t (b .tables)) (b .tables .regions) (overRegion t (b .tables)) ended-listed key-over
+
+  -- what the end leaves alone of the region is left alone of each
+  part-over : {A : Type 0} (f : Region → A) → f (overRegion t (b .tables)) ≡ f (regionAt (current t (b .tables)) (b .tables .regions))
+      → (j : ℕ) → f (regionAt j (over t (b .tables) .regions)) ≡ f (regionAt j (b .tables .regions))
+  part-over f e j =
+      rw (region-over j) (test (eqb j (current t (b .tables))) (λ d. rw (d, eqb-true j (current t (b .tables)) d) e) (λ d. rw d))
+
+  good-over : GoodRegion (overRegion t (b .tables))
+  good-over =
+      let g : GoodRegion (regionAt (current t (b .tables)) (b .tables .regions)) = i .shape .good (placeOf (current t (b .tables)) (b .tables .regions)) in
+      record {
+        free = λ e. absurd (eqb-false (current t (b .tables)) 0 (listed-key (current t (b .tables)) (b .tables .regions) ended-listed) (sym key-over ∙ e));
+        deps = g .deps;
+        slots = g .slots;
+        distinct = g .distinct;
+        finished = λ e. (refl, g .finished e .1);
+      }
+
+  thread-over : (j : ℕ) → threadAt j (over t (b .tables)) ≡ cond (eqb j t) (overThread t (b .tables)) (threadAt j (b .tables))
+  unfolding closed
+  thread-over = thread-stored t (overThread t (b .tables)) (b .tables) (omega (arith, threads-8 (b .tables) (i .shape), i .shape .threads))
+
+  shape-over : Shape (over t (b .tables))
+  unfolding closed
+  shape-over =
+      let sh : Shape (b .tables) = i .shape in
+      record {
+        regions = length-set (b .tables .regions) (placeOf (current t (b .tables)) (b .tables .regions)) (overRegion t (b .tables)) ∙ sh .regions;
+        threads = length-set (b .tables .threads) t (overThread t (b .tables)) ∙ sh .threads;
+        logs = λ j. rw (thread-over j) (test (eqb j t) (λ d. rw d (sh .logs t)) (λ d. rw d (sh .logs j)));
+        owner = sh .owner;
+        lock = sh .lock;
+        good = good-stored (current t (b .tables)) (b .tables .regions) (overRegion t (b .tables)) ended-listed key-over good-over (sh .good);
+        unique = unique-stored (current t (b .tables)) (b .tables .regions) (overRegion t (b .tables)) ended-listed key-over (sh .unique);
+        deps-once = once-stored (current t (b .tables)) (b .tables .regions) (overRegion t (b .tables)) ended-listed key-over
+            (once-at (current t (b .tables)) sh) (sh .deps-once);
+        size = sh .size;
+        cut-setup = sh .cut-setup;
+        thread-range = λ j g. rw (thread-over j, ne-eqb j t (λ q. omega arith)) (sh .thread-range j g);
+      }
+
+  depth-over : (j : ℕ) → depthIn j (End t ∷ es) ≡ cond (eqb j t) 0 (depthIn j es)
+  unfolding depthIn
+  depth-over j = rw (eqb-swap t j) (test (eqb j t) (λ d. rw (d, eqb-true j t d, d1)) (λ d. rw d))
+
+  told-over : Told (withTables (over t (b .tables)) b) (End t ∷ es) (u.withOver (put (current t (b .tables)) true (s .over)) s)
+      (record { writes = h .writes; ends = current t (b .tables) ∷ h .ends; uses = h .uses })
+  unfolding openedIn writesIn endsIn usesIn linesIn closed
+  told-over =
+      record {
+        depth = λ j. rw (thread-over j, depth-over j)
+            (test (eqb j t) (λ d. rw (d, i .told .depth t, d1)) (λ d. rw d (i .told .depth j)));
+        last = λ j. rw (thread-over j) (test (eqb j t) (λ d. rw (d, eqb-true j t d) (i .told .last t)) (λ d. rw d (i .told .last j)));
+        numbers = i .told .numbers;
+        lines = i .told .lines;
+        born = i .told .born;
+        ends = rw (d1, mine, i .told .ends);
+        writes = i .told .writes;
+        uses = i .told .uses;
+        open-last = λ k p. test (eqb k (current t (b .tables)))
+            (λ d. absurd (true≢false (rw d at (p .goes-on))))
+            (λ d. let z = i .told .open-last k (record { began = p .began; goes-on = rw d at (p .goes-on) }) in
+            let x : eqb (threadOf k) t ≡ false
+            = ne-eqb (threadOf k) t (λ q. eqb-false k (current t (b .tables)) d (z .0 ∙ rw (q, mine))) in
+            (z .0, rw (depth-over (threadOf k), x) (z .1)));
+        last-open = λ j p. test (eqb j t)
+            (λ d. absurd (p (rw (depth-over j, d))))
+            (λ d. let z = i .told .last-open j (rw (depth-over j, d) at p) in
+            let x : eqb (regionIn j es) (current t (b .tables)) ≡ false
+            = ne-eqb (regionIn j es) (current t (b .tables))
+            (λ q. eqb-false j t d (sym (key-thread j (openedIn j es) (omega (arith, i .told .numbers j))) ∙ rw (q, mine) (key-thread t (openedIn t es) (omega (arith, i .told .numbers t))))) in
+            record { began = z .began; goes-on = rw x (z .goes-on) });
+        owner = i .told .owner;
+      }
+
+  sim-over : Sim (withTables (over t (b .tables)) b) (End t ∷ es) (u.withOver (put (current t (b .tables)) true (s .over)) s)
+      (record { writes = h .writes; ends = current t (b .tables) ∷ h .ends; uses = h .uses })
+  unfolding closed ownerOf
+  sim-over =
+      record {
+        shape = shape-over;
+        memories = memories-same (over t (b .tables)) (i .memories);
+        logs = logs-over (λ l. refl) (λ l. refl) (logs-same {b = b}
+            (λ j. rw (thread-over j) (test (eqb j t) (λ y. rw (y, eqb-true j t y)) (λ y. rw y))) refl refl (i .logs));
+        told = told-over;
+        cur = i .cur;
+        med = i .med;
+        lock = i .lock;
+        slot = λ l j. rw (part-over (λ r. r .slots) refl j) (i .slot l j);
+        dep = λ a d. rw (part-over (λ r. r .deps) refl a) (i .dep a d);
+        live = λ j. rw (listed-over j) (i .live j);
+        ended = λ j p. rw (region-over j)
+            (test (eqb j (current t (b .tables))) (λ d. rw d) (λ d. rw d (i .ended j (rw (listed-over j) at p))));
+        top = λ l. rw (listed-over (getD (b .tables .owner) l 0)) (i .top l);
+        waits = i .waits;
+      }
+
+  pub reach-over : Reach m (u.withOver (put (current t (b .tables)) true (s .over)) s)
+      (record { writes = h .writes; ends = current t (b .tables) ∷ h .ends; uses = h .uses })
+  unfolding u.act v.note
+  reach-over = then rc (u.End (current t (b .tables))) (u.ends mine-open)
+
+  -- the slots of the other regions are as they were
+  rest-over : Rest b → (q l c : ℕ) → eqb q (current t (b .tables)) ≡ false → regionAt q (over t (b .tables) .regions) .ended ≡ true
+      → stateOf l (regionAt q (over t (b .tables) .regions) .slots) ≡ Waiting c → getD (over t (b .tables) .lock) l false ≡ true
+  unfolding closed
+  rest-over r q l c n e w = r .flown q l c (rw (region-over q, n) at e) (rw (region-over q, n) at w)
+
+  over-listed : listed (current t (b .tables)) (over t (b .tables) .regions) ≡ true
+  over-listed = listed-over (current t (b .tables)) ∙ ended-listed
+
+-- the end to depth 0, with its flights
+pub ends-region : (t : ℕ) (m : Memory) (b : Board) (es : List Event) → refusal (b .tables) (End t) ≡ 0 → eqb (depthOf t (b .tables)) 1 ≡ true → Kept m b es
+    → Simulated m (endRegion t b) (End t ∷ es) × Flown (endRegion t b)
+unfolding testsOf endRegion
+ends-region t m b es r d k = go (k .simulated) (k .rest)
+  where
+    lt : t < b .tables .size .threads
+    lt = leb-false (b .tables .size .threads) t (accepted (b .tables) (End t) r .1 .0)
+
+    go : Simulated m b es → Rest b
+        → Simulated m (flown (current t (b .tables)) (withTables (over t (b .tables)) b)) (End t ∷ es)
+        × Flown (flown (current t (b .tables)) (withTables (over t (b .tables)) b))
+    go (by s h rc i) rt =
+        let d1 : depthIn t es ≡ 1 = sym (i .told .depth t) ∙ eqb-true (depthOf t (b .tables)) 1 d in (
+          flights (current t (b .tables)) (over-listed rc i t lt d1) (by _ _ (reach-over rc i t lt d1) (sim-over rc i t lt d1)),
+          flown-rest (current t (b .tables)) (withTables (over t (b .tables)) b) (over-listed rc i t lt d1) (rest-over rc i t lt d1 rt),
+        )
