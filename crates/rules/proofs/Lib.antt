@@ -1,4 +1,5 @@
 pub mod Cases
+pub mod Laws
 pub mod CodecBytes
 pub mod CodecValid
 pub mod CodecTurns
