@@ -1,16 +1,13 @@
 // What is done, and what commits: the last part of a step.
 use rules::Entry;
 use rules::Region;
-use rules::Slot;
-use rules::SlotState;
 use rules::Tables;
 use rules::Thread;
 ghost use mathlib.Core.Path.{_≡_};
 ghost use mathlib.Core.List.{map};
 ghost use lib.Dec.{eqb};
 ghost use Rattle.rules.specs.Lists.{all};
-ghost use Rattle.rules.specs.Slots.{isEmpty, hasSlot};
-ghost use Rattle.rules.specs.Tables.{noRegion, withDeps, withRegions};
+ghost use Rattle.rules.specs.Tables.{withDeps, withRegions};
 ghost use Rattle.rules.specs.Commit.{afterCommit, commit, commits, doneRegion, earliest, freed, freedEntry, settled, withoutDep};
 ghost use Rattle.commits.specs.Choice.{choiceOf, nextChoice, settlementOf};
 
@@ -29,39 +26,13 @@ pub struct Choice {
 
 // ---- done
 
-fn is_empty(s: Slot) -> bool
-    ensures { λ x. ⌜ x ≡ isEmpty (s .state) ⌝ }
-{
-    let st = s.state;
-    match st {
-        SlotState::Empty => true,
-        SlotState::Waiting(_) => false,
-        SlotState::InFlight => false,
-    }
-}
-
-// Whether the region has a slot.
-fn has_slot(r: Region) -> bool
-    ensures { λ x. ⌜ x ≡ hasSlot r ⌝ }
-{
-    let mut i: usize = 0;
-    while i < 8 {
-        let s = r.slots[i];
-        if !is_empty(s) {
-            return true;
-        }
-        i += 1;
-    }
-    false
-}
-
 // The region, done if it has ended and has no slot.
 pub fn done_region(r: Region) -> Region
     ensures { λ x. ⌜ x ≡ doneRegion r ⌝ }
 {
     let mut q = r;
     if r.ended {
-        if !has_slot(r) {
+        if !slots::has_slot(r) {
             q.done = true;
         }
     }
@@ -172,23 +143,6 @@ fn without_dep(key: u32, d: u32) -> u32
     if d == key { 0 } else { d }
 }
 
-fn no_region() -> Region
-    ensures { λ x. ⌜ x ≡ noRegion ⌝ }
-{
-    let s = Slot {
-        line: 0,
-        state: SlotState::Empty,
-    };
-    Region {
-        key: 0,
-        ended: false,
-        done: false,
-        stamp: 0,
-        deps: [0; 4],
-        slots: [s; 8],
-    }
-}
-
 // The region without its dependence on the committed one.
 fn without_dependence(key: u32, r: Region) -> Region
     ensures { λ x. ⌜ x ≡ withDeps (map (withoutDep key) (r .deps)) r ⌝ }
@@ -239,7 +193,7 @@ fn without_region(key: u32, t: Tables) -> Tables
     while i < 32 {
         let r = u.regions[i];
         if r.key == key {
-            let n = no_region();
+            let n = lookup::no_region();
             u.regions[i] = n;
         } else {
             let q = without_dependence(key, r);

@@ -1,0 +1,4 @@
+pub mod Tests
+pub mod Counts
+pub mod Turns
+pub mod Walk

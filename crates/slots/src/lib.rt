@@ -1,0 +1,250 @@
+// A region's slots, by value: the counts, the drop, the landing and the flight.
+use rules::Found;
+use rules::Region;
+use rules::Slot;
+use rules::SlotState;
+ghost use mathlib.Core.Path.{_≡_};
+ghost use mathlib.Core.Bool.{cond, not};
+ghost use mathlib.Core.List.{map};
+ghost use lib.ListN.{set};
+ghost use Rattle.undo.specs.Table.{any};
+ghost use Rattle.rules.specs.Lists.{place};
+ghost use Rattle.rules.specs.Tables.{lineOf, noSlot};
+ghost use Rattle.rules.specs.Slots.{carried, carries, countedSlot, flies, flownSlots, hasSlot, isEmpty, isRipe, written};
+ghost use Rattle.rules.specs.Acknowledge.{dropped, droppedSlot, landed};
+ghost use Rattle.rules.specs.declared.SlotState.the-variants.{InFlight};
+ghost use Rattle.rules.specs.declared.Slot.{Slot};
+
+// ---- "Every other waiting slot of the region counts one more, to at most 4"
+
+// The highest count, with which a slot may fly.
+const FULL: u8 = 4;
+
+// A waiting slot counts one more, to at most 4.
+fn counted_slot(s: Slot) -> Slot
+    ensures { λ r. ⌜ r ≡ countedSlot s ⌝ }
+{
+    let l = s.line;
+    let st = s.state;
+    match st {
+        SlotState::Empty => Slot {
+            line: l,
+            state: SlotState::Empty,
+        },
+        SlotState::Waiting(c) => {
+            if c < FULL {
+                Slot {
+                    line: l,
+                    state: SlotState::Waiting(c + 1),
+                }
+            } else {
+                Slot {
+                    line: l,
+                    state: SlotState::Waiting(FULL),
+                }
+            }
+        }
+        SlotState::InFlight => Slot {
+            line: l,
+            state: SlotState::InFlight,
+        },
+    }
+}
+
+// Every waiting slot counts one more.
+fn counted_slots(slots: [Slot; 8]) -> [Slot; 8]
+    ensures { λ r. ⌜ r ≡ map countedSlot slots ⌝ }
+{
+    let mut q = slots;
+    let mut i: usize = 0;
+    while i < 8 {
+        let s = q[i];
+        q[i] = counted_slot(s);
+        i += 1;
+    }
+    q
+}
+
+// The slots after a write of line l: its slot waits with count 0, every other waiting slot counts.
+pub fn written(slots: [Slot; 8], l: u8) -> [Slot; 8]
+    ensures { λ r. ⌜ r ≡ written l slots ⌝ }
+{
+    match lookup::slot_for(slots, l) {
+        Found::At(k) => {
+            let mut q = counted_slots(slots);
+            q[k] = Slot {
+                line: l,
+                state: SlotState::Waiting(0),
+            };
+            q
+        }
+        Found::Full => slots,
+    }
+}
+
+// ---- what a region has
+
+fn is_used(s: Slot) -> bool
+    ensures { λ r. ⌜ r ≡ not (isEmpty (s .state)) ⌝ }
+{
+    let st = s.state;
+    match st {
+        SlotState::Empty => false,
+        SlotState::Waiting(_) => true,
+        SlotState::InFlight => true,
+    }
+}
+
+// Whether one of the slots is in use.
+fn any_used(slots: [Slot; 8]) -> bool
+    ensures { λ r. ⌜ r ≡ any (λ s. not (isEmpty (s .state))) slots ⌝ }
+{
+    let mut i: usize = 0;
+    while i < 8 {
+        let s = slots[i];
+        if is_used(s) {
+            return true;
+        }
+        i += 1;
+    }
+    false
+}
+
+pub fn has_slot(r: Region) -> bool
+    ensures { λ b. ⌜ b ≡ hasSlot r ⌝ }
+{
+    let slots = r.slots;
+    any_used(slots)
+}
+
+// ---- the acknowledgements
+
+// A flight on line l is dropped and its slot emptied.
+fn dropped_slot(s: Slot, l: u8) -> Slot
+    ensures { λ r. ⌜ r ≡ droppedSlot l s ⌝ }
+{
+    if lookup::slot_carries(s, l) {
+        lookup::no_slot()
+    } else {
+        s
+    }
+}
+
+fn dropped_slots(slots: [Slot; 8], l: u8) -> [Slot; 8]
+    ensures { λ r. ⌜ r ≡ map (droppedSlot l) slots ⌝ }
+{
+    let mut q = slots;
+    let mut i: usize = 0;
+    while i < 8 {
+        let s = q[i];
+        q[i] = dropped_slot(s, l);
+        i += 1;
+    }
+    q
+}
+
+// The region after a log acknowledgement of line l, which region `key` owns.
+pub fn dropped(r: Region, key: u32, l: u8) -> Region
+    ensures { λ q. ⌜ q ≡ dropped key l r ⌝ }
+{
+    let k = r.key;
+    if k == key {
+        return r;
+    }
+    let slots = r.slots;
+    let kept = dropped_slots(slots, l);
+    let mut q = r;
+    q.slots = kept;
+    q
+}
+
+// The slot in flight with line l is emptied.
+fn emptied(slots: [Slot; 8], l: u8) -> [Slot; 8]
+    ensures { λ r. ⌜ r ≡ set slots (place (carries l) slots) noSlot ⌝ }
+{
+    let k = lookup::carrier(slots, l);
+    let mut q = slots;
+    if k < 8 {
+        q[k] = lookup::no_slot();
+    }
+    q
+}
+
+// The region after a data acknowledgement of line l.
+pub fn landed(r: Region, l: u8) -> Region
+    ensures { λ q. ⌜ q ≡ landed l r ⌝ }
+{
+    let slots = r.slots;
+    let left = emptied(slots, l);
+    let mut q = r;
+    q.slots = left;
+    q
+}
+
+// ---- "A waiting slot flies when its line is unlocked and its count is 4 or its region has ended"
+
+fn is_ripe(st: SlotState, ended: bool) -> bool
+    ensures { λ r. ⌜ r ≡ isRipe ended st ⌝ }
+{
+    match st {
+        SlotState::Empty => false,
+        SlotState::Waiting(c) => c == FULL || ended,
+        SlotState::InFlight => false,
+    }
+}
+
+fn flies(s: Slot, ended: bool, lock: [bool; 256]) -> bool
+    ensures { λ r. ⌜ r ≡ flies lock ended s ⌝ }
+{
+    let st = s.state;
+    let l = s.line as usize;
+    is_ripe(st, ended) && !lock[l]
+}
+
+// The slot, in flight if it flies.
+fn flown_slot(s: Slot, f: bool) -> Slot
+    ensures { λ r. ⌜ r ≡ cond {A = Slot} f (record { line = s .line; state = InFlight }) s ⌝ }
+{
+    if f {
+        let l = s.line;
+        Slot {
+            line: l,
+            state: SlotState::InFlight,
+        }
+    } else {
+        s
+    }
+}
+
+// "It carries the line as it then stands"
+fn carry(l: u8, f: bool, cur: &[[u64; 8]; 256], car: &mut [[u64; 8]; 256])
+    ensures { λ _. ⌜ now (car .exit) ≡ cond f (set (now (car .entry)) l (lineOf l (now (cur .entry)))) (now (car .entry)) ⌝ }
+{
+    if f {
+        let i = l as usize;
+        let x = cur[i];
+        car[i] = x;
+    }
+}
+
+// The slots fly where they can.
+pub fn fly(
+    slots: [Slot; 8],
+    ended: bool,
+    lock: [bool; 256],
+    cur: &[[u64; 8]; 256],
+    car: &mut [[u64; 8]; 256],
+) -> [Slot; 8]
+    ensures { λ r. ⌜ (r ≡ flownSlots lock ended slots) × (now (car .exit) ≡ carried lock ended slots (now (cur .entry)) (now (car .entry))) ⌝ }
+{
+    let mut q = slots;
+    let mut i: usize = 0;
+    while i < 8 {
+        let s = q[i];
+        let f = flies(s, ended, lock);
+        carry(s.line, f, cur, car);
+        q[i] = flown_slot(s, f);
+        i += 1;
+    }
+    q
+}

@@ -1,0 +1,13 @@
+use Rattle.steps.proofs.joined_region.Statement.{statement}
+use Rattle.steps.proofs.joined_region.Tie as tie
+use mathlib.Core.Path.{refl}
+use borrow.Author.Needs.{needs}
+
+join-requires : tie.Need-join-requires
+join-requires c κs = search needs
+
+returns : tie.Need-returns
+returns c = rw (c .join .ensures) refl
+
+pub joined-region-spec : {M : Type 1} → statement M
+joined-region-spec = tie.close (tie.spec join-requires returns)

@@ -1,0 +1,16 @@
+use Rattle.steps.proofs.wrote_region.Statement.{statement}
+use Rattle.steps.proofs.wrote_region.Tie as tie
+use mathlib.Core.Path.{refl}
+use borrow.Author.Needs.{needs}
+
+written-requires : tie.Need-written-requires
+written-requires c κs = search needs
+
+joined-region-requires : tie.Need-joined-region-requires
+joined-region-requires c κs = search needs
+
+returns : tie.Need-returns
+returns c = rw (c .joined-region .ensures, c .before .written .ensures) refl
+
+pub wrote-region-spec : {M : Type 1} → statement M
+wrote-region-spec = tie.close (tie.spec written-requires joined-region-requires returns)
