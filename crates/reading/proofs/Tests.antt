@@ -1,15 +1,14 @@
 -- The fields of records: four dependences one by one, and the tests of one record.
-use Prim.Native.Nat.{_+_, _<_, _≤_, _-_, suc, ℕ}
-use mathlib.Core.Path.{_≡_, refl, ap}
+use Prim.Native.Nat.{_<_, _-_, suc, ℕ}
+use mathlib.Core.Path.{_≡_, refl}
 use mathlib.Core.Bool.{Bool, _&&_, cond, false, true}
 use mathlib.Core.List.{List, [], _∷_}
-use lib.Dec.{eqb, leb, ltb}
+use lib.Dec.{leb}
 use lib.ListN.{drop, getD, length}
 use native.Mathlib.Omega.{arith}
 use Rattle.rules.specs.Lists.{all}
 use Rattle.rules.specs.Reader.{imageBody, isImageKind}
 use Rattle.reading.specs.Item.{fieldsItem, itemOf, placed}
-use Rattle.reading.specs.declared.Item.{Item}
 use Rattle.reading.specs.declared.Item.the-variants.{Refused}
 use Rattle.reading.specs.declared.Tally.{Tally}
 

@@ -1,16 +1,16 @@
 -- A record judged by sizes, counts and last keys is judged as by all that was read before it.
-use Prim.Native.Nat.{_*_, _+_, _-_, _/_, _<_, _≤_, suc, zero, ℕ}
-use mathlib.Core.Path.{_∙_, _≡_, ap, refl, sym}
+use Prim.Native.Nat.{_+_, _<_, _≤_, ℕ}
+use mathlib.Core.Path.{_≡_, refl}
 use mathlib.Core.Bool.{Bool, _&&_, _||_, cond, false, false≢true, true}
 use mathlib.Core.List.{List, [], _++_, _∷_}
 use lib.Dec.{eqb, leb, ltb}
 use lib.ListN.{drop, getD, length, take}
 use native.Mathlib.Omega.{arith}
-use borrow.Author.Tests.{eqb-true, leb-true, ltb-true}
+use borrow.Author.Tests.{eqb-true, leb-true}
 use Rattle.rules.specs.Bytes.{lineAt, numOf}
-use Rattle.rules.specs.Image.{Logged, Persistent}
-use Rattle.rules.specs.Lists.{all, count}
-use Rattle.rules.specs.Reader.{Last, Next, Stop, Turn, endTurn, fieldsTurn, headTurn, imageBody, isImageKind, isKnownThread, isLoggedBy, isPlaced, keyAt, lastListed, lastLogged, lineTurn, listedAt, listedTurn, loggedAt, loggedTurn, turnOf}
+use Rattle.rules.specs.Image.{Persistent}
+use Rattle.rules.specs.Lists.{all}
+use Rattle.rules.specs.Reader.{Last, Next, Stop, Turn, endTurn, fieldsTurn, headTurn, imageBody, isImageKind, isKnownThread, isPlaced, keyAt, lastListed, lastLogged, lineTurn, listedAt, listedTurn, loggedAt, loggedTurn, turnOf}
 use Rattle.rules.specs.Refusal.{inRange}
 use Rattle.rules.specs.Tables.{threadOf}
 use Rattle.rules.specs.declared.Listed.{Listed}

@@ -1,23 +1,23 @@
 -- The walk over the records: what the tables and counts hold after each.
-use Prim.Native.Nat.{_*_, _+_, _-_, _/_, _<_, _≤_, suc, zero, ℕ}
-use mathlib.Core.Path.{_∙_, _≡_, ap, refl, sym}
-use mathlib.Core.Bool.{Bool, _&&_, cond, false, false≢true, true}
+use Prim.Native.Nat.{_+_, _<_, _≤_, suc, zero, ℕ}
+use mathlib.Core.Path.{_∙_, _≡_, ap, refl, subst, sym}
+use mathlib.Core.Bool.{_&&_, false, false≢true, true}
 use mathlib.Core.List.{List, [], _++_, _∷_, map, map-append}
 use lib.Dec.{eqb, leb, ltb}
-use lib.ListN.{drop, getD, length, length-drop, length-map, length-replicate, replicate, set}
+use lib.ListN.{drop, getD, length, length-drop, length-map, length-replicate, replicate, set, take}
 use native.Mathlib.Omega.{arith}
-use native.Mathlib.Nat.{add-assoc, add-zero, zero-add}
+use native.Mathlib.Nat.{add-zero, zero-add}
 use borrow.Author.Tests.{eq-eqb, eqb-true, leb-true, ltb-true}
-use lib.Seq.{drop-cons, drop-drop, getD-drop, length-sets, sets}
+use lib.Seq.{drop-cons, drop-drop, getD-drop, length-sets, take-at}
 use Rattle.rules.specs.Bytes.{lineAt}
 use Rattle.rules.specs.Image.{Logged, Persistent}
 use Rattle.rules.specs.Lists.{count}
-use Rattle.rules.specs.Reader.{Last, Next, Reads, Refuses, Stop, Turn, imageBody, isLoggedBy, lastLogged, nothing, recordsRead, turnOf}
+use Rattle.rules.specs.Reader.{Next, Reads, Refuses, imageBody, isLoggedBy, lastLogged, nothing, recordsRead, turnOf}
 use Rattle.rules.specs.Tables.{threadOf}
 use Rattle.rules.specs.declared.Listed.{Listed}
 use Rattle.rules.specs.declared.Mark.{Mark}
-use Rattle.rules.proofs.CodecTurns.{afterTurn, skip-bytes, turn-last, turn-next}
-use Rattle.lines.proofs.Paste.{sets-join}
+use Rattle.rules.proofs.CodecTurns.{afterTurn, turn-next}
+use Rattle.lines.proofs.Paste.{sets-join, sets-paste}
 use Rattle.undo.proofs.Laws.{and-true}
 use Rattle.reading.specs.Item.{afterEntry, afterHead, afterLine, afterRegion, countFor, itemOf, tabled, tallyOf}
 use Rattle.reading.specs.Scan.{filled, markOf, noListed, noMark, readOf, scanOf}
@@ -25,7 +25,7 @@ use Rattle.reading.specs.declared.Item.{Item}
 use Rattle.reading.specs.declared.Item.the-variants.{End, Entry, Head, Line, Refused, Region}
 use Rattle.reading.specs.declared.Tally.{Tally}
 use Rattle.reading.proofs.Counts.{Few, count-of, few-more, few-none, last-listed, last-logged, length-more, log-room, logged-more}
-use Rattle.reading.proofs.Turns.{Fits, added, isOn, isSound, item-fits, item-sound, turn-item, turnFrom}
+use Rattle.reading.proofs.Turns.{added, isOn, isSound, item-fits, item-sound, turn-item, turnFrom}
 
 -- ---- tables
 
@@ -40,10 +40,11 @@ length-filled n z xs = length-sets (replicate n z) 0 xs ∙ length-replicate n z
 pub record Kept (p : Persistent) : Type 0 where
   pub threads : p .threads ≤ 8
   pub start : p .threads ≡ 0 → (p .regions ≡ []) × (p .log ≡ [])
+  pub held : length (p .regions) ≤ 32
   pub few : Few (p .log)
 
 pub kept-none : Kept nothing
-kept-none = record { threads = omega arith; start = λ z. (refl, refl); few = few-none }
+kept-none = record { threads = omega arith; start = λ z. (refl, refl); held = omega arith; few = few-none }
 
 -- a log entry that is let through
 pub record Sound (p : Persistent) (k : ℕ) : Type 0 where
@@ -73,16 +74,19 @@ unfolding tallyOf
 kept-more p bs (Refused n) g e = g
 kept-more p bs (Head t l) g e =
     let a = and-true (leb 1 t) (leb t 8) (and-true (eqb (p .threads) 0) (leb 1 t && leb t 8) e .1) in
-    record { threads = leb-true t 8 (a .1); start = λ z. (refl, refl); few = few-none }
-kept-more p bs Line g e = record { threads = g .threads; start = g .start; few = g .few }
+    record { threads = leb-true t 8 (a .1); start = λ z. (refl, refl); held = omega arith; few = few-none }
+kept-more p bs Line g e = record { threads = g .threads; start = g .start; held = g .held; few = g .few }
 kept-more p bs (Region k q a b c d) g e =
-    let h = ltb-true (threadOf k) (p .threads) (and-true (ltb (threadOf k) (p .threads)) (ltb (length (p .regions)) 32) e .0) in
-    record { threads = g .threads; start = λ z. absurd (omega arith); few = g .few }
+    let f = and-true (ltb (threadOf k) (p .threads)) (ltb (length (p .regions)) 32) e in
+    let h = ltb-true (threadOf k) (p .threads) (f .0) in
+    let n = ltb-true (length (p .regions)) 32 (f .1) in
+    record { threads = g .threads; start = λ z. absurd (omega arith); held = rw (length-more (p .regions)) (omega arith); few = g .few }
 kept-more p bs (Entry k l) g e =
     let s = entry-sound p k l g e in
     record {
       threads = g .threads;
       start = λ z. absurd (omega (arith, s .below));
+      held = g .held;
       few = few-more (p .log) _ (g .few) (s .rises) (s .known) (rw (s .count) at (s .room));
     }
 kept-more p bs End g e = g
@@ -137,6 +141,35 @@ next-read p src at i g h e on =
     let t : turnOf p (k ∷ bs) ≡ Next (added p bs i) = turn-item p bs k (g .few) ∙ (ap (turnFrom p bs) f ∙ next-turn p bs i on) in
     let n : suc at + imageBody k ≡ at + 1 + imageBody k = omega arith in
     ap (recordsRead p 0) c ∙ (turn-next p (added p bs i) k bs t ∙ ap (recordsRead (added p bs i) 0) (drop-drop (imageBody k) (suc at) src ∙ ap (λ m. drop m src) n))
+
+-- ---- what was read finds its place in the tables
+
+kept-turn : (p q : Persistent) (k : ℕ) (bs : List ℕ) (i : Item) → Kept p → isSound (tallyOf p) i ≡ true
+    → ((r : Persistent) → Kept r → recordsRead r (imageBody k) bs ≡ Reads q → Kept q) → afterTurn k bs (turnFrom p bs i) ≡ Reads q → Kept q
+kept-turn p q k bs (Refused n) g s on e = let z : _≡_ {A = ℕ} 0 1 = cc in absurd (omega arith)
+kept-turn p q k bs (Head t l) g s on e = on (added p bs (Head t l)) (kept-more p bs (Head t l) g s) e
+kept-turn p q k bs Line g s on e = on (added p bs Line) (kept-more p bs Line g s) e
+kept-turn p q k bs (Region n m a b c d) g s on e = on (added p bs (Region n m a b c d)) (kept-more p bs (Region n m a b c d) g s) e
+kept-turn p q k bs (Entry n l) g s on e = on (added p bs (Entry n l)) (kept-more p bs (Entry n l) g s) e
+kept-turn p q k bs End g s on e = let z : p ≡ q = cc in subst (λ x. Kept x) z g
+
+pub kept-read : (bs : List ℕ) (k : ℕ) (p q : Persistent) → Kept p → recordsRead p k bs ≡ Reads q → Kept q
+unfolding recordsRead
+kept-read [] k p q g e = let z : _≡_ {A = ℕ} 0 1 = cc in absurd (omega arith)
+kept-read (b ∷ bs) (suc k) p q g e = kept-read bs k p q g e
+kept-read (b ∷ bs) zero p q g e =
+    kept-turn p q b bs (itemOf (tallyOf p) (b ∷ bs)) g (item-sound (tallyOf p) (b ∷ bs)) (λ r h d. kept-read bs (imageBody b) r q h d)
+    (ap (afterTurn b bs) (sym (turn-item p bs b (g .few))) ∙ e)
+
+-- at most 32 regions and 256 log entries
+pub read-few : (bs : List ℕ) (p : Persistent) → recordsRead nothing 0 bs ≡ Reads p → (length (p .regions) ≤ 32) × (length (p .log) ≤ 256)
+read-few bs p e = let g = kept-read bs 0 nothing p kept-none e in (g .held, omega (arith, g .few .last, g .few .full, g .few .sum))
+
+-- and they stand at the front of their tables
+pub take-filled : {A : Type 0} (n : ℕ) (z : A) (xs : List A) → length xs ≤ n → take (length xs) (filled n z xs) ≡ xs
+take-filled n z xs h =
+    let d : 0 + length xs ≤ length (replicate n z) = rw (length-replicate n z) (omega arith) in
+    rw (sets-paste (replicate n z) 0 xs d) (take-at xs _ (length xs) refl)
 
 -- ---- where the loop stands
 

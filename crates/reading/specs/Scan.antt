@@ -1,6 +1,6 @@
 -- What was read of an image, held in tables of fixed length.
 use Prim.Native.Nat.{ℕ}
-use mathlib.Core.List.{List, [], _∷_, map}
+use mathlib.Core.List.{List, map}
 use lib.ListN.{length, replicate}
 use lib.Seq.{sets}
 use Rattle.rules.specs.Image.{Logged, Persistent}

@@ -4,40 +4,29 @@ use Rattle.reading.specs.Item.{entryItem}
 use borrow.Author.Needs.{needs}
 use Rattle.reading.proofs.entry.Statement.{statement}
 use Rattle.reading.proofs.entry.Tie as tie
-use Rattle.reading.proofs.entry.Reads as reads
-use Rattle.reading.proofs.entry.Lts as lts
-use Rattle.reading.proofs.count_for.Reads as count-for-reads
-use Rattle.reading.proofs.is_known.Reads as is-known-reads
 
--- src/lib.rt:173:9
 is-known-requires : tie.Need-is-known-requires
 is-known-requires c κs = search needs
 
--- src/lib.rt:174:9
 returns : tie.Need-returns
 unfolding entryItem
 returns c = rw (sym (c .before .is-known .ensures) ∙ not-true _ (c .if1 .taken))
 
--- src/lib.rt:177:9
 returns-2 : tie.Need-returns-2
 unfolding entryItem
 returns-2 c = rw (sym (c .before .before .before .is-known .ensures) ∙ not-false _ (c .before .before .if1 .left), le-ltb _ _ (c .if2 .taken))
 
--- src/lib.rt:180:9
 returns-3 : tie.Need-returns-3
 unfolding entryItem
 returns-3 c = rw (sym (c .before .before .before .before .before .is-known .ensures) ∙ not-false _ (c .before .before .before .before .if1 .left), lt-ltb _ _ (c .before .before .if2 .left), lt-leb _ _ (c .if3 .taken))
 
--- src/lib.rt:182:14
 count-for-requires : tie.Need-count-for-requires
 count-for-requires c κs = search needs
 
--- src/lib.rt:183:9
 returns-4 : tie.Need-returns-4
 unfolding entryItem
 returns-4 c = rw (sym (c .before .before .before .before .before .before .before .is-known .ensures) ∙ not-false _ (c .before .before .before .before .before .before .if1 .left), lt-ltb _ _ (c .before .before .before .before .if2 .left), le-leb _ _ (c .before .before .if3 .left), le-ltb _ _ (rw (c .before .count-for .ensures) at (c .if4 .taken)))
 
--- src/lib.rt:170:1
 returns-5 : tie.Need-returns-5
 unfolding entryItem
 returns-5 c = rw (sym (c .before .before .before .before .before .before .before .is-known .ensures) ∙ not-false _ (c .before .before .before .before .before .before .if1 .left), lt-ltb _ _ (c .before .before .before .before .if2 .left), le-leb _ _ (c .before .before .if3 .left), lt-ltb _ _ (rw (c .before .count-for .ensures) at (c .if4 .left)))

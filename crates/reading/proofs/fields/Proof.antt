@@ -1,67 +1,47 @@
 use native.Mathlib.Omega.{arith}
-use borrow.Author.Tests.{eq-eqb, ne-eqb}
+use borrow.Author.Tests.{ne-eqb}
 use Rattle.reading.specs.Item.{fieldsItem}
 use borrow.Author.Needs.{needs}
 use Rattle.reading.proofs.fields.Statement.{statement}
 use Rattle.reading.proofs.fields.Tie as tie
-use Rattle.reading.proofs.fields.Reads as reads
-use Rattle.reading.proofs.fields.Lts as lts
-use Rattle.reading.proofs.end.Reads as end-reads
-use Rattle.reading.proofs.entry.Reads as entry-reads
-use Rattle.reading.proofs.head.Reads as head-reads
-use Rattle.reading.proofs.key_at.Reads as key-at-reads
-use Rattle.reading.proofs.listed_at.Reads as listed-at-reads
-use Rattle.reading.proofs.region.Reads as region-reads
 
--- src/lib.rt:203:9
 head-requires : tie.Need-head-requires
 head-requires c κs = rw (c .if1 .taken) at (c .before .before .pre)
 
--- src/lib.rt:203:9
 returns : tie.Need-returns
 unfolding fieldsItem
 returns c = rw (c .before .if1 .taken) (c .head .ensures)
 
--- src/lib.rt:206:9
 returns-2 : tie.Need-returns-2
 unfolding fieldsItem
 returns-2 c = rw (c .if2 .taken)
 
--- src/lib.rt:209:26
 listed-at-requires : tie.Need-listed-at-requires
 listed-at-requires c κs = rw (c .if3 .taken) at (c .before .before .before .before .pre)
 
--- src/lib.rt:209:9
 region-requires : tie.Need-region-requires
 region-requires c κs = search needs
 
--- src/lib.rt:209:9
 returns-3 : tie.Need-returns-3
 unfolding fieldsItem
 returns-3 c = rw (c .before .before .if3 .taken, c .region .ensures, c .before .listed-at .ensures)
 
--- src/lib.rt:212:25
 key-at-requires : tie.Need-key-at-requires
 key-at-requires c κs = omega (arith, (rw (c .if4 .taken) at (c .before .before .before .before .before .pre)))
 
--- src/lib.rt:212:42
 shared-slice-read-entry : tie.Need-shared-slice-read-entry
 shared-slice-read-entry c = omega (arith, (rw (c .before .before .if4 .taken) at (c .before .before .before .before .before .before .before .pre)))
 
--- src/lib.rt:212:9
 entry-requires : tie.Need-entry-requires
 entry-requires c κs = search needs
 
--- src/lib.rt:212:9
 returns-4 : tie.Need-returns-4
 unfolding fieldsItem
 returns-4 c = rw (c .before .before .before .if4 .taken, c .entry .ensures, c .before .before .key-at .ensures)
 
--- src/lib.rt:214:5
 end-requires : tie.Need-end-requires
 end-requires c κs = search needs
 
--- src/lib.rt:198:1
 returns-5 : tie.Need-returns-5
 unfolding fieldsItem
 returns-5 c = rw (ne-eqb _ 32 (c .before .before .before .before .if1 .left), ne-eqb _ 33 (c .before .before .before .if2 .left), ne-eqb _ 34 (c .before .before .if3 .left), ne-eqb _ 35 (c .before .if4 .left)) (c .end .ensures)

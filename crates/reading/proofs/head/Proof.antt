@@ -7,37 +7,26 @@ use Rattle.reading.specs.Item.{headItem}
 use borrow.Author.Needs.{needs}
 use Rattle.reading.proofs.head.Statement.{statement}
 use Rattle.reading.proofs.head.Tie as tie
-use Rattle.reading.proofs.head.Reads as reads
-use Rattle.reading.proofs.head.Lts as lts
-use Rattle.lines.proofs.join8.Reads as join8-reads
-use Rattle.reading.proofs.in_range.Reads as in-range-reads
 
--- src/lib.rt:114:13
 shared-slice-read-t : tie.Need-shared-slice-read-t
 shared-slice-read-t c = search needs
 
--- src/lib.rt:115:26
 shared-slice-read-join8 : tie.Need-shared-slice-read-join8
 shared-slice-read-join8 c = search needs
 
--- src/lib.rt:115:35
 shared-slice-read-join8-2 : tie.Need-shared-slice-read-join8-2
 shared-slice-read-join8-2 c = search needs
 
--- src/lib.rt:115:9
 join8-requires : tie.Need-join8-requires
 join8-requires c κs = search needs
 
--- src/lib.rt:116:8
 in-range-requires : tie.Need-in-range-requires
 in-range-requires c κs = search needs
 
--- src/lib.rt:117:9
 returns : tie.Need-returns
 unfolding headItem
 returns c = let s = c .before .before .before .before .before .before .before in let e : c .before .before .join8 .result ≡ numOf (take 2 (drop 1 (s .args .body .now))) = c .before .before .join8 .ensures ∙ sym (num-two (s .args .body .now) 1 (omega arith)) in rw (e, rw e at (sym (c .before .in-range .ensures) ∙ c .if1 .taken))
 
--- src/lib.rt:110:1
 returns-2 : tie.Need-returns-2
 unfolding headItem
 returns-2 c = let s = c .before .before .before .before .before .before .before in let e : c .before .before .join8 .result ≡ numOf (take 2 (drop 1 (s .args .body .now))) = c .before .before .join8 .ensures ∙ sym (num-two (s .args .body .now) 1 (omega arith)) in rw (rw e at (sym (c .before .in-range .ensures) ∙ c .if1 .left))

@@ -5,44 +5,31 @@ use Rattle.lines.proofs.Words.{num-two}
 use borrow.Author.Needs.{needs}
 use Rattle.reading.proofs.key_at.Statement.{statement}
 use Rattle.reading.proofs.key_at.Tie as tie
-use Rattle.reading.proofs.key_at.Reads as reads
-use Rattle.reading.proofs.key_at.Lts as lts
-use Rattle.lines.proofs.join16.Reads as join16-reads
-use Rattle.lines.proofs.join8.Reads as join8-reads
 
--- src/lib.rt:85:31
 add-join8 : tie.Need-add-join8
 add-join8 c = search needs
 
--- src/lib.rt:85:26
 shared-slice-read-join8 : tie.Need-shared-slice-read-join8
 shared-slice-read-join8 c = search needs
 
--- src/lib.rt:85:44
 add-join8-2 : tie.Need-add-join8-2
 add-join8-2 c = search needs
 
--- src/lib.rt:85:39
 shared-slice-read-join8-2 : tie.Need-shared-slice-read-join8-2
 shared-slice-read-join8-2 c = search needs
 
--- src/lib.rt:85:9
 join8-requires : tie.Need-join8-requires
 join8-requires c κs = search needs
 
--- src/lib.rt:86:22
 shared-slice-read-join16 : tie.Need-shared-slice-read-join16
 shared-slice-read-join16 c = search needs
 
--- src/lib.rt:86:22
 cast-join16 : tie.Need-cast-join16
 cast-join16 c = omega (arith, c .shared-slice-known4 .given (c .before .before .before .before .before .args .i))
 
--- src/lib.rt:86:5
 join16-requires : tie.Need-join16-requires
 join16-requires c κs = search needs
 
--- src/lib.rt:81:1
 returns : tie.Need-returns
 returns c = let s = c .before .before .before .before .before .before in let e : s .args .i + 1 + 1 ≡ s .args .i + 2 = omega arith in omega (arith, c .join16 .ensures, c .before .before .join8 .ensures, rw e at (num-two (s .args .body .now) (s .args .i + 1) (omega arith)))
 

@@ -2,35 +2,25 @@ use Rattle.rules.specs.Reader.{listedAt}
 use borrow.Author.Needs.{needs}
 use Rattle.reading.proofs.listed_at.Statement.{statement}
 use Rattle.reading.proofs.listed_at.Tie as tie
-use Rattle.reading.proofs.listed_at.Reads as reads
-use Rattle.reading.proofs.listed_at.Lts as lts
-use Rattle.reading.proofs.key_at.Reads as key-at-reads
 
--- src/lib.rt:114:9
 key-at-requires : tie.Need-key-at-requires
 key-at-requires c κs = search needs
 
--- src/lib.rt:115:9
 key-at-requires-2 : tie.Need-key-at-requires-2
 key-at-requires-2 c κs = search needs
 
--- src/lib.rt:116:9
 key-at-requires-3 : tie.Need-key-at-requires-3
 key-at-requires-3 c κs = search needs
 
--- src/lib.rt:117:9
 key-at-requires-4 : tie.Need-key-at-requires-4
 key-at-requires-4 c κs = search needs
 
--- src/lib.rt:118:9
 key-at-requires-5 : tie.Need-key-at-requires-5
 key-at-requires-5 c κs = search needs
 
--- src/lib.rt:121:16
 shared-slice-read-t8 : tie.Need-shared-slice-read-t8
 shared-slice-read-t8 c = search needs
 
--- src/lib.rt:110:1
 returns : tie.Need-returns
 unfolding listedAt
 returns c = rw (c .before .before .before .before .before .key-at .ensures, c .before .before .before .before .key-at2 .ensures, c .before .before .before .key-at3 .ensures, c .before .before .key-at4 .ensures, c .before .key-at5 .ensures)

@@ -1,29 +1,17 @@
-use Prim.Native.Nat.{_+_, _-_, _<_, _≤_, suc}
+use Prim.Native.Nat.{_-_, _<_}
 use mathlib.Core.Path.{_∙_, _≡_, ap, sym}
 use mathlib.Core.Logic.{⊎-elim}
-use lib.ListN.{drop, getD, length}
+use lib.ListN.{drop, length}
 use native.Mathlib.Omega.{arith}
-use Rattle.rules.specs.Reader.{imageBody}
 use Rattle.lines.proofs.Paste.{rest}
 use Rattle.reading.specs.Item.{itemOf}
 use Rattle.reading.specs.Scan.{readOf}
 use Rattle.reading.specs.declared.Item.{Item}
-use Rattle.reading.specs.declared.Item.the-variants.{End, Entry, Head, Line, Refused, Region}
+use Rattle.reading.specs.declared.Item.the-variants.{End, Line}
 use Rattle.reading.proofs.Walk.{Reached, Went, ended, entry-room, line-room, reached-none, region-room, stopped, went-entry, went-head, went-line, went-region}
 use borrow.Author.Needs.{needs}
 use Rattle.reading.proofs.read_records.Statement.{statement}
 use Rattle.reading.proofs.read_records.Tie as tie
-use Rattle.reading.proofs.read_records.Reads as reads
-use Rattle.reading.proofs.read_records.Lts as lts
-use Rattle.reading.proofs.after_entry.Reads as after-entry-reads
-use Rattle.reading.proofs.after_head.Reads as after-head-reads
-use Rattle.reading.proofs.after_line.Reads as after-line-reads
-use Rattle.reading.proofs.after_region.Reads as after-region-reads
-use Rattle.reading.proofs.body_length.Reads as body-length-reads
-use Rattle.reading.proofs.no_listed.Reads as no-listed-reads
-use Rattle.reading.proofs.one_record.Reads as one-record-reads
-use Rattle.reading.proofs.refused.Reads as refused-reads
-use Rattle.reading.proofs.scan_of.Reads as scan-of-reads
 
 abbrev Inv-loop : tie.InvT-loop
 Inv-loop src s₀ regions₀ log₀ at₀ s regions log at = Reached src s regions log at
@@ -50,127 +38,96 @@ behind c =
     (λ w. rw (w .4, w .5, w .6, w .3 .ensures) (went-entry r _ _ (here (c .before) _ (w .1 .given .1))))))
     (c .match .came)
 
--- src/lib.rt:346:9
 after-head-requires : tie.Need-after-head-requires Inv-loop μ-loop
 after-head-requires c κs = search needs
 
--- src/lib.rt:347:24
 no-listed-requires : tie.Need-no-listed-requires Inv-loop μ-loop
 no-listed-requires c κs = search needs
 
--- src/lib.rt:350:5
 loop-holds : tie.Need-loop-holds Inv-loop μ-loop
 loop-holds c = rw (c .no-listed .ensures, c .before .after-head .ensures) (reached-none (c .before .before .before .args .src .now))
 
--- src/lib.rt:351:31
 sub-one-record : tie.Need-sub-one-record Inv-loop μ-loop
 sub-one-record c = omega (arith, c .loop .inv .inside)
 
--- src/lib.rt:351:31
 part-one-record-start : tie.Need-part-one-record-start Inv-loop μ-loop
 part-one-record-start c = omega (arith, c .loop .inv .inside)
 
--- src/lib.rt:351:31
 part-one-record-end : tie.Need-part-one-record-end Inv-loop μ-loop
 part-one-record-end c = omega (arith, c .loop .inv .inside)
 
--- src/lib.rt:351:13
 one-record-requires : tie.Need-one-record-requires Inv-loop μ-loop
 one-record-requires c κs = search needs
 
--- src/lib.rt:353:27
 enum-known-item : tie.Need-enum-known-item Inv-loop μ-loop
 enum-known-item c = search needs
 
--- src/lib.rt:354:17
 refused-requires : tie.Need-refused-requires Inv-loop μ-loop
 refused-requires c κs = search needs
 
--- src/lib.rt:354:17
 returns : tie.Need-returns Inv-loop μ-loop
 returns c = c .refused .ensures ∙ ap readOf (sym (stopped (c .before .before .before .before .before .before .loop .inv) _ (here (c .before .before .before .before) _ (c .before .before .item .given .1))))
 
--- src/lib.rt:356:24
 enum-known-item-2 : tie.Need-enum-known-item-2 Inv-loop μ-loop
 enum-known-item-2 c = search needs
 
--- src/lib.rt:357:17
 after-head-requires-2 : tie.Need-after-head-requires-2 Inv-loop μ-loop
 after-head-requires-2 c κs = search needs
 
--- src/lib.rt:360:17
 enum-told : tie.Need-enum-told Inv-loop μ-loop
 enum-told c = search needs
 
--- src/lib.rt:360:17
 after-line-requires : tie.Need-after-line-requires Inv-loop μ-loop
 after-line-requires c κs = line-room (c .before .before .before .before .loop .s) _ (here (c .before .before) Line (c .enum-told .given .1))
 
--- src/lib.rt:362:26
 enum-known-item-3 : tie.Need-enum-known-item-3 Inv-loop μ-loop
 enum-known-item-3 c = search needs
 
--- src/lib.rt:364:17
 mul-regions : tie.Need-mul-regions Inv-loop μ-loop
 mul-regions c = let h : c .before .before .before .before .before .loop .s .held < 32 = region-room (c .before .before .before .before .before .loop .s) _ _ _ _ _ _ _ (here (c .before .before .before) _ (c .before .item3 .given .1)) in record { fits = omega arith }
 
--- src/lib.rt:364:17
 array-set-from-regions : tie.Need-array-set-from-regions Inv-loop μ-loop
 array-set-from-regions c = region-room (c .before .before .before .before .before .loop .s) _ _ _ _ _ _ _ (here (c .before .before .before) _ (c .before .item3 .given .1))
 
--- src/lib.rt:369:17
 after-region-requires : tie.Need-after-region-requires Inv-loop μ-loop
 after-region-requires c κs = region-room (c .before .before .before .before .before .loop .s) _ _ _ _ _ _ _ (here (c .before .before .before) _ (c .before .item3 .given .1))
 
--- src/lib.rt:371:25
 enum-known-item-4 : tie.Need-enum-known-item-4 Inv-loop μ-loop
 enum-known-item-4 c = search needs
 
--- src/lib.rt:373:17
 mul-log : tie.Need-mul-log Inv-loop μ-loop
 mul-log c = let h : c .before .before .before .before .before .loop .s .logged < 256 = entry-room (c .before .before .before .before .before .loop .inv) _ _ (here (c .before .before .before) _ (c .before .item4 .given .1)) .0 in record { fits = omega arith }
 
--- src/lib.rt:373:17
 array-set-from-log : tie.Need-array-set-from-log Inv-loop μ-loop
 array-set-from-log c = entry-room (c .before .before .before .before .before .loop .inv) _ _ (here (c .before .before .before) _ (c .before .item4 .given .1)) .0
 
--- src/lib.rt:374:17
 after-entry-requires : tie.Need-after-entry-requires Inv-loop μ-loop
 after-entry-requires c κs = entry-room (c .before .before .before .before .before .loop .inv) _ _ (here (c .before .before .before) _ (c .before .item4 .given .1))
 
--- src/lib.rt:377:39
 enum-told-2 : tie.Need-enum-told-2 Inv-loop μ-loop
 enum-told-2 c = search needs
 
--- src/lib.rt:377:21
 scan-of-requires : tie.Need-scan-of-requires Inv-loop μ-loop
 scan-of-requires c κs = search needs
 
--- src/lib.rt:378:17
 returns-2 : tie.Need-returns-2 Inv-loop μ-loop
 returns-2 c = rw (c .scan-of .ensures) (ended (c .before .before .before .before .before .loop .inv) (here (c .before .before .before) End (c .before .enum-told2 .given .1)))
 
--- src/lib.rt:384:20
 shared-slice-read-kind : tie.Need-shared-slice-read-kind Inv-loop μ-loop
 shared-slice-read-kind c = omega (arith, behind (c .before) .within)
 
--- src/lib.rt:385:14
 add-at : tie.Need-add-at Inv-loop μ-loop
 add-at c = search needs
 
--- src/lib.rt:385:23
 body-length-requires : tie.Need-body-length-requires Inv-loop μ-loop
 body-length-requires c κs = (behind (c .before) .low, behind (c .before) .high)
 
--- src/lib.rt:385:14
 add-at-2 : tie.Need-add-at-2 Inv-loop μ-loop
 add-at-2 c = let w = behind (c .before .before) in record { fits = omega (arith, w .within, c .body-length .ensures) }
 
--- src/lib.rt:350:5
 loop-less : tie.Need-loop-less Inv-loop μ-loop
 loop-less c = let w = behind (c .before .before) in omega (arith, w .within, c .body-length .ensures)
 
--- src/lib.rt:350:5
 loop-again : tie.Need-loop-again Inv-loop μ-loop
 loop-again c = rw (c .body-length .ensures) (behind (c .before .before) .on)
 

@@ -1,15 +1,10 @@
 use borrow.Author.Tests.{eq-eqb, ne-eqb}
-use borrow.Author.Needs.{needs}
 use Rattle.reading.proofs.rises.Statement.{statement}
 use Rattle.reading.proofs.rises.Tie as tie
-use Rattle.reading.proofs.rises.Reads as reads
-use Rattle.reading.proofs.rises.Lts as lts
 
--- src/lib.rt:162:9
 returns : tie.Need-returns
 returns c = rw (eq-eqb _ 0 (c .if1 .taken))
 
--- src/lib.rt:158:1
 returns-2 : tie.Need-returns-2
 returns-2 c = rw (ne-eqb _ 0 (c .before .if1 .left))
 
