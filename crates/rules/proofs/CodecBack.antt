@@ -37,7 +37,7 @@ module _ (n l : ℕ) (m : List (List ℕ)) (size : inRange n l ≡ true) (whole 
       let a = and-true (all (isKnownThread n) (r .key ∷ r .deps)) (eqb (length (r .deps)) 4 && isByte (r .state)) e in
       let d : length (r .deps) ≡ 4 = eqb-true (length (r .deps)) 4 (and-true (eqb (length (r .deps)) 4) (isByte (r .state)) (a .1) .0) in
       record-read (persistentOf n l m rs []) (persistentOf n l m (rs ++ (r ∷ [])) []) 34 (regionBody r) more refl (rw (headed, lined)) (length-region r d)
-      (rw (listed-back r more d, a .0, listed-test rs (r .key), o, lt-ltb (length rs) 32 h))
+      (rw (listed-back n (size-threads n l size .1) r more (a .0) d, a .0, listed-test rs (r .key), o, lt-ltb (length rs) 32 h))
 
   any-entry : (es : List Logged) → cond (eqb (length es) 0) (leb 34 35) (leb 35 35) ≡ true
   any-entry es = test (eqb (length es) 0) (λ b. rw b) (λ b. rw b)
@@ -50,7 +50,7 @@ module _ (n l : ℕ) (m : List (List ℕ)) (size : inRange n l ≡ true) (whole 
       let a = and-true (isKnownThread n (e .key)) (ltb (e .line) l && isLine (e .old)) b in
       let c = and-true (ltb (e .line) l) (isLine (e .old)) (a .1) in
       record-read (persistentOf n l m rs es) (persistentOf n l m rs (es ++ (e ∷ []))) 35 (entryBody e) more refl (rw (headed, lined) (any-entry es)) (length-entry e)
-      (rw (logged-back e more (c .1), a .0, c .0, logged-test es (e .key), o, lt-ltb (count (isLoggedBy (threadOf (e .key))) es) 32 h))
+      (rw (logged-back n (size-threads n l size .1) e more (a .0) (c .1), a .0, c .0, logged-test es (e .key), o, lt-ltb (count (isLoggedBy (threadOf (e .key))) es) 32 h))
 
   any-end : (es : List Logged) → cond (eqb (length es) 0) (leb 34 36) (leb 35 36) ≡ true
   any-end es = test (eqb (length es) 0) (λ b. rw b) (λ b. rw b)

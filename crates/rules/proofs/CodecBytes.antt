@@ -96,15 +96,21 @@ num-part-small k i bs e h =
 
 -- ---- keys
 
+byte-at : (bs : List ℕ) (i : ℕ) → all isByte bs ≡ true → getD bs i 0 < 256
+byte-at [] i e = omega arith
+byte-at (b ∷ bs) zero e = ltb-true b 256 (and-true (isByte b) (all isByte bs) e .0)
+byte-at (b ∷ bs) (suc i) e = byte-at bs i (and-true (isByte b) (all isByte bs) e .1)
+
 -- a key from its thread and the number in its two bytes
-pub key-back : (k : ℕ) → keyOf (threadOf k) (numOf (bytesOf 2 (numberOf k))) ≡ k
-key-back k = let h : k % 65536 < 256 ^ 2 = omega arith in rw (num-bytes 2 (numberOf k) h) (omega arith)
+pub key-back : (k : ℕ) → threadOf k < 256 → keyOf (threadOf k % 256) (numOf (bytesOf 2 (numberOf k))) ≡ k
+key-back k b = let h : k % 65536 < 256 ^ 2 = omega arith in rw (num-bytes 2 (numberOf k) h) (omega arith)
 
 pub key-part : (i : ℕ) (bs : List ℕ) → all isByte bs ≡ true → i + 3 ≤ length bs → keyBytes (keyAt bs i) ++ drop (i + 3) bs ≡ drop i bs
 key-part i bs e h =
     let n = numOf (take 2 (drop (i + 1) bs)) in
     let s : n < 256 ^ 2 = num-part-small 2 (i + 1) bs e (omega arith) in
-    let t : keyOf (getD bs i 0) n / 65536 ≡ getD bs i 0 = omega arith in
+    let b : getD bs i 0 < 256 = byte-at bs i e in
+    let t : keyOf (getD bs i 0) n / 65536 % 256 ≡ getD bs i 0 = omega arith in
     let m : keyOf (getD bs i 0) n % 65536 ≡ n = omega arith in
     let o : i + 3 ≡ i + 1 + 2 = omega arith in
     rw (t, m, o, num-part 2 (i + 1) bs e (omega arith), add-one i, ← drop-cons bs i 0 (omega arith))

@@ -6,16 +6,16 @@ use mathlib.Core.List.{List, [], _++_, _∷_}
 use lib.Dec.{eqb, leb}
 use lib.ListN.{drop, length, length-append}
 use native.Mathlib.Omega.{arith}
-use borrow.Author.Tests.{le-leb, leb-true, lt-ltb, ne-eqb}
+use borrow.Author.Tests.{le-leb, leb-true, lt-ltb, ltb-true, ne-eqb}
 use lib.Seq.{drop-at, take-at}
 use Rattle.rules.proofs.CodecBytes.{isLine, key-back, length-bytes, length-words, line-back, num-bytes}
 use Rattle.rules.specs.Bytes.{bytesOf, lineBytes, numOf}
 use Rattle.rules.specs.Image.{Logged, Persistent, headRecord, keyBytes, lineRecord}
-use Rattle.rules.specs.declared.Listed.{Listed}
-use Rattle.rules.specs.Lists.{flat}
-use Rattle.rules.specs.Reader.{Last, Next, Reads, Refuses, Stop, Turn, Verdict, fieldsTurn, headTurn, imageBody, isImageKind, isPlaced, lineTurn, listedAt, loggedAt, nothing, recordsRead, turnOf}
+use Rattle.rules.specs.Lists.{all, flat}
+use Rattle.rules.specs.Reader.{Last, Next, Reads, Refuses, Stop, Turn, Verdict, fieldsTurn, headTurn, imageBody, isImageKind, isKnownThread, isPlaced, lineTurn, listedAt, loggedAt, nothing, recordsRead, turnOf}
 use Rattle.rules.specs.Refusal.{inRange}
-use Rattle.rules.specs.Tables.{numberOf}
+use Rattle.rules.specs.Tables.{numberOf, threadOf}
+use Rattle.rules.specs.declared.Listed.{Listed}
 use Rattle.undo.proofs.Laws.{and-true}
 
 -- a persistent state by its parts
@@ -91,15 +91,26 @@ module _ (n l : ℕ) (m : List (List ℕ)) (rs : List Listed) (es : List Logged)
 abbrev pub regionBody : Listed → List ℕ
 regionBody r = keyBytes (r .key) ++ (r .state ∷ flat keyBytes (r .deps))
 
-four : (k s : ℕ) (ds more : List ℕ) → length ds ≡ 4 → listedAt ((keyBytes k ++ (s ∷ flat keyBytes ds)) ++ more) ≡ record { key = k; state = s; deps = ds }
-unfolding bytesOf numOf flat listedAt
-four k s [] more h = absurd (omega arith)
-four k s (a ∷ []) more h = absurd (omega arith)
-four k s (a ∷ (b ∷ [])) more h = absurd (omega arith)
-four k s (a ∷ (b ∷ (c ∷ []))) more h = absurd (omega arith)
-four k s (a ∷ (b ∷ (c ∷ (d ∷ [])))) more h =
-    λ i. record { key = key-back k i; state = s; deps = key-back a i ∷ key-back b i ∷ key-back c i ∷ key-back d i ∷ [] }
-four k s (a ∷ (b ∷ (c ∷ (d ∷ (x ∷ xs))))) more h = absurd (omega arith)
+-- a known thread is a byte
+module _ (n : ℕ) (h : n ≤ 8) where
+  known-byte : (k : ℕ) → isKnownThread n k ≡ true → threadOf k < 256
+  known-byte k e = let z = ltb-true (threadOf k) n e in omega arith
+
+  four : (k s : ℕ) (ds more : List ℕ) → all (isKnownThread n) (k ∷ ds) ≡ true → length ds ≡ 4 → listedAt ((keyBytes k ++ (s ∷ flat keyBytes ds)) ++ more) ≡ record { key = k; state = s; deps = ds }
+  unfolding bytesOf numOf flat listedAt
+  four k s [] more g l = absurd (omega arith)
+  four k s (a ∷ []) more g l = absurd (omega arith)
+  four k s (a ∷ (b ∷ [])) more g l = absurd (omega arith)
+  four k s (a ∷ (b ∷ (c ∷ []))) more g l = absurd (omega arith)
+  four k s (a ∷ (b ∷ (c ∷ (d ∷ [])))) more g l =
+      let p = isKnownThread n in
+      let gk = and-true (p k) (all p (a ∷ (b ∷ (c ∷ (d ∷ []))))) g in
+      let ga = and-true (p a) (all p (b ∷ (c ∷ (d ∷ [])))) (gk .1) in
+      let gb = and-true (p b) (all p (c ∷ (d ∷ []))) (ga .1) in
+      let gc = and-true (p c) (all p (d ∷ [])) (gb .1) in
+      let gd = and-true (p d) true (gc .1) in
+      λ i. record { key = key-back k (known-byte k (gk .0)) i; state = s; deps = key-back a (known-byte a (ga .0)) i ∷ key-back b (known-byte b (gb .0)) i ∷ key-back c (known-byte c (gc .0)) i ∷ key-back d (known-byte d (gd .0)) i ∷ [] }
+  four k s (a ∷ (b ∷ (c ∷ (d ∷ (x ∷ xs))))) more g l = absurd (omega arith)
 
 length-keys : (ds : List ℕ) → length (flat keyBytes ds) ≡ 3 * length ds
 unfolding flat
@@ -110,8 +121,8 @@ pub length-region : (r : Listed) → length (r .deps) ≡ 4 → length (regionBo
 length-region r h =
     simp (length-append, length-bytes, length-keys, h)
 
-pub listed-back : (r : Listed) (more : List ℕ) → length (r .deps) ≡ 4 → listedAt (regionBody r ++ more) ≡ r
-listed-back r more h = four (r .key) (r .state) (r .deps) more h
+pub listed-back : (n : ℕ) → n ≤ 8 → (r : Listed) (more : List ℕ) → all (isKnownThread n) (r .key ∷ r .deps) ≡ true → length (r .deps) ≡ 4 → listedAt (regionBody r ++ more) ≡ r
+listed-back n s r more g h = four n s (r .key) (r .state) (r .deps) more g h
 
 -- ---- log entries
 
@@ -121,6 +132,6 @@ entryBody e = keyBytes (e .key) ++ (e .line ∷ lineBytes (e .old))
 pub length-entry : (e : Logged) → length (entryBody e) ≡ 68
 length-entry e = simp (length-append, length-bytes, length-words)
 
-pub logged-back : (e : Logged) (more : List ℕ) → isLine (e .old) ≡ true → loggedAt (entryBody e ++ more) ≡ e
+pub logged-back : (n : ℕ) → n ≤ 8 → (e : Logged) (more : List ℕ) → isKnownThread n (e .key) ≡ true → isLine (e .old) ≡ true → loggedAt (entryBody e ++ more) ≡ e
 unfolding bytesOf numOf loggedAt
-logged-back e more o = λ i. record { key = key-back (e .key) i; line = e .line; old = line-back (e .old) more o i }
+logged-back n s e more g o = λ i. record { key = key-back (e .key) (known-byte n s (e .key) g) i; line = e .line; old = line-back (e .old) more o i }

@@ -1,5 +1,5 @@
 -- "The image holds the medium, the dependence list and the persistent log entries, and nothing else survives."
-use Prim.Native.Nat.{_*_, _+_, suc, zero, ℕ}
+use Prim.Native.Nat.{_%_, _*_, _+_, suc, zero, ℕ}
 use mathlib.Core.Bool.{_&&_, cond, not}
 use mathlib.Core.List.{List, [], _++_, _∷_, map}
 use lib.Dec.{eqb}
@@ -71,7 +71,7 @@ saved b =
 -- of thread 1, number 2); 35 log entry (thread 1, number 2, line 1, old line 64); 36 end (empty)"
 
 abbrev pub keyBytes : ℕ → List ℕ
-keyBytes k = threadOf k ∷ bytesOf 2 (numberOf k)
+keyBytes k = threadOf k % 256 ∷ bytesOf 2 (numberOf k)
 
 unfoldable pub headRecord : ℕ → ℕ → List ℕ
 headRecord n l = 32 ∷ n ∷ bytesOf 2 l

@@ -1,0 +1,4 @@
+pub mod Rising
+pub mod Emit
+pub mod Records
+pub mod Whole
