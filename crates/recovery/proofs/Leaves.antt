@@ -1,0 +1,185 @@
+-- The entry that a step puts back, by its place in the log, and what the step then leaves.
+use Rattle.reading.specs.declared.Read.{Read}  -- keep
+use Rattle.walking.specs.Indices.{entryAt}  -- keep
+use Prim.Native.Nat.{_*_, _+_, _<_, _≤_, suc, zero, ℕ}
+use mathlib.Core.Path.{_∙_, _≡_, ap, refl, sym}
+use mathlib.Core.Bool.{Bool, cond, false, true}
+use mathlib.Core.List.{List, [], _∷_, map}
+use lib.Dec.{eqb, ltb}
+use lib.ListN.{drop, getD, length, length-append, length-drop, length-map}
+use native.Mathlib.Omega.{arith}
+use native.Mathlib.Numerals.{add-one}
+use borrow.Author.Tests.{ne-eqb}
+use lib.Seq.{getD-take}
+use Rattle.reading.specs.Scan.{markOf, noMark, readOf, scanOf}
+use Rattle.reading.specs.declared.Scan.{Scan}
+use Rattle.recovery.proofs.Accepted.{held-few, log-front, logged-few, reads-plain, refuses-plain, regions-front, scan-read}
+use Rattle.recovery.proofs.Counts.{log-few}
+use Rattle.recovery.proofs.Numbers.{image-said}
+use Rattle.recovery.proofs.Places.{line-inside, old-inside, old-read}
+use Rattle.recovery.proofs.Steps.{step-more, step-past, step-refused}
+use Rattle.recovery.specs.Places.{foundAt, moreOf, oldStart}
+use Rattle.rules.proofs.CodecImage.{only-image, read-valid}
+use Rattle.rules.proofs.CodecOnly.{stateRead}
+use Rattle.rules.proofs.CodecValid.{Valid}
+use Rattle.rules.specs.Bytes.{lineAt, lineBytes, paste}
+use Rattle.rules.specs.Claim.{isByte}
+use Rattle.rules.specs.Image.{Persistent, encode}
+use Rattle.rules.specs.Lists.{all}
+use Rattle.rules.specs.Reader.{Reads, readImage}
+use Rattle.rules.specs.Recovery.{answered, lineStart, restore}
+use Rattle.rules.specs.Walk.{nextPlace, walk, walkEntries, walkFrom, without}
+use Rattle.rules.specs.declared.Found.{Found}
+use Rattle.rules.specs.declared.Found.the-variants.{At, Full}
+use Rattle.rules.specs.declared.Listed.{Listed}
+use Rattle.rules.specs.declared.Mark.{Mark}
+use Rattle.undo.proofs.Laws.{test}
+use Rattle.walking.proofs.Walked.{entry-found, entry-none, found-below, noLogged, walk-entries}
+use Rattle.walking.specs.Indices.{indicesOf, isMark, lastFirst, walkIndices}
+
+map-at : {A B : Type 0} (f : A → B) (l : List A) (i : ℕ) (d : B) (z : A) → i < length l → getD (map f l) i d ≡ f (getD l i z)
+map-at f [] i d z h = absurd (omega arith)
+map-at f (x ∷ l) zero d z h = refl
+map-at f (x ∷ l) (suc i) d z h = map-at f l i d z (omega arith)
+
+-- ---- the walk has at most 8192 entries
+
+last-long : (k n : ℕ) (ms : List Mark) → length (lastFirst k n ms) ≤ n
+unfolding lastFirst
+last-long k zero ms = omega arith
+last-long k (suc n) ms =
+    let ih = last-long k n ms in
+    test (isMark k (getD ms n noMark)) (λ e. rw e (omega arith)) (λ e. rw e (omega arith))
+
+indices-long : (ks : List ℕ) (ms : List Mark) → length ms ≤ 256 → length (walkIndices ks ms) ≤ 256 * length ks
+unfolding walkIndices
+indices-long [] ms h = omega arith
+indices-long (k ∷ ks) ms h =
+    let ih = indices-long ks ms h in
+    rw (length-append (indicesOf ms k) (walkIndices ks ms)) (omega (arith, last-long k (length ms) ms))
+
+walk-short : (n : ℕ) (rs : List Listed) → length (walkFrom n rs) ≤ n
+unfolding walkFrom
+walk-short zero rs = omega arith
+walk-short (suc n) rs = go (ltb (nextPlace rs) (length rs)) (walk-short n (without (nextPlace rs) rs))
+  where
+    go : (b : Bool) → length (walkFrom n (without (nextPlace rs) rs)) ≤ n
+        → length {A = ℕ} (elim b [ false ↦ [] | true ↦ getD rs (nextPlace rs) (record { key = 0; state = 0; deps = [] }) .key ∷ walkFrom n (without (nextPlace rs) rs) ]) ≤ suc n
+    go false h = omega arith
+    go true h = omega arith
+
+walk-few : (p : Persistent) → Valid p → length (walkEntries p) ≤ 8192
+unfolding walk
+walk-few p v =
+    let m : length (map markOf (p .log)) ≡ length (p .log) = length-map (p .log) markOf in
+    let n : length (walkEntries p) ≡ length (walkIndices (walk p) (map markOf (p .log))) =
+    rw (walk-entries p) (length-map (walkIndices (walk p) (map markOf (p .log))) (λ i. getD (p .log) i noLogged)) in
+    omega (arith, indices-long (walk p) (map markOf (p .log)) (omega (arith, log-few p v)), walk-short (length (p .regions)) (p .regions), v .few)
+
+-- ---- the entry at a place of the walk
+
+module _ (s : Scan) (p : Persistent) (e : s ≡ scanOf p) (v : Valid p) where
+  logged-is : s .logged ≡ length (p .log)
+  unfolding scanOf
+  logged-is = ap (λ x. x .logged) e
+
+  found-is : (at : ℕ) → foundAt s at ≡ entryAt (walk p) (map markOf (p .log)) at
+  unfolding walk
+  found-is at = rw (regions-front s p e v, log-front s p e v)
+
+  pub none-found : (at : ℕ) → foundAt s at ≡ Full → drop at (walkEntries p) ≡ []
+  none-found at f = entry-none p at (sym (found-is at) ∙ f)
+
+  pub one-found : (at i : ℕ) → foundAt s at ≡ At i → drop at (walkEntries p) ≡ getD (p .log) i noLogged ∷ drop (suc at) (walkEntries p)
+  one-found at i f = entry-found p at i (sym (found-is at) ∙ f)
+
+  pub inside-found : (at i : ℕ) → foundAt s at ≡ At i → i < s .logged
+  inside-found at i f =
+      let m : length (map markOf (p .log)) ≡ length (p .log) = length-map (p .log) markOf in
+      rw (logged-is, ← m) (found-below (walk p) (map markOf (p .log)) at i (sym (found-is at) ∙ f))
+
+  pub soon-found : (at i : ℕ) → foundAt s at ≡ At i → at < 8192
+  soon-found at i f = omega (arith, length-drop at (walkEntries p), ap length (one-found at i f), walk-few p v)
+
+  -- 'more' while entries are left
+  pub more-found : (at : ℕ) → moreOf (foundAt s at) ≡ cond (eqb (length (drop at (walkEntries p))) 0) 0 1
+  more-found at = go (foundAt s at) refl
+    where
+      go : (g : Found) → foundAt s at ≡ g → moreOf g ≡ cond (eqb (length (drop at (walkEntries p))) 0) 0 1
+      go (At i) f = rw (one-found at i f, ne-eqb (suc (length (drop (suc at) (walkEntries p)))) 0 (λ z. omega arith))
+      go Full f = rw (none-found at f)
+
+  pub mark-line : (i : ℕ) (d : Mark) → i < s .logged → getD (s .log) i d .line ≡ getD (p .log) i noLogged .line
+  mark-line i d h =
+      let l : i < length (p .log) = rw logged-is at h in
+      let a : getD (s .log) i d ≡ getD (map markOf (p .log)) i d = sym (getD-take (s .logged) (s .log) i d h) ∙ ap (λ x. getD x i d) (log-front s p e v) in
+      ap (λ x. x .line) (a ∙ map-at markOf (p .log) i d noLogged l)
+
+-- ---- a step
+
+module _ (bs : List ℕ) (bytes : all isByte bs ≡ true) (r : Read) (e : r ≡ readOf (readImage bs)) (at : ℕ) where
+  pub leaves-refused : (r .refusal ≡ 0 → ⊥) → record { after = record { bytes = bs; at = at }; answer = answered (r .refusal) 0 } ≡ restore (record { bytes = bs; at = at })
+  leaves-refused z = sym (step-refused bs at (r .refusal) (rw (← e) at (refuses-plain (readImage bs) (rw e at z))))
+
+  module _ (z : r .refusal ≡ 0) where
+    abbrev state : Persistent
+    state = stateRead (readImage bs)
+
+    state-reads : readImage bs ≡ Reads state
+    state-reads = reads-plain (readImage bs) (image-said bs) (rw e at z)
+
+    state-fits : Valid state
+    state-fits = read-valid bs state bytes state-reads
+
+    scan-is : r .scan ≡ scanOf state
+    scan-is = ap (λ x. x .scan) e ∙ scan-read (readImage bs)
+
+    pub few-read : (r .scan .held ≤ 32) × (r .scan .logged ≤ 256)
+    few-read = (held-few (r .scan) state scan-is state-fits, logged-few (r .scan) state scan-is state-fits)
+
+    pub leaves-past : foundAt (r .scan) at ≡ Full → record { after = record { bytes = bs; at = at }; answer = answered 0 0 } ≡ restore (record { bytes = bs; at = at })
+    leaves-past f = sym (step-past bs at state state-reads (none-found (r .scan) state scan-is state-fits at f))
+
+    module _ (i : ℕ) (f : foundAt (r .scan) at ≡ At i) where
+      pub at-small : at < 8192
+      at-small = soon-found (r .scan) state scan-is state-fits at i f
+
+      pub index-small : i < r .scan .logged
+      index-small = inside-found (r .scan) state scan-is state-fits at i f
+
+      in-log : i < length (state .log)
+      in-log = rw (logged-is (r .scan) state scan-is state-fits) at index-small
+
+      lines-is : r .scan .lines ≡ state .lines
+      unfolding scanOf
+      lines-is = ap (λ x. x .lines) scan-is
+
+      held-is : r .scan .held ≡ length (state .regions)
+      unfolding scanOf
+      held-is = ap (λ x. x .held) scan-is
+
+      image-is : encode state ≡ bs
+      image-is = only-image bs state bytes state-reads
+
+      pub old-room : oldStart (r .scan .lines) (r .scan .held) i + 64 ≤ length bs
+      old-room = rw (lines-is, held-is) (rw image-is at (old-inside state state-fits i in-log))
+
+      pub line-room : (d : Mark) → lineStart (getD (r .scan .log) i d .line) + 64 ≤ length bs
+      line-room d = rw (mark-line (r .scan) state scan-is state-fits i d index-small) (rw image-is at (line-inside state state-fits i in-log))
+
+      old-is : lineAt bs (oldStart (r .scan .lines) (r .scan .held) i) ≡ getD (state .log) i noLogged .old
+      old-is = rw (lines-is, held-is) (rw image-is at (old-read state state-fits i in-log))
+
+      pub leaves-more : (d : Mark) (g : Found) (out : List ℕ) → g ≡ foundAt (r .scan) (at + 1)
+          → out ≡ paste bs (lineStart (getD (r .scan .log) i d .line)) (lineBytes (lineAt bs (oldStart (r .scan .lines) (r .scan .held) i)))
+          → record { after = record { bytes = out; at = at + 1 }; answer = answered 0 (moreOf g) } ≡ restore (record { bytes = bs; at = at })
+      leaves-more d g out q o =
+          rw (
+            step-more bs at state (getD (state .log) i noLogged) (drop (suc at) (walkEntries state)) state-reads (one-found (r .scan) state scan-is state-fits at i f),
+            o,
+            q,
+            add-one at,
+            more-found (r .scan) state scan-is state-fits (suc at),
+            mark-line (r .scan) state scan-is state-fits i d index-small,
+            old-is,
+          )

@@ -1,0 +1,48 @@
+-- Where an old line stands in an image: behind the head, the lines, the regions, the log entries before it, and the five bytes of its kind, key and line.
+use Rattle.walking.specs.Indices.{entryAt}  -- keep
+use Prim.Native.Nat.{_*_, _+_, ℕ}
+use mathlib.Core.List.{List}
+use lib.ListN.{length, take}
+use Rattle.reading.specs.declared.Scan.{Scan}
+use Rattle.recovery.specs.declared.Place.{Place}
+use Rattle.recovery.specs.declared.Walked.{Walked}
+use Rattle.rules.specs.Recovery.{Recovering, RecoveryCall, Restored, answered}
+use Rattle.rules.specs.Walk.{walkFrom}
+use Rattle.rules.specs.declared.Answer.{Answer}
+use Rattle.rules.specs.declared.Found.{Found}
+use Rattle.rules.specs.declared.Found.the-variants.{At, Full}
+
+abbrev pub oldStart : ℕ → ℕ → ℕ → ℕ
+oldStart l n i = 4 + 65 * l + 17 * n + 69 * i + 5
+
+-- what a step leaves: the image, and what the step by value gives
+abbrev pub restoredOf : List ℕ → Walked → Restored
+restoredOf bs w = record { after = record { bytes = bs; at = w .at }; answer = w .answer }
+
+-- nothing is restored: the place stays
+abbrev pub stayed : ℕ → ℕ → Walked
+stayed n at = record { answer = answered n 0; at = at }
+
+-- what a call leaves: its answer, the image, the place
+abbrev pub calledWith : Answer → List ℕ → List ℕ → RecoveryCall
+calledWith a bs at = record { answer = a; image = bs; place = at }
+
+-- the regions that were read, in the order of the walk
+abbrev pub walkedKeys : Scan → List ℕ
+walkedKeys s = walkFrom (length (take (s .held) (s .regions))) (take (s .held) (s .regions))
+
+-- the index of log entry number `at` of the walk
+abbrev pub foundAt : Scan → ℕ → Found
+foundAt s at = entryAt (walkedKeys s) (take (s .logged) (s .log)) at
+
+-- 'more' while there is an entry
+abbrev pub moreOf : Found → ℕ
+moreOf (At i) = 1
+moreOf Full = 0
+
+-- an image and a place that are lent, and what a step over them leaves
+abbrev pub lentAt : List ℕ → Place → Recovering
+lentAt bs p = record { bytes = bs; at = p .steps }
+
+abbrev pub leftBy : Answer → List ℕ → Place → Restored
+leftBy a bs p = record { after = lentAt bs p; answer = a }

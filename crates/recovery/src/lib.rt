@@ -1,0 +1,157 @@
+// The recovery step over a lent image: the image is judged whole, and one log entry is put back to its line.
+ghost use Prim.Native.Nat.{_+_, _≤_};
+ghost use mathlib.Core.Path.{_≡_};
+ghost use lib.ListN.{length, take};
+ghost use Rattle.rules.specs.Bytes.{lineAt, lineBytes, paste};
+ghost use Rattle.rules.specs.Reader.{readImage};
+ghost use Rattle.rules.specs.Recovery.{lineStart, restore, recoveryCall};
+ghost use Rattle.reading.specs.Scan.{readOf};
+ghost use Rattle.walking.specs.Indices.{entryAt, orderOf};
+ghost use Rattle.recovery.specs.Places.{oldStart, walkedKeys, moreOf, lentAt, leftBy, restoredOf, stayed, calledWith};
+use reading::Read;
+use reading::Scan;
+use rules::Answer;
+use rules::Found;
+use walking::Order;
+
+// What a step by value gives: its answer, and the place behind it.
+pub struct Walked {
+    pub answer: Answer,
+    pub at: u64,
+}
+
+// The image's reading: 8 after all other refusals.
+pub fn read_image(src: &[u8]) -> Read
+    ensures { λ r. ⌜ r ≡ readOf (readImage (now (src .entry))) ⌝ }
+{
+    let read = reading::read_records(src);
+    if read.refusal != 0 {
+        return read;
+    }
+    let scan = read.scan;
+    let regions = scan.regions;
+    let log = scan.log;
+    if judging::contradicts(scan.held, regions, scan.logged, log) {
+        return reading::refused(8);
+    }
+    read
+}
+
+// Where the old line of log entry i stands in an image of `lines` lines and `held` regions.
+fn old_start(lines: u16, held: usize, i: usize) -> usize
+    requires { ⌜ (held ≤ 32) × (i ≤ 256) ⌝ }
+    ensures { λ r. ⌜ r ≡ oldStart lines held i ⌝ }
+{
+    4 + 65 * lines as usize + 17 * held + 69 * i + 5
+}
+
+// The line takes the 64 bytes of the old line that stands at `from`.
+fn put_back(image: &mut [u8], line: usize, from: usize)
+    requires { ⌜ (lineStart line + 64 ≤ length (now image)) × (from + 64 ≤ length (now image)) ⌝ }
+    ensures { λ _. ⌜ now (image .exit) ≡ paste (now (image .entry)) (lineStart line) (lineBytes (lineAt (now (image .entry)) from)) ⌝ }
+{
+    let old = lines::take_line(image, from);
+    lines::restore_line(image, 4 + (65 * line + 1), old);
+}
+
+// The regions of an image in the order of the walk.
+fn order_of(scan: Scan) -> Order
+    ensures { λ r. ⌜ orderOf r ≡ walkedKeys scan ⌝ }
+{
+    let regions = scan.regions;
+    walking::walk_order(scan.held, regions)
+}
+
+// The index of log entry number `at` of the walk.
+fn found_at(order: Order, scan: Scan, at: u64) -> Found
+    ensures { λ r. ⌜ r ≡ entryAt (orderOf order) (take (scan .logged) (scan .log)) at ⌝ }
+{
+    let log = scan.log;
+    walking::entry_at(order, scan.logged, log, at as usize)
+}
+
+// 1 while there is an entry, else 0.
+fn more(found: Found) -> u64
+    ensures { λ r. ⌜ r ≡ moreOf found ⌝ }
+{
+    match found {
+        Found::At(_) => 1,
+        Found::Full => 0,
+    }
+}
+
+// A refusal, 0 for none, with nothing restored: the place stays.
+fn stay(refusal: u8, at: u64) -> Walked
+    ensures { λ r. ⌜ r ≡ stayed refusal at ⌝ }
+{
+    Walked {
+        answer: Answer {
+            refusal: refusal,
+            value: 0,
+        },
+        at: at,
+    }
+}
+
+// A recovery step at a place.
+pub fn step_at(image: &mut [u8], at: u64) -> Walked
+    ensures { λ r. ⌜ restoredOf (now (image .exit)) r ≡ restore (record { bytes = now (image .entry); at = at }) ⌝ }
+{
+    let read = read_image(image);
+    if read.refusal != 0 {
+        return stay(read.refusal, at);
+    }
+    let scan = read.scan;
+    let order = order_of(scan);
+    let found = found_at(order, scan, at);
+    let Found::At(i) = found else {
+        return stay(0, at);
+    };
+    let log = scan.log;
+    let mark = log[i];
+    put_back(
+        image,
+        mark.line as usize,
+        old_start(scan.lines, scan.held, i),
+    );
+    let next = at + 1;
+    let left = more(found_at(order, scan, next));
+    Walked {
+        answer: Answer {
+            refusal: 0,
+            value: left,
+        },
+        at: next,
+    }
+}
+
+// The walk's own place: the number of steps made since the last cut.
+pub struct Place {
+    pub steps: u64,
+}
+
+// A recovery step that moves a lent place on.
+pub fn step(image: &mut [u8], place: &mut Place) -> Answer
+    ensures { λ r. ⌜ leftBy r (now (image .exit)) (now (place .exit)) ≡ restore (lentAt (now (image .entry)) (now (place .entry))) ⌝ }
+{
+    let n = place.steps;
+    let s = step_at(image, n);
+    place.steps = s.at;
+    s.answer
+}
+
+// A recovery step for a caller whose place is eight lent bytes, little-endian: 6 for a place of another length, before any other check.
+pub fn recovery_call(image: &mut [u8], place: &mut [u8]) -> Answer
+    ensures { λ r. ⌜ calledWith r (now (image .exit)) (now (place .exit)) ≡ recoveryCall (now (image .entry)) (now (place .entry)) ⌝ }
+{
+    if place.len() == 8 {
+        let at = lines::take_word(place, 0);
+        let s = step_at(image, at);
+        lines::put_word(place, 0, s.at);
+        return s.answer;
+    }
+    Answer {
+        refusal: 6,
+        value: 0,
+    }
+}
