@@ -16,10 +16,6 @@ use Rattle.rules.specs.Lists.{all, place}
 use Rattle.undo.proofs.Laws.{test}
 use Rattle.undo.specs.Table.{any}
 
--- the list's first n elements are n
-pub long : {A : Type 0} (n : ℕ) (xs : List A) → n ≤ length xs → length (take n xs) ≡ n
-long n xs h = length-take-le n xs h
-
 module _ {A : Type 0} (n : ℕ) (xs : List A) (h : n ≤ length xs) (i : ℕ) (k : i < n) (d : A) where
   -- what is left at i: the element there and what is left behind it
   pub left-cons : drop i (take n xs) ≡ getD xs i d ∷ drop (i + 1) (take n xs)

@@ -360,7 +360,7 @@ fn scan_of(s: Tally, regions: [Listed; 32], log: [Mark; 256]) -> Scan
 }
 
 // A refusal with empty tables.
-fn refused(n: u8) -> Read
+pub fn refused(n: u8) -> Read
     ensures { λ r. ⌜ r ≡ readOf (Refuses n) ⌝ }
 {
     let regions = [no_listed(); 32];

@@ -1,35 +1,22 @@
 -- What was read of an image, out of the tables that hold it.
 use Rattle.reading.specs.declared.Read.{Read}  -- keep
-use Prim.Native.Nat.{_+_, _≤_, ℕ}
+use Prim.Native.Nat.{_≤_, ℕ}
 use mathlib.Core.Path.{_∙_, _≡_, ap, refl, sym}
 use mathlib.Core.Bool.{false, true}
 use mathlib.Core.List.{List, map}
-use lib.ListN.{drop, length, length-map, length-replicate, replicate, take}
-use native.Mathlib.Omega.{arith}
+use lib.ListN.{length, length-map, take}
 use borrow.Author.Tests.{eq-eqb}
-use lib.Seq.{take-at}
 use Rattle.judging.proofs.Judged.{contradicts-marks}
 use Rattle.judging.specs.Marks.{contradictsIn}
-use Rattle.lines.proofs.Paste.{sets-paste}
-use Rattle.reading.specs.Scan.{filled, markOf, noListed, noMark, readOf, scanOf}
+use Rattle.reading.proofs.Walk.{read-few, take-filled}
+use Rattle.reading.specs.Scan.{markOf, noListed, noMark, readOf, scanOf}
 use Rattle.reading.specs.declared.Scan.{Scan}
-use Rattle.recovery.proofs.Counts.{log-few}
 use Rattle.recovery.proofs.Numbers.{isSaid, records-said}
-use Rattle.rules.proofs.CodecImage.{records-only}
 use Rattle.rules.proofs.CodecOnly.{stateRead}
-use Rattle.rules.proofs.CodecValid.{Valid}
-use Rattle.rules.specs.Claim.{isByte}
 use Rattle.rules.specs.Contradiction.{contradicts}
 use Rattle.rules.specs.Image.{Persistent}
-use Rattle.rules.specs.Lists.{all}
 use Rattle.rules.specs.Reader.{Reads, Refuses, Verdict, nothing, readImage, recordsRead, unlessContradicted}
 use Rattle.undo.proofs.Laws.{never}
-
--- the front of a table is the list that fills it
-front : {A : Type 0} (n : ℕ) (z : A) (xs : List A) → length xs ≤ n → take (length xs) (filled n z xs) ≡ xs
-front n z xs h =
-    let l : 0 + length xs ≤ length (replicate n z) = rw (length-replicate n z) (omega arith) in
-    rw (sets-paste (replicate n z) 0 xs l) (take-at xs (drop (0 + length xs) (replicate n z)) (length xs) refl)
 
 -- the tables of a reading; those of nothing where it was refused
 pub scan-read : (v : Verdict) → readOf v .scan ≡ scanOf (stateRead v)
@@ -49,30 +36,30 @@ unless-refused : (v : Verdict) → (readOf v .refusal ≡ 0 → ⊥) → unlessC
 unless-refused (Refuses n) z = refl
 unless-refused (Reads p) z = absurd (z refl)
 
--- ---- the tables of a state that fits
+-- ---- the tables of what was read
 
-module _ (s : Scan) (p : Persistent) (e : s ≡ scanOf p) (v : Valid p) where
+module _ (s : Scan) (p : Persistent) (e : s ≡ scanOf p) (few : (length (p .regions) ≤ 32) × (length (p .log) ≤ 256)) where
   pub held-few : s .held ≤ 32
   unfolding scanOf
-  held-few = rw e (v .few)
+  held-few = rw e (few .0)
 
   pub logged-few : s .logged ≤ 256
   unfolding scanOf
-  logged-few = rw e (log-few p v)
+  logged-few = rw e (few .1)
 
   pub regions-front : take (s .held) (s .regions) ≡ p .regions
   unfolding scanOf
-  regions-front = rw e (front 32 noListed (p .regions) (v .few))
+  regions-front = rw e (take-filled 32 noListed (p .regions) (few .0))
 
   pub log-front : take (s .logged) (s .log) ≡ map markOf (p .log)
   unfolding scanOf
   log-front =
       let l : length (map markOf (p .log)) ≡ length (p .log) = length-map (p .log) markOf in
-      rw (e, ← l) (front 256 noMark (map markOf (p .log)) (rw l (log-few p v)))
+      rw (e, ← l) (take-filled 256 noMark (map markOf (p .log)) (rw l (few .1)))
 
 -- ---- the reading, 8 after all others
 
-module _ (bs : List ℕ) (bytes : all isByte bs ≡ true) (r : Read) (e : r ≡ readOf (recordsRead nothing 0 bs)) where
+module _ (bs : List ℕ) (r : Read) (e : r ≡ readOf (recordsRead nothing 0 bs)) where
   pub read-refused : (r .refusal ≡ 0 → ⊥) → r ≡ readOf (readImage bs)
   unfolding readImage
   read-refused z = e ∙ ap readOf (sym (unless-refused (recordsRead nothing 0 bs) (rw e at z)))
@@ -84,14 +71,14 @@ module _ (bs : List ℕ) (bytes : all isByte bs ≡ true) (r : Read) (e : r ≡ 
     state-reads : recordsRead nothing 0 bs ≡ Reads state
     state-reads = reads-plain (recordsRead nothing 0 bs) (records-said nothing 0 bs) (rw e at z)
 
-    state-fits : Valid state
-    state-fits = records-only bs state bytes state-reads .valid
+    state-few : (length (state .regions) ≤ 32) × (length (state .log) ≤ 256)
+    state-few = read-few bs state state-reads
 
     scan-is : r .scan ≡ scanOf state
     scan-is = ap (λ x. x .scan) e ∙ scan-read (recordsRead nothing 0 bs)
 
     tables-judged : contradictsIn (take (r .scan .held) (r .scan .regions)) (take (r .scan .logged) (r .scan .log)) ≡ contradicts state
-    tables-judged = rw (regions-front (r .scan) state scan-is state-fits, log-front (r .scan) state scan-is state-fits) (sym (contradicts-marks state))
+    tables-judged = rw (regions-front (r .scan) state scan-is state-few, log-front (r .scan) state scan-is state-few) (sym (contradicts-marks state))
 
     pub read-contradicted : contradictsIn (take (r .scan .held) (r .scan .regions)) (take (r .scan .logged) (r .scan .log)) ≡ true → readOf (Refuses 8) ≡ readOf (readImage bs)
     unfolding readImage

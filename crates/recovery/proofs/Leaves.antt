@@ -11,15 +11,15 @@ use native.Mathlib.Omega.{arith}
 use native.Mathlib.Numerals.{add-one}
 use borrow.Author.Tests.{ne-eqb}
 use lib.Seq.{getD-take}
+use Rattle.reading.proofs.Walk.{read-few}
 use Rattle.reading.specs.Scan.{markOf, noMark, readOf, scanOf}
 use Rattle.reading.specs.declared.Scan.{Scan}
 use Rattle.recovery.proofs.Accepted.{held-few, log-front, logged-few, reads-plain, refuses-plain, regions-front, scan-read}
-use Rattle.recovery.proofs.Counts.{log-few}
 use Rattle.recovery.proofs.Numbers.{image-said}
 use Rattle.recovery.proofs.Places.{line-inside, old-inside, old-read}
 use Rattle.recovery.proofs.Steps.{step-more, step-past, step-refused}
 use Rattle.recovery.specs.Places.{foundAt, moreOf, oldStart}
-use Rattle.rules.proofs.CodecImage.{only-image, read-valid}
+use Rattle.rules.proofs.CodecImage.{only-image, read-records, read-valid}
 use Rattle.rules.proofs.CodecOnly.{stateRead}
 use Rattle.rules.proofs.CodecValid.{Valid}
 use Rattle.rules.specs.Bytes.{lineAt, lineBytes, paste}
@@ -68,24 +68,24 @@ walk-short (suc n) rs = go (ltb (nextPlace rs) (length rs)) (walk-short n (witho
     go false h = omega arith
     go true h = omega arith
 
-walk-few : (p : Persistent) → Valid p → length (walkEntries p) ≤ 8192
+walk-few : (p : Persistent) → (length (p .regions) ≤ 32) × (length (p .log) ≤ 256) → length (walkEntries p) ≤ 8192
 unfolding walk
-walk-few p v =
+walk-few p few =
     let m : length (map markOf (p .log)) ≡ length (p .log) = length-map (p .log) markOf in
     let n : length (walkEntries p) ≡ length (walkIndices (walk p) (map markOf (p .log))) =
     rw (walk-entries p) (length-map (walkIndices (walk p) (map markOf (p .log))) (λ i. getD (p .log) i noLogged)) in
-    omega (arith, indices-long (walk p) (map markOf (p .log)) (omega (arith, log-few p v)), walk-short (length (p .regions)) (p .regions), v .few)
+    omega (arith, indices-long (walk p) (map markOf (p .log)) (omega (arith, few .1)), walk-short (length (p .regions)) (p .regions), few .0)
 
 -- ---- the entry at a place of the walk
 
-module _ (s : Scan) (p : Persistent) (e : s ≡ scanOf p) (v : Valid p) where
+module _ (s : Scan) (p : Persistent) (e : s ≡ scanOf p) (few : (length (p .regions) ≤ 32) × (length (p .log) ≤ 256)) where
   logged-is : s .logged ≡ length (p .log)
   unfolding scanOf
   logged-is = ap (λ x. x .logged) e
 
   found-is : (at : ℕ) → foundAt s at ≡ entryAt (walk p) (map markOf (p .log)) at
   unfolding walk
-  found-is at = rw (regions-front s p e v, log-front s p e v)
+  found-is at = rw (regions-front s p e few, log-front s p e few)
 
   pub none-found : (at : ℕ) → foundAt s at ≡ Full → drop at (walkEntries p) ≡ []
   none-found at f = entry-none p at (sym (found-is at) ∙ f)
@@ -99,7 +99,7 @@ module _ (s : Scan) (p : Persistent) (e : s ≡ scanOf p) (v : Valid p) where
       rw (logged-is, ← m) (found-below (walk p) (map markOf (p .log)) at i (sym (found-is at) ∙ f))
 
   pub soon-found : (at i : ℕ) → foundAt s at ≡ At i → at < 8192
-  soon-found at i f = omega (arith, length-drop at (walkEntries p), ap length (one-found at i f), walk-few p v)
+  soon-found at i f = omega (arith, length-drop at (walkEntries p), ap length (one-found at i f), walk-few p few)
 
   -- 'more' while entries are left
   pub more-found : (at : ℕ) → moreOf (foundAt s at) ≡ cond (eqb (length (drop at (walkEntries p))) 0) 0 1
@@ -112,7 +112,7 @@ module _ (s : Scan) (p : Persistent) (e : s ≡ scanOf p) (v : Valid p) where
   pub mark-line : (i : ℕ) (d : Mark) → i < s .logged → getD (s .log) i d .line ≡ getD (p .log) i noLogged .line
   mark-line i d h =
       let l : i < length (p .log) = rw logged-is at h in
-      let a : getD (s .log) i d ≡ getD (map markOf (p .log)) i d = sym (getD-take (s .logged) (s .log) i d h) ∙ ap (λ x. getD x i d) (log-front s p e v) in
+      let a : getD (s .log) i d ≡ getD (map markOf (p .log)) i d = sym (getD-take (s .logged) (s .log) i d h) ∙ ap (λ x. getD x i d) (log-front s p e few) in
       ap (λ x. x .line) (a ∙ map-at markOf (p .log) i d noLogged l)
 
 -- ---- a step
@@ -131,24 +131,27 @@ module _ (bs : List ℕ) (bytes : all isByte bs ≡ true) (r : Read) (e : r ≡ 
     state-fits : Valid state
     state-fits = read-valid bs state bytes state-reads
 
+    state-few : (length (state .regions) ≤ 32) × (length (state .log) ≤ 256)
+    state-few = read-few bs state (read-records bs state state-reads .0)
+
     scan-is : r .scan ≡ scanOf state
     scan-is = ap (λ x. x .scan) e ∙ scan-read (readImage bs)
 
     pub few-read : (r .scan .held ≤ 32) × (r .scan .logged ≤ 256)
-    few-read = (held-few (r .scan) state scan-is state-fits, logged-few (r .scan) state scan-is state-fits)
+    few-read = (held-few (r .scan) state scan-is state-few, logged-few (r .scan) state scan-is state-few)
 
     pub leaves-past : foundAt (r .scan) at ≡ Full → record { after = record { bytes = bs; at = at }; answer = answered 0 0 } ≡ restore (record { bytes = bs; at = at })
-    leaves-past f = sym (step-past bs at state state-reads (none-found (r .scan) state scan-is state-fits at f))
+    leaves-past f = sym (step-past bs at state state-reads (none-found (r .scan) state scan-is state-few at f))
 
     module _ (i : ℕ) (f : foundAt (r .scan) at ≡ At i) where
       pub at-small : at < 8192
-      at-small = soon-found (r .scan) state scan-is state-fits at i f
+      at-small = soon-found (r .scan) state scan-is state-few at i f
 
       pub index-small : i < r .scan .logged
-      index-small = inside-found (r .scan) state scan-is state-fits at i f
+      index-small = inside-found (r .scan) state scan-is state-few at i f
 
       in-log : i < length (state .log)
-      in-log = rw (logged-is (r .scan) state scan-is state-fits) at index-small
+      in-log = rw (logged-is (r .scan) state scan-is state-few) at index-small
 
       lines-is : r .scan .lines ≡ state .lines
       unfolding scanOf
@@ -165,7 +168,7 @@ module _ (bs : List ℕ) (bytes : all isByte bs ≡ true) (r : Read) (e : r ≡ 
       old-room = rw (lines-is, held-is) (rw image-is at (old-inside state state-fits i in-log))
 
       pub line-room : (d : Mark) → lineStart (getD (r .scan .log) i d .line) + 64 ≤ length bs
-      line-room d = rw (mark-line (r .scan) state scan-is state-fits i d index-small) (rw image-is at (line-inside state state-fits i in-log))
+      line-room d = rw (mark-line (r .scan) state scan-is state-few i d index-small) (rw image-is at (line-inside state state-fits i in-log))
 
       old-is : lineAt bs (oldStart (r .scan .lines) (r .scan .held) i) ≡ getD (state .log) i noLogged .old
       old-is = rw (lines-is, held-is) (rw image-is at (old-read state state-fits i in-log))
@@ -175,11 +178,11 @@ module _ (bs : List ℕ) (bytes : all isByte bs ≡ true) (r : Read) (e : r ≡ 
           → record { after = record { bytes = out; at = at + 1 }; answer = answered 0 (moreOf g) } ≡ restore (record { bytes = bs; at = at })
       leaves-more d g out q o =
           rw (
-            step-more bs at state (getD (state .log) i noLogged) (drop (suc at) (walkEntries state)) state-reads (one-found (r .scan) state scan-is state-fits at i f),
+            step-more bs at state (getD (state .log) i noLogged) (drop (suc at) (walkEntries state)) state-reads (one-found (r .scan) state scan-is state-few at i f),
             o,
             q,
             add-one at,
-            more-found (r .scan) state scan-is state-fits (suc at),
-            mark-line (r .scan) state scan-is state-fits i d index-small,
+            more-found (r .scan) state scan-is state-few (suc at),
+            mark-line (r .scan) state scan-is state-few i d index-small,
             old-is,
           )

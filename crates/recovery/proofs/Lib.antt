@@ -1,6 +1,5 @@
 pub mod Places
 pub mod Numbers
 pub mod Steps
-pub mod Counts
 pub mod Accepted
 pub mod Leaves

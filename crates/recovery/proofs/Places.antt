@@ -8,7 +8,6 @@ use lib.ListN.{drop, getD, length, length-append, length-drop}
 use native.Mathlib.Omega.{arith}
 use borrow.Author.Tests.{eqb-true, lt-ltb, ltb-true}
 use lib.Seq.{drop-append-add, drop-drop}
-use Rattle.judging.proofs.Search.{long}
 use Rattle.recovery.specs.Places.{oldStart}
 use Rattle.rules.proofs.CodecBytes.{all-at, isLine, length-bytes, length-words, line-back}
 use Rattle.rules.proofs.CodecStore.{length-line}

@@ -1,4 +1,4 @@
--- Where an old line stands in an image: behind the head, the lines, the regions, the log entries before it, and the five bytes of its kind, key and line.
+-- The parts of a recovery step as the programs have them.
 use Rattle.walking.specs.Indices.{entryAt}  -- keep
 use Prim.Native.Nat.{_*_, _+_, ℕ}
 use mathlib.Core.List.{List}
@@ -12,6 +12,8 @@ use Rattle.rules.specs.declared.Answer.{Answer}
 use Rattle.rules.specs.declared.Found.{Found}
 use Rattle.rules.specs.declared.Found.the-variants.{At, Full}
 
+-- where the old line of log entry i stands in an image of l lines and n regions: behind the head, the lines, the regions, the entries before it,
+-- and the five bytes of its kind, key and line
 abbrev pub oldStart : ℕ → ℕ → ℕ → ℕ
 oldStart l n i = 4 + 65 * l + 17 * n + 69 * i + 5
 

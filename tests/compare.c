@@ -1,0 +1,119 @@
+/* compare SEED LISTS: the proved engine against the plain one, on random event files, valid and damaged: answers, images, images after
+   every recovery step, places, refusals of short buffers and of damaged images. The last line is 'N passed, M failed'. */
+#include <stdio.h>
+#include <stdlib.h>
+#include <string.h>
+
+#include "../include/board.h"
+#include "plain/common.h"
+#include "plain/random.h"
+
+enum { EVENTS = 400, FILE_BYTES = (EVENTS + 1) * PLAIN_RECORD_BYTES, SPARE = 16 };
+
+static unsigned long long passed, failed;
+
+static void check(int holds, const char *what, unsigned long long seed) {
+    if (holds) {
+        passed++;
+    } else {
+        failed++;
+        printf("FAILED %s, seed %llu\n", what, seed);
+    }
+}
+
+static int agree(board_answer a, plain_answer b) { return a.refusal == b.refusal && a.value == b.value; }
+
+static uint8_t file[FILE_BYTES], memory[PLAIN_LINES * PLAIN_LINE_BYTES];
+static uint8_t answers[2][(EVENTS + 2) * PLAIN_ANSWER_BYTES + SPARE], image[2][PLAIN_IMAGE_BYTES + SPARE];
+
+/* Answers of the whole file, into a buffer of a given length. */
+static void compare_answers(size_t length, size_t memory_len, size_t room, unsigned long long seed) {
+    memset(answers, 0xA5, sizeof answers);
+    board_answer a = board_events(file, length, memory, memory_len, answers[0], room);
+    plain_answer b = plain_events(file, length, memory, memory_len, answers[1], room);
+    check(agree(a, b), "answer of the events call", seed);
+    check(memcmp(answers[0], answers[1], sizeof answers[0]) == 0, "answers", seed);
+}
+
+/* The image of the file; gives its length, 0 if it was refused. */
+static size_t compare_image(size_t length, size_t memory_len, size_t room, unsigned long long seed) {
+    memset(image, 0x5A, sizeof image);
+    board_answer a = board_image(file, length, memory, memory_len, image[0], room);
+    plain_answer b = plain_image(file, length, memory, memory_len, image[1], room);
+    check(agree(a, b), "answer of the image call", seed);
+    check(memcmp(image[0], image[1], sizeof image[0]) == 0, "image", seed);
+    return a.refusal == 0 ? (size_t)a.value : 0;
+}
+
+/* Recovery steps with cuts between, until both have finished twice. */
+static void compare_recovery(size_t length, random_source *source, unsigned long long seed) {
+    uint8_t place[2][8] = {{0}, {0}};
+    for (int finished = 0, steps = 0; finished < 2 && steps < 2000; steps++) {
+        if (random_chance(source, 40)) memset(place, 0, sizeof place);
+        board_answer a = board_recovery_step(image[0], length, place[0], 8);
+        plain_answer b = plain_recovery_step(image[1], length, place[1], 8);
+        check(agree(a, b), "answer of a recovery step", seed);
+        check(memcmp(image[0], image[1], sizeof image[0]) == 0 && memcmp(place[0], place[1], 8) == 0, "image or place after a step", seed);
+        if (a.refusal != 0) return;
+        finished += a.value == 0;
+    }
+}
+
+/* A recovery step on an image with one byte changed, cut short or lengthened. */
+static void compare_damaged(size_t length, random_source *source, unsigned long long seed) {
+    static uint8_t whole[sizeof image[0]];
+    memcpy(whole, image[0], sizeof whole);
+    for (int i = 0; i < 20; i++) {
+        size_t at = (size_t)random_below(source, random_chance(source, 2) && length > 70 ? length - 70 : length);
+        uint8_t byte = (uint8_t)(random_chance(source, 2) ? random_below(source, 256) : random_below(source, 40));
+        size_t room = random_chance(source, 5) ? (size_t)random_below(source, length + 2) : length;
+        for (int k = 0; k < 2; k++) {
+            memcpy(image[k], whole, sizeof whole);
+            image[k][at] = byte;
+        }
+        compare_recovery(room, source, seed);
+    }
+}
+
+static void compare_file(unsigned long long seed) {
+    random_source source = {seed * 2654435761u + 1};
+    static const uint16_t sizes[] = {1, 2, 3, 5, 8, 17, 64, 256};
+    uint8_t threads = (uint8_t)(1 + random_below(&source, PLAIN_THREADS));
+    uint16_t lines = sizes[random_below(&source, 8)];
+    random_mode mode = (random_mode)random_below(&source, 3);
+    uint64_t count = 2 + random_below(&source, EVENTS - 2);
+    size_t length = random_file(seed, mode, threads, lines, count, file);
+    size_t memory_len = (size_t)lines * PLAIN_LINE_BYTES;
+    if (random_chance(&source, 20)) memory_len = (size_t)random_below(&source, sizeof memory);
+    for (size_t i = 0; i < memory_len; i++) memory[i] = (uint8_t)random_next(&source);
+    compare_answers(length, memory_len, sizeof answers[0], seed);
+    compare_answers(length, memory_len, (size_t)random_below(&source, sizeof answers[0]), seed);
+    compare_image(length, memory_len, (size_t)random_below(&source, sizeof image[0]), seed);
+    size_t image_len = compare_image(length, memory_len, sizeof image[0], seed);
+    if (image_len == 0) return;
+    compare_damaged(image_len, &source, seed);
+    if (compare_image(length, memory_len, sizeof image[0], seed) == image_len) compare_recovery(image_len, &source, seed);
+}
+
+/* Every record of one byte, the empty file, setups in and out of range, places of other lengths. */
+static void compare_small(void) {
+    uint8_t place[9] = {0};
+    for (unsigned b = 0; b < 256; b++) {
+        file[0] = (uint8_t)b;
+        compare_answers(1, 0, PLAIN_ANSWER_BYTES, b);
+        compare_answers(0, 0, b % 4, b);
+    }
+    for (uint64_t t = 0; t < 11; t++)
+        for (uint64_t l = 0; l < 300; l += 7)
+            check(agree(board_start(t, l, memory, (size_t)(64 * l) % sizeof memory), plain_start(t, l, memory, (size_t)(64 * l) % sizeof memory)), "start", t);
+    for (size_t n = 0; n < 10; n++)
+        check(agree(board_recovery_step(image[0], 3, place, n), plain_recovery_step(image[1], 3, place, n)), "place of another length", n);
+}
+
+int main(int argc, char **argv) {
+    unsigned long long seed = argc > 1 ? strtoull(argv[1], NULL, 10) : 1, lists = argc > 2 ? strtoull(argv[2], NULL, 10) : 500;
+    compare_small();
+    for (unsigned long long i = 0; i < lists; i++) compare_file(seed + i);
+    printf("%llu passed, %llu failed\n", passed, failed);
+    return failed != 0;
+}
