@@ -75,6 +75,26 @@ static void compare_damaged(size_t length, random_source *source, unsigned long 
     }
 }
 
+/* A small image damaged at every byte, each by several values: one recovery step on each. */
+static void compare_every_byte(size_t length, unsigned long long seed) {
+    static uint8_t whole[sizeof image[0]];
+    static const uint8_t values[] = {0, 1, 2, 7, 8, 31, 32, 33, 34, 35, 36, 37, 255};
+    memcpy(whole, image[0], sizeof whole);
+    for (size_t at = 0; at < length; at++)
+        for (size_t v = 0; v < 2 + sizeof values; v++) {
+            uint8_t place[2][8] = {{0}, {0}};
+            for (int k = 0; k < 2; k++) {
+                memcpy(image[k], whole, length);
+                image[k][at] = v < sizeof values ? values[v] : (uint8_t)(whole[at] + (v == sizeof values ? 1 : 255));
+            }
+            board_answer a = board_recovery_step(image[0], length, place[0], 8);
+            plain_answer b = plain_recovery_step(image[1], length, place[1], 8);
+            check(agree(a, b) && memcmp(image[0], image[1], length) == 0 && memcmp(place[0], place[1], 8) == 0, "step on a damaged byte", seed);
+        }
+    memcpy(image[0], whole, length);
+    memcpy(image[1], whole, length);
+}
+
 static void compare_file(unsigned long long seed) {
     random_source source = {seed * 2654435761u + 1};
     static const uint16_t sizes[] = {1, 2, 3, 5, 8, 17, 64, 256};
@@ -91,6 +111,7 @@ static void compare_file(unsigned long long seed) {
     compare_image(length, memory_len, (size_t)random_below(&source, sizeof image[0]), seed);
     size_t image_len = compare_image(length, memory_len, sizeof image[0], seed);
     if (image_len == 0) return;
+    if (image_len < 700 && seed % 16 == 0) compare_every_byte(image_len, seed);
     compare_damaged(image_len, &source, seed);
     if (compare_image(length, memory_len, sizeof image[0], seed) == image_len) compare_recovery(image_len, &source, seed);
 }

@@ -1,5 +1,6 @@
-/* speed [EVENTS]: nanoseconds per event of the proved engine beside the plain one, on a mixed and a deep run at T 8, L 256.
-   Each time is the best of five runs over the same file, answers written; both must give the same bytes. */
+/* speed [EVENTS]: nanoseconds per event of the proved engine beside the plain one, on a mixed and a deep run at T 8, L 256; then microseconds for the
+   largest image (32 regions, 256 log entries): the image call, one judgement, a whole recovery.
+   Each time is the best of five runs over the same input; both must give the same bytes. */
 #define _POSIX_C_SOURCE 199309L
 #include <stdio.h>
 #include <stdlib.h>
@@ -40,6 +41,59 @@ static double timed(int proved, const uint8_t *file, size_t length, uint64_t cou
     return best;
 }
 
+/* Four ended regions of each thread, each with eight logged lines, none of them in the medium; then the cut. */
+static size_t largest_file(uint8_t *file) {
+    size_t n = 0;
+    const uint8_t setup[] = {EVENT_SETUP, PLAIN_THREADS, 0, 1};
+    memcpy(file, setup, sizeof setup);
+    n += sizeof setup;
+    for (int r = 0; r < PLAIN_MODIFIED; r++)
+        for (int t = 0; t < PLAIN_THREADS; t++) {
+            file[n++] = EVENT_BEGIN, file[n++] = (uint8_t)t;
+            for (int l = 0; l < PLAIN_SLOTS; l++) {
+                const uint8_t line = (uint8_t)(32 * t + 8 * r + l), record[] = {EVENT_WRITE, (uint8_t)t, line, 0, 7, 0, 0, 0, 0, 0, 0, 0, EVENT_LOG_ACK, line};
+                memcpy(file + n, record, sizeof record);
+                n += sizeof record;
+            }
+            file[n++] = EVENT_END, file[n++] = (uint8_t)t;
+        }
+    file[n++] = EVENT_CUT;
+    return n;
+}
+
+/* A step of either engine. */
+static uint64_t step(int proved, uint8_t *image, size_t length, uint8_t place[8]) {
+    if (proved) return board_recovery_step(image, length, place, 8).value;
+    return plain_recovery_step(image, length, place, 8).value;
+}
+
+/* The best times of the image call, of a judgement alone (a place past the last entry) and of a whole recovery, in microseconds. */
+static void image_times(int proved, const uint8_t *file, size_t length, uint8_t *image, size_t *image_len, double best[3]) {
+    for (int run = 0; run < RUNS; run++) {
+        uint8_t past[8] = {255, 255}, place[8] = {0};
+        double times[3], start = now();
+        *image_len = (size_t)(proved ? board_image(file, length, memory, sizeof memory, image, PLAIN_IMAGE_BYTES).value
+                                     : plain_image(file, length, memory, sizeof memory, image, PLAIN_IMAGE_BYTES).value);
+        times[0] = (now() - start) / 1e3, start = now();
+        step(proved, image, *image_len, past);
+        times[1] = (now() - start) / 1e3, start = now();
+        while (step(proved, image, *image_len, place) != 0) {}
+        times[2] = (now() - start) / 1e3;
+        for (int i = 0; i < 3; i++)
+            if (run == 0 || times[i] < best[i]) best[i] = times[i];
+    }
+}
+
+static int image_speed(void) {
+    static uint8_t file[8192], image[2][PLAIN_IMAGE_BYTES];
+    static const char *const names[] = {"image call", "judgement", "recovery"};
+    size_t length = largest_file(file), image_len[2];
+    double times[2][3];
+    for (int proved = 0; proved < 2; proved++) image_times(proved, file, length, image[proved], &image_len[proved], times[proved]);
+    for (int i = 0; i < 3; i++) printf("%s: proved %.1f us, plain %.1f us, %.1f times\n", names[i], times[1][i], times[0][i], times[1][i] / times[0][i]);
+    return image_len[0] == image_len[1] && image_len[0] == PLAIN_IMAGE_BYTES && memcmp(image[0], image[1], image_len[0]) == 0;
+}
+
 int main(int argc, char **argv) {
     static const char *const names[] = {"mixed", "deep"};
     uint64_t count = argc > 1 ? strtoull(argv[1], NULL, 10) : 1000000;
@@ -55,5 +109,5 @@ int main(int argc, char **argv) {
     }
     free(file);
     free(answers);
-    return 0;
+    return image_speed() ? 0 : 1;
 }
