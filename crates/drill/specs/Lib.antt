@@ -1,0 +1,2 @@
+pub mod Drilled
+pub mod Calls
