@@ -1,5 +1,5 @@
 -- One turn and the end of each loop over the first n elements of a list, for any element type.
-use lib.Dec.{ltb, leb·suc-suc}  -- keep
+use lib.Dec.{ltb, leb·suc-suc}
 use Prim.Native.Nat.{_+_, _<_, _≤_, min, suc, zero, ℕ}
 use mathlib.Core.Path.{_∙_, _≡_, ap, refl, sym}
 use mathlib.Core.Bool.{Bool, _&&_, _||_, false, true}

@@ -1,5 +1,5 @@
 -- The table tells what reaches what, where every dependence is of a listed region.
-use borrow.Author.Tests.{not-false}  -- keep
+use borrow.Author.Tests.{not-false}
 use Prim.Native.Nat.{_<_, suc, zero, ℕ}
 use mathlib.Core.Path.{_∙_, _≡_, ap, ap₂, sym}
 use mathlib.Core.Bool.{_&&_, _||_, false, not, true}

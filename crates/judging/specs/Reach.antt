@@ -1,5 +1,5 @@
 -- Which region reaches which, as a table of bits by places: row p has bit q set where the region at place p reaches the region at place q.
-use lib.Bits.{bitOr}  -- keep
+use lib.Bits.{bitOr}
 use Prim.Native.Nat.{_%_, _/_, _^_, suc, zero, ℕ}
 use mathlib.Core.Bool.{Bool, _&&_, _||_, cond, not}
 use mathlib.Core.List.{List, [], _∷_, map}

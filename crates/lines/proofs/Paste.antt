@@ -1,5 +1,5 @@
 -- Bytes stored one behind the other: the one law that every writer rests on, and where a part of a buffer was lent.
-use borrow.Rule.Slice.PartMut.{midOf, putMid}  -- keep
+use borrow.Rule.Slice.PartMut.{midOf, putMid}
 use Prim.Native.Nat.{_+_, _-_, _≤_, suc, ℕ}
 use mathlib.Core.Path.{_∙_, _≡_}
 use mathlib.Core.List.{List, [], _++_, _∷_, append-assoc, append-nil}

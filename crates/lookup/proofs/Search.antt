@@ -1,5 +1,5 @@
 -- One turn and the end of each search over a list, for any element type and any test: a loop at index i still has `drop i xs` before it.
-use lib.Dec.{ltb, leb·suc-suc}  -- keep
+use lib.Dec.{ltb, leb·suc-suc}
 use Prim.Native.Nat.{_+_, _<_, _≤_, suc, zero, ℕ}
 use mathlib.Core.Path.{_∙_, _≡_, refl, sym}
 use mathlib.Core.Bool.{Bool, cond, false, true}

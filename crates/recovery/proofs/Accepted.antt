@@ -1,5 +1,5 @@
 -- What was read of an image, out of the tables that hold it.
-use Rattle.reading.specs.declared.Read.{Read}  -- keep
+use Rattle.reading.specs.declared.Read.{Read}
 use Prim.Native.Nat.{_≤_, ℕ}
 use mathlib.Core.Path.{_∙_, _≡_, ap, refl, sym}
 use mathlib.Core.Bool.{false, true}

@@ -1,6 +1,6 @@
 -- The entry that a step puts back, by its place in the log, and what the step then leaves.
-use Rattle.reading.specs.declared.Read.{Read}  -- keep
-use Rattle.walking.specs.Indices.{entryAt}  -- keep
+use Rattle.reading.specs.declared.Read.{Read}
+use Rattle.walking.specs.Indices.{entryAt}
 use Prim.Native.Nat.{_*_, _+_, _<_, _≤_, suc, zero, ℕ}
 use mathlib.Core.Path.{_∙_, _≡_, ap, refl, sym}
 use mathlib.Core.Bool.{Bool, cond, false, true}

@@ -1,5 +1,5 @@
 -- The parts of a recovery step as the programs have them.
-use Rattle.walking.specs.Indices.{entryAt}  -- keep
+use Rattle.walking.specs.Indices.{entryAt}
 use Prim.Native.Nat.{_*_, _+_, ℕ}
 use mathlib.Core.List.{List}
 use lib.ListN.{length, take}

@@ -1,5 +1,5 @@
 -- Numbers and words are read back.
-use borrow.Author.Tests.{not-true}  -- keep
+use borrow.Author.Tests.{not-true}
 use Prim.Native.Nat.{_%_, _*_, _+_, _-_, _/_, _<_, _^_, _≤_, suc, zero, ℕ}
 use mathlib.Core.Path.{_∙_, _≡_, refl, sym}
 use mathlib.Core.Bool.{Bool, _&&_, false, not, true}

@@ -1,5 +1,5 @@
 -- Fields and lines are read back.
-use Rattle.lines.proofs.Words.{bytes-num}  -- keep
+use Rattle.lines.proofs.Words.{bytes-num}
 use Prim.Native.Nat.{_*_, _+_, _<_, _^_, _≤_, suc, zero, ℕ}
 use mathlib.Core.Path.{_∙_, _≡_, ap, refl, sym}
 use mathlib.Core.Bool.{true}

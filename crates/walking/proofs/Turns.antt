@@ -1,5 +1,5 @@
 -- The order of the regions: a region taken out of an array, and one turn and the end of the walk.
-use mathlib.Core.List.{append-nil}  -- keep
+use mathlib.Core.List.{append-nil}
 use Prim.Native.Nat.{_+_, _-_, _<_, _≤_, min, suc, zero, ℕ}
 use mathlib.Core.Path.{_≡_, ap, refl}
 use mathlib.Core.Bool.{false, true}

@@ -1,5 +1,5 @@
 -- The entries of the walk are those at the indices of the walk.
-use mathlib.Core.List.{reverse-append}  -- keep
+use mathlib.Core.List.{reverse-append}
 use Prim.Native.Nat.{_<_, _≤_, suc, zero, ℕ}
 use mathlib.Core.Path.{_∙_, _≡_, ap, ap₂, refl, sym}
 use mathlib.Core.Bool.{Bool, cond, false, true≢false}

@@ -1,0 +1,101 @@
+-- What a save that is not refused tells, and the recovered words behind it.
+use Rattle.rules.specs.Image.{image, save}
+use Prim.Native.Nat.{_≤_, ℕ}
+use mathlib.Core.Path.{_∙_, _≡_, ap, refl, sym}
+use mathlib.Core.Bool.{_&&_, cond}
+use mathlib.Core.List.{List, []}
+use lib.Dec.{eqb, leb}
+use lib.ListN.{getD, length, length-append, length-take, take}
+use native.Mathlib.Omega.{arith}
+use borrow.Author.Tests.{eq-eqb, eqb-false, eqb-true, leb-true, ne-eqb}
+use Rattle.rules.specs.Refusal.{isSetUp}
+use Rattle.rules.specs.Run.{Wrote, wroteInto}
+use Rattle.rules.specs.Step.{Stepped, step}
+use Rattle.rules.specs.Tables.{Board}
+use Rattle.rules.specs.declared.Answer.{Answer}
+use Rattle.saving.proofs.Whole.{set-up-lines}
+use Rattle.tracing.proofs.Digits.{either-short}
+use Rattle.tracing.proofs.Texts.{answer-short, event-said, memory-short}
+use Rattle.tracing.specs.Text.{answerText, behindText, cutText, eventText, imageBuffer, memoryText, recovered, recoveredText}
+use Rattle.undo.proofs.Laws.{test}
+
+into-fits : (bs d : List ℕ) → wroteInto bs (length bs) d .answer .refusal ≡ 0 → wroteInto bs (length bs) d .answer .value ≤ length d
+unfolding wroteInto
+into-fits bs d h =
+    test (leb (length bs) (length d))
+    (λ q. rw q (leb-true (length bs) (length d) q))
+    (λ q. let z : _≡_ {A = ℕ} 6 0 = rw q at h in absurd (omega arith))
+
+fits-in : (b : Board) (d : List ℕ) → save b d .answer .refusal ≡ 0 → save b d .answer .value ≤ length d
+unfolding save
+fits-in b d h =
+    test (isSetUp (b .tables) && b .tables .cut)
+    (λ q. rw q (into-fits (image b) d (rw q at h)))
+    (λ q. let z : _≡_ {A = ℕ} 6 0 = rw q at h in absurd (omega arith))
+
+module _ (b : Board) (d d′ : List ℕ) (r : Answer) (e : _≡_ {A = Wrote} (record { answer = r; buffer = d′ }) (save b d)) where
+  pub none-saved : (n : ℕ) → (r .refusal ≡ 0 → ⊥) → recoveredText n (save b d) ≡ []
+  unfolding recoveredText
+  none-saved n h = rw (← e, ne-eqb (r .refusal) 0 h)
+
+  pub some-saved : (n : ℕ) → r .refusal ≡ 0 → recoveredText n (save b d) ≡ memoryText n (recovered (take (r .value) d′))
+  unfolding recoveredText
+  some-saved n h = rw (← e, eq-eqb (r .refusal) 0 h)
+
+  module _ (h : r .refusal ≡ 0) where
+    is-saved : save b d .answer .refusal ≡ 0
+    is-saved = ap (λ (w : Wrote). w .answer .refusal) (sym e) ∙ h
+
+    -- the board is set up, so that it has at most 256 lines
+    pub saved-lines : b .tables .size .lines ≤ 256
+    unfolding save
+    saved-lines =
+        test (isSetUp (b .tables) && b .tables .cut)
+        (λ q. set-up-lines (b .tables) q)
+        (λ q. let z : _≡_ {A = ℕ} 6 0 = rw q at is-saved in absurd (omega arith))
+
+    -- the image fits the buffer
+    pub saved-fits : r .value ≤ length d
+    saved-fits = rw (ap (λ (w : Wrote). w .answer .value) e) (fits-in b d is-saved)
+
+-- what is written for any buffer is written for the cut's
+pub cut-said : (b : Board) (d : List ℕ) → d ≡ imageBuffer → recoveredText (b .tables .size .lines) (save b d) ≡ cutText b
+unfolding cutText
+cut-said b d e = ap (λ (x : List ℕ). recoveredText (b .tables .size .lines) (save b x)) e
+
+pub taken : (n : ℕ) (l : List ℕ) → n ≤ length l → n ≡ length (take n l)
+taken n l h = simp length-take (omega arith)
+
+-- ---- the length of the text of one event
+
+saved-short : (b : Board) (d : List ℕ) → length (recoveredText (b .tables .size .lines) (save b d)) ≤ 133120
+saved-short b d =
+    let r = save b d .answer in
+    let d′ = save b d .buffer in
+    let n = b .tables .size .lines in
+    test (eqb (r .refusal) 0)
+    (λ q. let h = eqb-true (r .refusal) 0 q in
+    rw (some-saved b d d′ r refl n h) (omega (arith, memory-short n (recovered (take (r .value) d′)), saved-lines b d d′ r refl h)))
+    (λ q. rw (none-saved b d d′ r refl n (eqb-false (r .refusal) 0 q)) (omega arith))
+
+cut-short : (b : Board) → length (cutText b) ≤ 133120
+cut-short b = omega (arith, saved-short b imageBuffer, ap length (cut-said b imageBuffer refl))
+
+behind-short : (k : ℕ) (s : Stepped) → length (behindText k s) ≤ 133120
+unfolding behindText
+behind-short k s =
+    either-short (eqb k 8) (cond (eqb (s .answer .refusal) 0) (cutText (s .board)) []) [] 133120
+    (either-short (eqb (s .answer .refusal) 0) (cutText (s .board)) [] 133120 (cut-short (s .board)) (omega arith))
+    (omega arith)
+
+pub event-short : (b : Board) (bs : List ℕ) → length (eventText b bs) ≤ 133183
+event-short b bs =
+    let k = getD bs 0 0 in
+    let s = step b bs in
+    omega (
+      arith,
+      ap length (event-said b bs),
+      length-append (answerText k (s .answer)) (behindText k s),
+      answer-short k (s .answer),
+      behind-short k s,
+    )

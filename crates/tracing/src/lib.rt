@@ -1,0 +1,260 @@
+// The text that a trace prints: a line for each answer, and behind an accepted cut a line for each word of the recovered memory that is not zero.
+// Every writer has one contract shape: given room for its bytes from `at` on, the buffer at exit has them there and nothing else changed, and the
+// answer is the place behind them.
+use rules::Answer;
+use rules::Tables;
+ghost use Prim.Native.Nat.{ℕ, _%_, _*_, _+_, _<_, _≤_};
+ghost use mathlib.Core.Path.{_≡_};
+ghost use mathlib.Core.List.{List, [], _∷_};
+ghost use lib.ListN.{length};
+ghost use Rattle.rules.specs.Image.{save};
+ghost use Rattle.steps.specs.Parts.{board};
+ghost use Rattle.tracing.specs.Text.{answerText, behindText, cutText, decimal, imageBuffer, imageLine, lineText, memoryText, numberText, recordLength, recovered, recoveredText, wordText};
+ghost use Rattle.tracing.specs.Results.{Put, TracedEvent};
+
+fn put_byte(dst: &mut [u8], at: usize, x: u8) -> usize
+    requires { ⌜ at + length (x ∷ []) ≤ length (now dst) ⌝ }
+    ensures { λ r. ⌜ Put (now (dst .entry)) (now (dst .exit)) at r (x ∷ []) ⌝ }
+{
+    dst[at] = x;
+    at + 1
+}
+
+fn digit(n: u64) -> u8
+    ensures { λ r. ⌜ r ≡ 48 + n % 10 ⌝ }
+{
+    48 + (n % 10) as u8
+}
+
+// A number in decimal.
+pub fn put_decimal(dst: &mut [u8], at: usize, n: u64) -> usize
+    requires { ⌜ at + length (decimal n) ≤ length (now dst) ⌝ }
+    ensures { λ r. ⌜ Put (now (dst .entry)) (now (dst .exit)) at r (decimal n) ⌝ }
+{
+    if n < 10 {
+        return put_byte(dst, at, digit(n));
+    }
+    let p = put_decimal(dst, at, n / 10);
+    put_byte(dst, p, digit(n))
+}
+
+// A number and the byte that ends it.
+fn put_number(dst: &mut [u8], at: usize, n: u64, end: u8) -> usize
+    requires { ⌜ at + length (numberText n end) ≤ length (now dst) ⌝ }
+    ensures { λ r. ⌜ Put (now (dst .entry)) (now (dst .exit)) at r (numberText n end) ⌝ }
+{
+    let p = put_decimal(dst, at, n);
+    put_byte(dst, p, end)
+}
+
+// The line of an answer: kind, refusal, value.
+pub fn answer_line(dst: &mut [u8], at: usize, kind: u8, a: Answer) -> usize
+    requires { ⌜ at + length (answerText kind a) ≤ length (now dst) ⌝ }
+    ensures { λ r. ⌜ Put (now (dst .entry)) (now (dst .exit)) at r (answerText kind a) ⌝ }
+{
+    let p = put_number(dst, at, kind as u64, 32);
+    let q = put_number(dst, p, a.refusal as u64, 32);
+    put_number(dst, q, a.value, 10)
+}
+
+// The line of a recovered word; none for zero.
+fn word_line(dst: &mut [u8], at: usize, l: usize, w: usize, v: u64) -> usize
+    requires { ⌜ at + length (wordText l w v) ≤ length (now dst) ⌝ }
+    ensures { λ r. ⌜ Put (now (dst .entry)) (now (dst .exit)) at r (wordText l w v) ⌝ }
+{
+    if v == 0 {
+        return at;
+    }
+    let a = put_byte(dst, at, 77);
+    let b = put_byte(dst, a, 32);
+    let c = put_number(dst, b, l as u64, 32);
+    let d = put_number(dst, c, w as u64, 32);
+    put_number(dst, d, v, 10)
+}
+
+// The lines of the words of line l.
+fn line_words(dst: &mut [u8], at: usize, l: usize, line: [u64; 8]) -> usize
+    requires { ⌜ at + length (lineText l line) ≤ length (now dst) ⌝ }
+    ensures { λ r. ⌜ Put (now (dst .entry)) (now (dst .exit)) at r (lineText l line) ⌝ }
+{
+    let mut p = at;
+    let mut w: usize = 0;
+    while w < 8 {
+        p = word_line(dst, p, l, w, line[w]);
+        w += 1;
+    }
+    p
+}
+
+// Line l of an image, out of its record; zero where the image does not hold it.
+fn image_line(image: &[u8], l: usize) -> [u64; 8]
+    requires { ⌜ l ≤ 255 ⌝ }
+    ensures { λ r. ⌜ r ≡ imageLine (now (image .entry)) l ⌝ }
+{
+    let at = 4 + (65 * l + 1);
+    if at + 64 <= image.len() {
+        return lines::take_line(image, at);
+    }
+    [0; 8]
+}
+
+// The lines of the words of an image's first n lines.
+fn memory_words(dst: &mut [u8], at: usize, image: &[u8], n: usize) -> usize
+    requires { ⌜ (n ≤ 256) × (at + length (memoryText n (now image)) ≤ length (now dst)) ⌝ }
+    ensures { λ r. ⌜ Put (now (dst .entry)) (now (dst .exit)) at r (memoryText n (now (image .entry))) ⌝ }
+{
+    let mut p = at;
+    let mut l: usize = 0;
+    while l < n {
+        p = line_words(dst, p, l, image_line(image, l));
+        l += 1;
+    }
+    p
+}
+
+// Recovery steps over an image until one does not answer 'more'.
+fn recover(image: &mut [u8])
+    ensures { λ _. ⌜ now (image .exit) ≡ recovered (now (image .entry)) ⌝ }
+{
+    let mut at: u64 = 0;
+    let mut n: usize = 256;
+    loop {
+        let s = recovery::step_at(image, at);
+        let a = s.answer;
+        if a.value != 1 {
+            break;
+        }
+        if n == 0 {
+            break;
+        }
+        at = s.at;
+        n -= 1;
+    }
+}
+
+// The lines of the words that recovery leaves in an image of n lines.
+fn image_words(dst: &mut [u8], at: usize, image: &mut [u8], n: usize) -> usize
+    requires { ⌜ (n ≤ 256) × (at + 520 * n ≤ length (now dst)) ⌝ }
+    ensures { λ r. ⌜ Put (now (dst .entry)) (now (dst .exit)) at r (memoryText n (recovered (now (image .entry)))) ⌝ }
+{
+    recover(image);
+    memory_words(dst, at, image, n)
+}
+
+// The same of the image that is saved into a lent buffer.
+fn saved_words(
+    dst: &mut [u8],
+    at: usize,
+    t: Tables,
+    med: &[[u64; 8]; 256],
+    old: &[[u64; 8]; 256],
+    image: &mut [u8],
+) -> usize
+    requires { ⌜ at + 133120 ≤ length (now dst) ⌝ }
+    ensures { λ r. ⌜ ((cur car : List (List ℕ)) → Put (now (dst .entry)) (now (dst .exit)) at r (recoveredText (t .size .lines) (save (board t cur (now (med .entry)) (now (old .entry)) car) (now (image .entry))))) ⌝ }
+{
+    let a = saving::save(t, med, old, image);
+    if a.refusal != 0 {
+        return at;
+    }
+    let n = a.value as usize;
+    let size = t.size;
+    image_words(dst, at, &mut image[..n], size.lines as usize)
+}
+
+// A buffer for the longest image.
+fn image_buffer() -> [u8; 34853]
+    ensures { λ r. ⌜ r ≡ imageBuffer ⌝ }
+{
+    [0; 34853]
+}
+
+// The same of the image that a cut leaves.
+fn cut_words(
+    dst: &mut [u8],
+    at: usize,
+    t: Tables,
+    med: &[[u64; 8]; 256],
+    old: &[[u64; 8]; 256],
+) -> usize
+    requires { ⌜ at + 133120 ≤ length (now dst) ⌝ }
+    ensures { λ r. ⌜ ((cur car : List (List ℕ)) → Put (now (dst .entry)) (now (dst .exit)) at r (cutText (board t cur (now (med .entry)) (now (old .entry)) car))) ⌝ }
+{
+    let mut image = image_buffer();
+    saved_words(dst, at, t, med, old, &mut image)
+}
+
+// What stands behind the line of an answer: the recovered words if a cut is accepted.
+fn behind_words(
+    dst: &mut [u8],
+    at: usize,
+    kind: u8,
+    a: Answer,
+    t: Tables,
+    med: &[[u64; 8]; 256],
+    old: &[[u64; 8]; 256],
+) -> usize
+    requires { ⌜ at + 133120 ≤ length (now dst) ⌝ }
+    ensures { λ r. ⌜ ((cur car : List (List ℕ)) → Put (now (dst .entry)) (now (dst .exit)) at r (behindText kind (record { board = board t cur (now (med .entry)) (now (old .entry)) car; answer = a }))) ⌝ }
+{
+    if kind != 8 {
+        return at;
+    }
+    if a.refusal != 0 {
+        return at;
+    }
+    cut_words(dst, at, t, med, old)
+}
+
+// The bytes of the record at the front; 0 if it is cut short or of an unknown kind, and so ends its file.
+fn record_length(bytes: &[u8]) -> usize
+    ensures { λ r. ⌜ r ≡ recordLength (now (bytes .entry)) ⌝ }
+{
+    if bytes.len() == 0 {
+        return 0;
+    }
+    let kind = bytes[0];
+    if 8 < kind {
+        return 0;
+    }
+    let there = bytes.len() - 1;
+    let wanted = events::body_length(kind);
+    if there < wanted {
+        return 0;
+    }
+    wanted + 1
+}
+
+// What an event leaves: the tables, the place behind its text, and the bytes of its record, 0 for one that ends its file.
+pub struct Traced {
+    pub tables: Tables,
+    pub at: usize,
+    pub passed: usize,
+}
+
+// One event of a file: its step, and its text from `at` on.
+pub fn trace_event(
+    t: Tables,
+    cur: &mut [[u64; 8]; 256],
+    med: &mut [[u64; 8]; 256],
+    old: &mut [[u64; 8]; 256],
+    car: &mut [[u64; 8]; 256],
+    bytes: &[u8],
+    dst: &mut [u8],
+    at: usize,
+) -> Traced
+    requires { ⌜ (0 < length (now bytes)) × (at + 133183 ≤ length (now dst)) ⌝ }
+    ensures { λ r. ⌜ TracedEvent (board t (now (cur .entry)) (now (med .entry)) (now (old .entry)) (now (car .entry))) (board (r .tables) (now (cur .exit)) (now (med .exit)) (now (old .exit)) (now (car .exit))) (now (bytes .entry)) (now (dst .entry)) (now (dst .exit)) at r ⌝ }
+{
+    let kind = bytes[0];
+    let o = engine::event(t, cur, med, old, car, bytes);
+    let u = o.tables;
+    let a = o.answer;
+    let p = answer_line(dst, at, kind, a);
+    let q = behind_words(dst, p, kind, a, u, med, old);
+    Traced {
+        tables: u,
+        at: q,
+        passed: record_length(bytes),
+    }
+}
