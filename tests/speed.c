@@ -41,26 +41,6 @@ static double timed(int proved, const uint8_t *file, size_t length, uint64_t cou
     return best;
 }
 
-/* Four ended regions of each thread, each with eight logged lines, none of them in the medium; then the cut. */
-static size_t largest_file(uint8_t *file) {
-    size_t n = 0;
-    const uint8_t setup[] = {EVENT_SETUP, PLAIN_THREADS, 0, 1};
-    memcpy(file, setup, sizeof setup);
-    n += sizeof setup;
-    for (int r = 0; r < PLAIN_MODIFIED; r++)
-        for (int t = 0; t < PLAIN_THREADS; t++) {
-            file[n++] = EVENT_BEGIN, file[n++] = (uint8_t)t;
-            for (int l = 0; l < PLAIN_SLOTS; l++) {
-                const uint8_t line = (uint8_t)(32 * t + 8 * r + l), record[] = {EVENT_WRITE, (uint8_t)t, line, 0, 7, 0, 0, 0, 0, 0, 0, 0, EVENT_LOG_ACK, line};
-                memcpy(file + n, record, sizeof record);
-                n += sizeof record;
-            }
-            file[n++] = EVENT_END, file[n++] = (uint8_t)t;
-        }
-    file[n++] = EVENT_CUT;
-    return n;
-}
-
 /* A step of either engine. */
 static uint64_t step(int proved, uint8_t *image, size_t length, uint8_t place[8]) {
     if (proved) return board_recovery_step(image, length, place, 8).value;
@@ -85,7 +65,7 @@ static void image_times(int proved, const uint8_t *file, size_t length, uint8_t 
 }
 
 static int image_speed(void) {
-    static uint8_t file[8192], image[2][PLAIN_IMAGE_BYTES];
+    static uint8_t file[LARGEST_FILE_BYTES], image[2][PLAIN_IMAGE_BYTES];
     static const char *const names[] = {"image call", "judgement", "recovery"};
     size_t length = largest_file(file), image_len[2];
     double times[2][3];

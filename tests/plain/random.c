@@ -136,3 +136,22 @@ size_t random_file(uint64_t seed, random_mode mode, uint8_t threads, uint16_t li
     file[length++] = EVENT_CUT;
     return mode == RANDOM_DAMAGED ? damage_file(&events.source, file, length) : length;
 }
+
+size_t largest_file(uint8_t file[LARGEST_FILE_BYTES]) {
+    size_t n = 0;
+    const uint8_t setup[] = {EVENT_SETUP, PLAIN_THREADS, 0, 1};
+    memcpy(file, setup, sizeof setup);
+    n += sizeof setup;
+    for (int r = 0; r < PLAIN_MODIFIED; r++)
+        for (int t = 0; t < PLAIN_THREADS; t++) {
+            file[n++] = EVENT_BEGIN, file[n++] = (uint8_t)t;
+            for (int l = 0; l < PLAIN_SLOTS; l++) {
+                const uint8_t line = (uint8_t)(32 * t + 8 * r + l), record[] = {EVENT_WRITE, (uint8_t)t, line, 0, 7, 0, 0, 0, 0, 0, 0, 0, EVENT_LOG_ACK, line};
+                memcpy(file + n, record, sizeof record);
+                n += sizeof record;
+            }
+            file[n++] = EVENT_END, file[n++] = (uint8_t)t;
+        }
+    file[n++] = EVENT_CUT;
+    return n;
+}

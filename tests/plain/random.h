@@ -33,4 +33,9 @@ size_t random_record(random_events *events, const plain_engine *engine, uint8_t 
    The buffer must hold `count` times the longest record, and one record more. */
 size_t random_file(uint64_t seed, random_mode mode, uint8_t threads, uint16_t lines, uint64_t count, uint8_t *file);
 
+/* A file whose image is the largest there is: four ended regions of each thread, each with eight logged lines, none of them in the medium; then the cut.
+   Gives its length. */
+enum { LARGEST_FILE_BYTES = 4 + PLAIN_THREADS * PLAIN_MODIFIED * (2 + 2 + PLAIN_SLOTS * (PLAIN_RECORD_BYTES + 2)) + 1 };
+size_t largest_file(uint8_t file[LARGEST_FILE_BYTES]);
+
 #endif

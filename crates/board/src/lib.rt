@@ -1,6 +1,6 @@
 // The calls for benches in C; include/board.h declares them. A slice is a pointer and a length. No call keeps state.
 use rules::Answer;
-use rules::Event;
+use rules::Size;
 ghost use mathlib.Core.Path.{_≡_};
 ghost use Rattle.rules.specs.Image.{imageCall};
 ghost use Rattle.rules.specs.Recovery.{RecoveryCall, recoveryCall};
@@ -26,8 +26,13 @@ pub extern "C" fn board_start(threads: u64, lines: u64, memory: &[u8]) -> Answer
     if 256 < lines {
         return answer(6);
     }
-    let t = starting::fresh_tables(false, memory.len() as u64);
-    answer(refusals::refusal(t, Event::Setup(threads as u8, lines as u16)))
+    let z = Size {
+        threads: 0,
+        lines: 0,
+        zero: false,
+        lent: memory.len() as u64,
+    };
+    answer(refusals::setup_refusal(z, threads as u8, lines as u16))
 }
 
 // Runs an event file over lent starting memory and writes nine bytes for each answer; the value is the number of answers.

@@ -1,3 +1,4 @@
 pub mod Walk
 pub mod Next
 pub mod Turns
+pub mod Settled

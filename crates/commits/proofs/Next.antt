@@ -28,11 +28,11 @@ or-none : (a : Bool) → (a || false) ≡ a
 or-none true = refl
 or-none false = refl
 
-done-same : (r : Region) → (r .ended && not (hasSlot r)) ≡ false → r ≡ doneRegion r
+pub done-same : (r : Region) → (r .ended && not (hasSlot r)) ≡ false → r ≡ doneRegion r
 unfolding doneRegion
 done-same r e = ap (λ d. withDone d r) (sym (rw e (or-none (r .done))))
 
-and-none : (a : Bool) {b : Bool} → b ≡ false → (a && b) ≡ false
+pub and-none : (a : Bool) {b : Bool} → b ≡ false → (a && b) ≡ false
 and-none true e = e
 and-none false e = refl
 

@@ -10,6 +10,7 @@ ghost use Rattle.rules.specs.Lists.{all};
 ghost use Rattle.rules.specs.Tables.{withDeps, withRegions};
 ghost use Rattle.rules.specs.Commit.{afterCommit, commit, commits, doneRegion, earliest, freed, freedEntry, settled, withoutDep};
 ghost use Rattle.commits.specs.Choice.{choiceOf, nextChoice, settlementOf};
+ghost use Rattle.commits.specs.Settled.{isSettled, ripe};
 
 // The tables after a step's commits, and how many there were.
 pub struct Settlement {
@@ -122,6 +123,34 @@ pub fn next_commit(t: Tables) -> Choice
     best
 }
 
+// ---- whether a step leaves anything to settle
+
+// Whether the region can commit, or has yet to become done and can: it has ended and has no slot.
+fn is_ripe(r: Region) -> bool
+    ensures { λ x. ⌜ x ≡ ripe r ⌝ }
+{
+    if r.done {
+        can_commit(r)
+    } else {
+        r.ended && !slots::has_slot(r)
+    }
+}
+
+// Whether no region becomes done or commits: then `settle` would give the tables back as they are.
+pub fn is_settled(regions: [Region; 32]) -> bool
+    ensures { λ x. ⌜ x ≡ isSettled regions ⌝ }
+{
+    let mut i: usize = 0;
+    while i < 32 {
+        let r = regions[i];
+        if is_ripe(r) {
+            return false;
+        }
+        i += 1;
+    }
+    true
+}
+
 // ---- a commit
 
 // The dependences without the committed region.
@@ -219,7 +248,7 @@ fn commit_region(key: u32, t: Tables) -> Tables
 }
 
 // What a step leaves: regions become done, then commit, the earliest ended first, until none can commit. Each commit takes a place of the list, so
-// there are at most 32. Most steps commit none: then the tables are walked twice and nothing else is done.
+// there are at most 32. `is_settled` tells whether there is anything to do.
 pub fn settle(t: Tables) -> Settlement
     ensures { λ x. ⌜ x ≡ settlementOf (settled t) ⌝ }
 {

@@ -1,4 +1,5 @@
-pub mod Accepted
 pub mod Steps
+pub mod Body
 pub mod Records
+pub mod Walked
 pub mod Call

@@ -6,9 +6,8 @@ use lib.Dec.{ltb}
 use lib.ListN.{drop, getD, length, length-append, length-drop}
 use native.Mathlib.Omega.{arith}
 use borrow.Author.Tests.{ltb-false}
-use lib.Seq.{drop-drop, drop-length, sets}
+use lib.Seq.{drop-drop, drop-length}
 use Rattle.engine.specs.Parts.{sizeOf}
-use Rattle.lines.proofs.Paste.{sets-join}
 use Rattle.lines.proofs.Words.{length-bytes}
 use Rattle.rules.specs.Bytes.{bytesOf}
 use Rattle.rules.specs.Lists.{flat}
@@ -90,11 +89,6 @@ bytes-long (a ∷ as′) = rw (length-append (answerBytes a) (answersBytes as′
 pub file-end : (file : List ℕ) (at : ℕ) → length file ≤ at → recordsFrom 0 (drop at file) ≡ []
 file-end file at h = records-none (drop at file) (rw (length-drop at file) (omega arith))
 
-pub run-none : (b : Board) (file : List ℕ) (at : ℕ) → length file ≤ at
-    → (run b (recordsFrom 0 (drop at file)) .board ≡ b) × (answersBytes (run b (recordsFrom 0 (drop at file)) .answers) ≡ [])
-unfolding run answersBytes flat
-run-none b file at h = rw (file-end file at h) (refl, refl)
-
 module _ (file : List ℕ) (at : ℕ) (h : at < length file) where
   abbrev pub front : List ℕ
   front = drop at file
@@ -113,18 +107,3 @@ module _ (file : List ℕ) (at : ℕ) (h : at < length file) where
 
   pub count-more : length (recordsFrom 0 front) ≡ suc (length behind)
   count-more = ap length file-more
-
-  module _ (b : Board) where
-    pub run-board : run b (recordsFrom 0 front) .board ≡ run (step b front .board) behind .board
-    unfolding run
-    run-board = rw file-more
-
-    pub run-bytes : answersBytes (run b (recordsFrom 0 front) .answers) ≡ answerBytes (step b front .answer) ++ answersBytes (run (step b front .board) behind .answers)
-    unfolding run answersBytes flat
-    run-bytes = rw file-more
-
-    -- an answer's nine bytes, and behind them those of the rest
-    pub bytes-more : (d : List ℕ) (p : ℕ) → sets d p (answersBytes (run b (recordsFrom 0 front) .answers))
-        ≡ sets (sets d p (answerBytes (step b front .answer))) (p + 9) (answersBytes (run (step b front .board) behind .answers))
-    bytes-more d p =
-        ap (sets d p) run-bytes ∙ sets-join d p (answerBytes (step b front .answer)) (answersBytes (run (step b front .board) behind .answers)) ∙ rw (answer-long (step b front .answer))

@@ -1,23 +1,31 @@
-// One event call, and the run of an event file. The reading half decides, the applying half applies: a refusal changes nothing.
+// One event call, and the run of an event file. An event's sight is taken out of the tables, tested, and applied; the change is stored where the tables stand.
+// A refusal changes nothing.
+use commits::Settlement;
 use rules::Answer;
 use rules::Event;
 use rules::Reading;
+use rules::Region;
 use rules::Tables;
-ghost use Prim.Native.Nat.{ℕ, _*_, _≤_, _<_};
+use rules::Thread;
+use sights::Sight;
+use steps::Change;
+ghost use Prim.Native.Nat.{_%_, _*_, _+_, _≤_};
 ghost use mathlib.Core.Path.{_≡_};
-ghost use mathlib.Core.List.{List};
+ghost use mathlib.Core.Bool.{_&&_, _||_, not};
 ghost use lib.ListN.{length};
 ghost use lib.Seq.{sets};
-ghost use Rattle.rules.specs.Tables.{Board};
-ghost use Rattle.rules.specs.Refusal.{refusal};
 ghost use Rattle.rules.specs.Commit.{settled};
 ghost use Rattle.rules.specs.Record.{recordsOf};
-ghost use Rattle.rules.specs.Step.{Stepped, accept, apply, step};
-ghost use Rattle.rules.specs.Run.{Wrote, answersBytes, eventsCall, run};
+ghost use Rattle.rules.specs.Step.{Stepped, step};
+ghost use Rattle.rules.specs.Run.{Wrote, answerBytes, answersBytes, eventsCall};
 ghost use Rattle.rules.specs.Image.{imageCall};
-ghost use Rattle.rules.specs.declared.Event.the-variants.{DataAck, End, LogAck, Read, Write};
+ghost use Rattle.commits.specs.Choice.{settlementOf};
+ghost use Rattle.commits.specs.Settled.{isSettled};
+ghost use Rattle.sights.specs.Sight.{threadIn};
+ghost use Rattle.sights.specs.Tests.{seenRefusal};
+ghost use Rattle.steps.specs.Change.{Effect, droppedIf};
 ghost use Rattle.steps.specs.Parts.{board};
-ghost use Rattle.engine.specs.Parts.{outcome, sizeOf, stepped};
+ghost use Rattle.engine.specs.Parts.{decided, eventIn, lastOf, sizeOf, verdictOf, walked};
 
 // The answer to an event, and the tables after it.
 pub struct Outcome {
@@ -25,135 +33,10 @@ pub struct Outcome {
     pub tables: Tables,
 }
 
-fn answered(t: Tables, refusal: u8, value: u64) -> Outcome
-    ensures { λ r. ⌜ r ≡ outcome refusal value t ⌝ }
-{
-    Outcome {
-        answer: Answer {
-            refusal: refusal,
-            value: value,
-        },
-        tables: t,
-    }
-}
-
-// What a step makes done and commits; the value is the number of commits.
-fn settle(t: Tables) -> Outcome
-    ensures { λ r. ⌜ r ≡ outcome 0 (settled t .commits) (settled t .tables) ⌝ }
-{
-    let s = commits::settle(t);
-    let u = s.tables;
-    answered(u, 0, s.commits)
-}
-
-// ---- the events that commit
-
-fn end_event(t: Tables, cur: &[[u64; 8]; 256], car: &mut [[u64; 8]; 256], th: u8) -> Outcome
-    requires { ⌜ th < 8 ⌝ }
-    ensures { λ r. ⌜ ((med old : List (List ℕ)) → stepped r (now (cur .entry)) med old (now (car .exit)) ≡ accept (apply (board t (now (cur .entry)) med old (now (car .entry))) (End th))) ⌝ }
-{
-    let threads = t.threads;
-    let x = lookup::thread_at(threads, th as usize);
-    if x.depth == 1 {
-        let u = steps::end_step(t, cur, car, th);
-        return settle(u);
-    }
-    let u = steps::shallower_step(t, th);
-    answered(u, 0, 0)
-}
-
-fn log_ack_event(t: Tables, cur: &[[u64; 8]; 256], car: &mut [[u64; 8]; 256], l: u8) -> Outcome
-    ensures { λ r. ⌜ ((med old : List (List ℕ)) → stepped r (now (cur .entry)) med old (now (car .exit)) ≡ accept (apply (board t (now (cur .entry)) med old (now (car .entry))) (LogAck l))) ⌝ }
-{
-    let u = steps::log_ack_step(t, cur, car, l);
-    settle(u)
-}
-
-fn data_ack_event(t: Tables, med: &mut [[u64; 8]; 256], car: &[[u64; 8]; 256], l: u8) -> Outcome
-    ensures { λ r. ⌜ ((cur old : List (List ℕ)) → stepped r cur (now (med .exit)) old (now (car .entry)) ≡ accept (apply (board t cur (now (med .entry)) old (now (car .entry))) (DataAck l))) ⌝ }
-{
-    let u = steps::data_ack_step(t, med, car, l);
-    settle(u)
-}
-
-// ---- the other events
-
-fn read_event(t: Tables, cur: &[[u64; 8]; 256], th: u8, l: u8, w: u8) -> Outcome
-    requires { ⌜ w < 8 ⌝ }
-    ensures { λ r. ⌜ ((med old car : List (List ℕ)) → stepped r (now (cur .entry)) med old car ≡ accept (apply (board t (now (cur .entry)) med old car) (Read th l w))) ⌝ }
-{
-    let li = l as usize;
-    let x = cur[li];
-    let wi = w as usize;
-    let u = steps::read_step(t, th, l);
-    answered(u, 0, x[wi])
-}
-
-fn cut_event(t: Tables) -> Outcome
-    ensures { λ r. ⌜ ((cur med old car : List (List ℕ)) → stepped r cur med old car ≡ accept (apply (board t cur med old car) Event.Cut)) ⌝ }
-{
-    let regions = t.regions;
-    let n = lookup::count_held(regions);
-    let u = steps::cut_step(t);
-    answered(u, 0, n as u64)
-}
-
-// An accepted event: what it does and the value of its answer.
-fn apply(
-    t: Tables,
-    cur: &mut [[u64; 8]; 256],
-    med: &mut [[u64; 8]; 256],
-    old: &mut [[u64; 8]; 256],
-    car: &mut [[u64; 8]; 256],
-    e: Event,
-) -> Outcome
-    requires { ⌜ refusal t e ≡ 0 ⌝ }
-    ensures { λ r. ⌜ stepped r (now (cur .exit)) (now (med .exit)) (now (old .exit)) (now (car .exit)) ≡ accept (apply (board t (now (cur .entry)) (now (med .entry)) (now (old .entry)) (now (car .entry))) e) ⌝ }
-{
-    match e {
-        Event::Setup(n, l) => answered(steps::setup_step(t, n, l), 0, 0),
-        Event::Begin(th) => answered(steps::begin_step(t, th), 0, 0),
-        Event::End(th) => end_event(t, cur, car, th),
-        Event::Read(th, l, w) => read_event(t, cur, th, l, w),
-        Event::Write(th, l, w, v) => answered(
-            steps::write_step(t, cur, old, car, th, l, w, v),
-            0,
-            0,
-        ),
-        Event::LogAck(l) => log_ack_event(t, cur, car, l),
-        Event::DataAck(l) => data_ack_event(t, med, car, l),
-        Event::Fence(th) => answered(t, 0, lookup::fence_value(t, th)),
-        Event::Cut => cut_event(t),
-    }
-}
-
-// One event call: a record of any content. A refusal changes nothing; bytes behind a whole record are not looked at.
-pub fn event(
-    t: Tables,
-    cur: &mut [[u64; 8]; 256],
-    med: &mut [[u64; 8]; 256],
-    old: &mut [[u64; 8]; 256],
-    car: &mut [[u64; 8]; 256],
-    bytes: &[u8],
-) -> Outcome
-    ensures { λ r. ⌜ _≡_ {A = Stepped} (record { board = record { tables = r .tables; cur = now (cur .exit); med = now (med .exit); old = now (old .exit); car = now (car .exit) }; answer = r .answer }) (step (record { tables = t; cur = now (cur .entry); med = now (med .entry); old = now (old .entry); car = now (car .entry) }) (now (bytes .entry))) ⌝ }
-{
-    let reading = events::read_record(bytes);
-    let Reading::Whole(e) = reading else {
-        return answered(t, events::number_of(reading), 0);
-    };
-    let n = refusals::refusal(t, e);
-    if n == 0 {
-        return apply(t, cur, med, old, car, e);
-    }
-    answered(t, n, 0)
-}
-
 // ---- an event file
 
 // The bytes of the record at the front; one that ends its file takes the rest of it.
 fn record_size(bytes: &[u8]) -> usize
-    requires { ⌜ 0 < length (now bytes) ⌝ }
     ensures { λ r. ⌜ r ≡ sizeOf (now (bytes .entry)) ⌝ }
 {
     let reading = events::read_record(bytes);
@@ -177,7 +60,94 @@ pub fn record_count(file: &[u8]) -> usize
     n
 }
 
-// The records of a file one by one, each on what the last one left; nine bytes for each answer.
+// ---- one record
+
+// The event of a record; a refused record stands as a cut, which changes nothing then.
+fn event_in(r: Reading) -> Event
+    ensures { λ e. ⌜ e ≡ eventIn r ⌝ }
+{
+    match r {
+        Reading::Refused(_) => Event::Cut,
+        Reading::Whole(e) => e,
+    }
+}
+
+// The place of the event's thread in the list, which has eight.
+fn thread_place(threads: [Thread; 8], e: Event, o: u32) -> usize
+    ensures { λ r. ⌜ (r ≡ threadIn e o % 8) × (length threads ≡ 8) ⌝ }
+{
+    (sights::thread_in(e, o) % 8) as usize
+}
+
+// The refusal of a record, 0 for accepted.
+fn verdict(r: Reading, s: Sight) -> u8
+    ensures { λ n. ⌜ n ≡ verdictOf r s ⌝ }
+{
+    let Reading::Whole(e) = r else {
+        return events::number_of(r);
+    };
+    refusals::refusal(s, e)
+}
+
+// What an event changes, refused with n or accepted with 0.
+fn decide(
+    n: u8,
+    s: Sight,
+    lock: [bool; 256],
+    cur: &mut [[u64; 8]; 256],
+    med: &mut [[u64; 8]; 256],
+    old: &mut [[u64; 8]; 256],
+    car: &mut [[u64; 8]; 256],
+    e: Event,
+) -> Change
+    requires { ⌜ (n ≡ 0 → seenRefusal s e ≡ 0) ⌝ }
+    ensures { λ r. ⌜ _≡_ {A = Effect} (record { change = r; cur = now (cur .exit); med = now (med .exit); old = now (old .exit); car = now (car .exit) }) (decided n s lock (now (cur .entry)) (now (med .entry)) (now (old .entry)) (now (car .entry)) e) ⌝ }
+{
+    if n == 0 {
+        return steps::change_of(s, lock, cur, med, old, car, e);
+    }
+    steps::same(s)
+}
+
+// Whether anything is dropped, becomes done or commits after a change; regions are those after it.
+fn unsettled(c: Change, regions: [Region; 32]) -> bool
+    ensures { λ r. ⌜ r ≡ (c .settles && (c .drops || not (isSettled regions))) ⌝ }
+{
+    if c.settles {
+        if c.drops {
+            return true;
+        }
+        return !commits::is_settled(regions);
+    }
+    false
+}
+
+// What is dropped, then what becomes done and commits.
+fn finish(t: Tables, drops: bool, k: u32, l: u8) -> Settlement
+    ensures { λ r. ⌜ r ≡ settlementOf (settled (droppedIf drops k l t)) ⌝ }
+{
+    if drops {
+        let u = steps::drop_flights(t, k, l);
+        return commits::settle(u);
+    }
+    commits::settle(t)
+}
+
+// The nine bytes of an answer, if there is room for them, and the place behind.
+fn put_next(answers: &mut [u8], p: usize, refusal: u8, value: u64) -> usize
+    ensures { λ r. ⌜ (length (now (answers .exit)) ≡ length (now (answers .entry))) × (p + 9 ≤ length (now (answers .entry)) → (r ≡ p + 9) × (now (answers .exit) ≡ sets (now (answers .entry)) p (answerBytes (record { refusal = refusal; value = value })))) ⌝ }
+{
+    if answers.len() < 9 {
+        return p;
+    }
+    if answers.len() - 9 < p {
+        return p;
+    }
+    lines::put_answer(answers, p, refusal, value);
+    p + 9
+}
+
+// The first n records of a file, each on what the last one left. The answers are written if there is room for all; the outcome has the last one.
 fn run_records(
     t: Tables,
     cur: &mut [[u64; 8]; 256],
@@ -185,24 +155,84 @@ fn run_records(
     old: &mut [[u64; 8]; 256],
     car: &mut [[u64; 8]; 256],
     file: &[u8],
+    n: usize,
     answers: &mut [u8],
-) -> Tables
-    requires { ⌜ 9 * length (recordsOf (now file)) ≤ length (now answers) ⌝ }
-    ensures { λ r. ⌜ (board r (now (cur .exit)) (now (med .exit)) (now (old .exit)) (now (car .exit)) ≡ run (board t (now (cur .entry)) (now (med .entry)) (now (old .entry)) (now (car .entry))) (recordsOf (now (file .entry))) .board) × (now (answers .exit) ≡ sets (now (answers .entry)) 0 (answersBytes (run (board t (now (cur .entry)) (now (med .entry)) (now (old .entry)) (now (car .entry))) (recordsOf (now (file .entry))) .answers))) ⌝ }
+) -> Outcome
+    ensures { λ r. ⌜ (board (r .tables) (now (cur .exit)) (now (med .exit)) (now (old .exit)) (now (car .exit)) ≡ walked n (board t (now (cur .entry)) (now (med .entry)) (now (old .entry)) (now (car .entry))) (now (file .entry)) .board) × ((r .answer ≡ lastOf (record { refusal = 0; value = 0 }) (walked n (board t (now (cur .entry)) (now (med .entry)) (now (old .entry)) (now (car .entry))) (now (file .entry)) .answers)) × (9 * n ≤ length (now (answers .entry)) → now (answers .exit) ≡ sets (now (answers .entry)) 0 (answersBytes (walked n (board t (now (cur .entry)) (now (med .entry)) (now (old .entry)) (now (car .entry))) (now (file .entry)) .answers)))) ⌝ }
 {
     let mut u = t;
+    let mut answer = Answer {
+        refusal: 0,
+        value: 0,
+    };
+    let mut left = n;
     let mut at: usize = 0;
     let mut p: usize = 0;
-    while at < file.len() {
-        let o = event(u, cur, med, old, car, &file[at..]);
-        let a = o.answer;
-        lines::put_answer(answers, p, a.refusal, a.value);
-        u = o.tables;
+    while 0 < left {
+        let reading = events::read_record(&file[at..]);
+        let e = event_in(reading);
+        let l = sights::line_in(e);
+        let li = l as usize;
+        let o = u.owner[li];
+        let threads = u.threads;
+        let ti = thread_place(threads, e, o);
+        let x = u.threads[ti];
+        let b = u.lock[li];
+        let regions = u.regions;
+        let z = u.size;
+        let s = sights::sight_of(z, u.cut, u.clock, x, o, b, regions, e);
+        let v = verdict(reading, s);
+        let lock = u.lock;
+        let c = decide(v, s, lock, cur, med, old, car, e);
+        let size = c.size;
+        u.size = size;
+        u.cut = c.cut;
+        u.clock = c.clock;
+        let thread = c.thread;
+        u.threads[ti] = thread;
+        u.owner[li] = c.owner;
+        u.lock[li] = c.lock;
+        let place = c.place;
+        if place < 32 {
+            let region = c.region;
+            u.regions[place] = region;
+        }
+        let mut value = c.value;
+        let now = u.regions;
+        if unsettled(c, now) {
+            let f = finish(u, c.drops, c.owner, l);
+            let after = f.tables;
+            u = after;
+            value = f.commits;
+        }
+        answer = Answer {
+            refusal: v,
+            value: value,
+        };
+        p = put_next(answers, p, v, value);
         let k = record_size(&file[at..]);
         at += k;
-        p += 9;
+        left -= 1;
     }
-    u
+    Outcome {
+        answer: answer,
+        tables: u,
+    }
+}
+
+// One event call: a record of any content. A refusal changes nothing; bytes behind a whole record are not looked at.
+pub fn event(
+    t: Tables,
+    cur: &mut [[u64; 8]; 256],
+    med: &mut [[u64; 8]; 256],
+    old: &mut [[u64; 8]; 256],
+    car: &mut [[u64; 8]; 256],
+    bytes: &[u8],
+) -> Outcome
+    ensures { λ r. ⌜ _≡_ {A = Stepped} (record { board = record { tables = r .tables; cur = now (cur .exit); med = now (med .exit); old = now (old .exit); car = now (car .exit) }; answer = r .answer }) (step (record { tables = t; cur = now (cur .entry); med = now (med .entry); old = now (old .entry); car = now (car .entry) }) (now (bytes .entry))) ⌝ }
+{
+    let mut none = [0u8; 1];
+    run_records(t, cur, med, old, car, bytes, 1, &mut none)
 }
 
 // An event file over lent starting memory: the answers' bytes, and their number as the value; 6 and nothing written if the buffer is too short.
@@ -223,33 +253,11 @@ pub fn run_file(file: &[u8], memory: &[u8], answers: &mut [u8]) -> Answer
     let mut car = [[0u64; 8]; 256];
     starting::load(memory, &mut cur);
     starting::load(memory, &mut med);
-    run_records(t, &mut cur, &mut med, &mut old, &mut car, file, answers);
+    run_records(t, &mut cur, &mut med, &mut old, &mut car, file, n, answers);
     Answer {
         refusal: 0,
         value: n as u64,
     }
-}
-
-// The records of a file one by one, each on what the last one left, with no answers written.
-fn run_events(
-    t: Tables,
-    cur: &mut [[u64; 8]; 256],
-    med: &mut [[u64; 8]; 256],
-    old: &mut [[u64; 8]; 256],
-    car: &mut [[u64; 8]; 256],
-    file: &[u8],
-) -> Tables
-    ensures { λ r. ⌜ board r (now (cur .exit)) (now (med .exit)) (now (old .exit)) (now (car .exit)) ≡ run (board t (now (cur .entry)) (now (med .entry)) (now (old .entry)) (now (car .entry))) (recordsOf (now (file .entry))) .board ⌝ }
-{
-    let mut u = t;
-    let mut at: usize = 0;
-    while at < file.len() {
-        let o = event(u, cur, med, old, car, &file[at..]);
-        u = o.tables;
-        let k = record_size(&file[at..]);
-        at += k;
-    }
-    u
 }
 
 // An event file over lent starting memory, and the image that its cut left: 6 if no cut was accepted or the buffer is shorter than the image.
@@ -263,6 +271,18 @@ pub fn run_image(file: &[u8], memory: &[u8], image: &mut [u8]) -> Answer
     let mut car = [[0u64; 8]; 256];
     starting::load(memory, &mut cur);
     starting::load(memory, &mut med);
-    let u = run_events(t, &mut cur, &mut med, &mut old, &mut car, file);
+    let n = record_count(file);
+    let mut none = [0u8; 1];
+    let o = run_records(
+        t,
+        &mut cur,
+        &mut med,
+        &mut old,
+        &mut car,
+        file,
+        n,
+        &mut none,
+    );
+    let u = o.tables;
     saving::save(u, &med, &old, image)
 }

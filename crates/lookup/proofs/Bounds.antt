@@ -28,10 +28,6 @@ module _ {A : Type 0} (p : A → Bool) (xs : List A) where
   pub place-none : any p xs ≡ false → place p xs ≡ length xs
   place-none e = let h : length xs ≤ place p xs = ltb-false _ _ (sym (any-place p xs) ∙ e) in let k = place-le p xs in omega arith
 
--- an uncommitted region has a place
-pub listed-place : (k : ℕ) (rs : List Region) → listed k rs ≡ true → placeOf k rs < length rs
-listed-place k rs e = place-lt (isKey k) rs (and-true (not (eqb k 0)) (any (isKey k) rs) e .1)
-
 -- ---- the element at the place found
 
 module _ {A : Type 0} (p : A → Bool) where

@@ -5,7 +5,6 @@ use rules::Found;
 use rules::Region;
 use rules::Slot;
 use rules::SlotState;
-use rules::Tables;
 use rules::Thread;
 ghost use mathlib.Core.Path.{_≡_};
 ghost use mathlib.Core.Bool.{cond};
@@ -13,12 +12,11 @@ ghost use lib.Dec.{eqb};
 ghost use lib.ListN.{getD};
 ghost use Rattle.undo.specs.Table.{any};
 ghost use Rattle.rules.specs.Lists.{count, place};
-ghost use Rattle.rules.specs.Tables.{current, isHeld, isKey, listed, locked, noEntry, noRegion, noSlot, noThread, ownerOf, placeOf, regionAt};
+ghost use Rattle.rules.specs.Tables.{isHeld, isKey, listed, noEntry, noRegion, noSlot, noThread, placeOf, regionAt};
 ghost use Rattle.rules.specs.Slots.{carries, isEmpty, names, orAt, slotFor};
-ghost use Rattle.rules.specs.Access.{dependence, isHad, isOf, joined, needsLog};
+ghost use Rattle.rules.specs.Access.{isHad, isOf, joined};
 ghost use Rattle.rules.specs.Acknowledge.{flightPlace};
-ghost use Rattle.rules.specs.Refusal.{inFlight, isModified, isOfThread};
-ghost use Rattle.rules.specs.Step.{fence};
+ghost use Rattle.rules.specs.Refusal.{isModified, isOfThread};
 
 // ---- what a free place holds
 
@@ -203,14 +201,6 @@ pub fn has_thread(regions: [Region; 32], t: u8) -> bool
     thread_place(regions, t) < 32
 }
 
-// The value of a fence.
-pub fn fence_value(t: Tables, th: u8) -> u64
-    ensures { λ r. ⌜ r ≡ fence th t ⌝ }
-{
-    let regions = t.regions;
-    if has_thread(regions, th) { 0 } else { 1 }
-}
-
 // ---- threads
 
 pub fn thread_at(threads: [Thread; 8], t: usize) -> Thread
@@ -224,48 +214,7 @@ pub fn thread_at(threads: [Thread; 8], t: usize) -> Thread
     }
 }
 
-// The key of the thread's last region.
-pub fn current_of(t: Tables, th: u8) -> u32
-    ensures { λ r. ⌜ r ≡ current th t ⌝ }
-{
-    let threads = t.threads;
-    let x = thread_at(threads, th as usize);
-    65536 * (th as u32) + (x.last as u32)
-}
-
-// ---- lines
-
-// The uncommitted owner of a line; 0 if there is none.
-pub fn owner_of(t: Tables, l: u8) -> u32
-    ensures { λ r. ⌜ r ≡ ownerOf l t ⌝ }
-{
-    let k = t.owner[l as usize];
-    let regions = t.regions;
-    if is_listed(regions, k) { k } else { 0 }
-}
-
-pub fn is_locked(t: Tables, l: u8) -> bool
-    ensures { λ r. ⌜ r ≡ locked l t ⌝ }
-{
-    t.lock[l as usize]
-}
-
-// Whether a write of the line by region `key` needs a log entry.
-pub fn needs_log(t: Tables, key: u32, l: u8) -> bool
-    ensures { λ r. ⌜ r ≡ needsLog key l t ⌝ }
-{
-    t.owner[l as usize] != key
-}
-
 // ---- dependences
-
-// The dependence that an access of the line by region `key` brings; 0 if none.
-pub fn dependence_of(t: Tables, key: u32, l: u8) -> u32
-    ensures { λ r. ⌜ r ≡ dependence key l t ⌝ }
-{
-    let o = owner_of(t, l);
-    if o == key { 0 } else { o }
-}
 
 // The place of the dependence d; of 0, the first free place.
 pub fn dep_place(deps: [u32; 4], d: u32) -> usize
@@ -424,20 +373,6 @@ pub fn flight_place(regions: [Region; 32], l: u8) -> usize
         i += 1;
     };
     at
-}
-
-fn any_carries(regions: [Region; 32], l: u8) -> bool
-    ensures { λ b. ⌜ b ≡ any (λ r. any (carries l) (r .slots)) regions ⌝ }
-{
-    flight_place(regions, l) < 32
-}
-
-// Whether the line l is in flight.
-pub fn in_flight(t: Tables, l: u8) -> bool
-    ensures { λ r. ⌜ r ≡ inFlight l t ⌝ }
-{
-    let regions = t.regions;
-    any_carries(regions, l)
 }
 
 // Whether the slot is in use for the line l.

@@ -93,11 +93,11 @@ fn stay(refusal: u8, at: u64) -> Walked
     }
 }
 
-// A recovery step at a place.
-pub fn step_at(image: &mut [u8], at: u64) -> Walked
+// A recovery step over an image that was read: the entry at the place goes back to its line.
+fn restore_read(image: &mut [u8], read: Read, at: u64) -> Walked
+    requires { ⌜ read ≡ readOf (readImage (now image)) ⌝ }
     ensures { λ r. ⌜ restoredOf (now (image .exit)) r ≡ restore (record { bytes = now (image .entry); at = at }) ⌝ }
 {
-    let read = read_image(image);
     if read.refusal != 0 {
         return stay(read.refusal, at);
     }
@@ -123,6 +123,14 @@ pub fn step_at(image: &mut [u8], at: u64) -> Walked
         },
         at: next,
     }
+}
+
+// A recovery step at a place.
+pub fn step_at(image: &mut [u8], at: u64) -> Walked
+    ensures { λ r. ⌜ restoredOf (now (image .exit)) r ≡ restore (record { bytes = now (image .entry); at = at }) ⌝ }
+{
+    let read = read_image(image);
+    restore_read(image, read, at)
 }
 
 // The walk's own place: the number of steps made since the last cut.

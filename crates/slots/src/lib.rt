@@ -4,13 +4,13 @@ use rules::Region;
 use rules::Slot;
 use rules::SlotState;
 ghost use mathlib.Core.Path.{_≡_};
-ghost use mathlib.Core.Bool.{cond, not};
+ghost use mathlib.Core.Bool.{_&&_, cond, not};
 ghost use mathlib.Core.List.{map};
 ghost use lib.ListN.{set};
 ghost use Rattle.undo.specs.Table.{any};
 ghost use Rattle.rules.specs.Lists.{place};
 ghost use Rattle.rules.specs.Tables.{lineOf, noSlot};
-ghost use Rattle.rules.specs.Slots.{carried, carries, countedSlot, flies, flownSlots, hasSlot, isEmpty, isRipe, written};
+ghost use Rattle.rules.specs.Slots.{carried, carries, countedSlot, flownSlots, hasSlot, isEmpty, isRipe, written};
 ghost use Rattle.rules.specs.Acknowledge.{dropped, droppedSlot, landed};
 ghost use Rattle.rules.specs.declared.SlotState.the-variants.{InFlight};
 ghost use Rattle.rules.specs.declared.Slot.{Slot};
@@ -193,12 +193,12 @@ fn is_ripe(st: SlotState, ended: bool) -> bool
     }
 }
 
-fn flies(s: Slot, ended: bool, lock: [bool; 256]) -> bool
-    ensures { λ r. ⌜ r ≡ flies lock ended s ⌝ }
+// Whether the slot flies, where its line is locked or not.
+fn flies(s: Slot, ended: bool, locked: bool) -> bool
+    ensures { λ r. ⌜ r ≡ (isRipe ended (s .state) && not locked) ⌝ }
 {
     let st = s.state;
-    let l = s.line as usize;
-    is_ripe(st, ended) && !lock[l]
+    is_ripe(st, ended) && !locked
 }
 
 // The slot, in flight if it flies.
@@ -241,7 +241,8 @@ pub fn fly(
     let mut i: usize = 0;
     while i < 8 {
         let s = q[i];
-        let f = flies(s, ended, lock);
+        let li = s.line as usize;
+        let f = flies(s, ended, lock[li]);
         carry(s.line, f, cur, car);
         q[i] = flown_slot(s, f);
         i += 1;

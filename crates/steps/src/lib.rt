@@ -1,96 +1,114 @@
-// What an accepted event does, one function for each event: tables by value, the line memories lent. A place behind its list, of a key that is not
-// listed, changes nothing, as in the definitions.
+// What an accepted event does, worked out of what it looks at: a small change of the tables, and the lent line memories written.
 use rules::Entry;
+use rules::Event;
 use rules::Region;
+use rules::Size;
 use rules::Tables;
 use rules::Thread;
-ghost use Prim.Native.Nat.{ℕ, _+_, _*_, _-_, _<_};
+use sights::Sight;
+ghost use Prim.Native.Nat.{_+_, _*_, _-_, _<_};
 ghost use mathlib.Core.Path.{_≡_};
 ghost use mathlib.Core.Bool.{_&&_, cond, false, not, true};
 ghost use mathlib.Core.List.{List, map};
 ghost use lib.Dec.{eqb, leb};
 ghost use lib.ListN.{getD, length, set};
 ghost use Rattle.undo.specs.Table.{any};
-ghost use Rattle.rules.specs.Lists.{place};
-ghost use Rattle.rules.specs.Tables.{current, keyOf, lineOf, listed, noThread, placeOf, regionAt, threadAt};
-ghost use Rattle.rules.specs.Begin.{begin, begun, deeper, opened};
-ghost use Rattle.rules.specs.Access.{isOf, logged, needsLog, read, write};
-ghost use Rattle.rules.specs.Acknowledge.{dataAck, dropped, flightPlace, isEntry, kept, keptEntry, logAck, unlocked};
-ghost use Rattle.rules.specs.End.{endRegion, endedRegion, shallower, tick};
-ghost use Rattle.rules.specs.Flight.{flown};
-ghost use Rattle.rules.specs.Step.{setup, withCut};
-ghost use Rattle.steps.specs.Parts.{board, carriedBy, flownRegion, joinedRegion, withDepth, withEntry, withRegion, wroteRegion};
+ghost use Rattle.rules.specs.Lists.{count, place};
+ghost use Rattle.rules.specs.Tables.{keyOf, lineOf, withRegions};
+ghost use Rattle.rules.specs.Access.{isOf, storeWord};
+ghost use Rattle.rules.specs.Acknowledge.{dropped, isEntry, kept, keptEntry};
+ghost use Rattle.rules.specs.End.{endedRegion, tick};
+ghost use Rattle.rules.specs.declared.Entry.{Entry};
+ghost use Rattle.sights.specs.Tests.{seenDep, seenKey, seenNeeds, seenRefusal};
+ghost use Rattle.steps.specs.Change.{Effect, beginChange, begunWith, cutChange, dataAckChange, effectOf, endChange, endedNow, lockNow, logAckChange, nextRegion, same, setupChange, withLog, withRegionAt, withValue, writeChange, wroteNow};
+ghost use Rattle.steps.specs.Parts.{carriedBy, flownRegion, joinedRegion, withDepth, wroteRegion};
 
-// ---- the lists' places: each answer comes with the length of its list
-
-fn thread_in(threads: [Thread; 8], i: usize) -> Thread
-    ensures { λ r. ⌜ (r ≡ getD threads i noThread) × (length threads ≡ 8) ⌝ }
-{
-    lookup::thread_at(threads, i)
+// What an event changes: its thread, the region at a place (32 for none), the last writer and the lock of its line, and the numbers. `settles`: regions
+// may become done and commit after it, and its value is their number; `drops`: flights of other regions on the line are dropped first.
+pub struct Change {
+    pub size: Size,
+    pub cut: bool,
+    pub clock: u32,
+    pub thread: Thread,
+    pub place: usize,
+    pub region: Region,
+    pub owner: u32,
+    pub lock: bool,
+    pub settles: bool,
+    pub drops: bool,
+    pub value: u64,
 }
 
-fn place_in(regions: [Region; 32], k: u32) -> usize
-    ensures { λ r. ⌜ (r ≡ placeOf k regions) × (length regions ≡ 32) ⌝ }
+// Nothing changes.
+pub fn same(s: Sight) -> Change
+    ensures { λ r. ⌜ r ≡ same s ⌝ }
 {
-    lookup::place_of(regions, k)
+    let z = s.size;
+    let x = s.thread;
+    let r = lookup::no_region();
+    Change {
+        size: z,
+        cut: s.cut,
+        clock: s.clock,
+        thread: x,
+        place: 32,
+        region: r,
+        owner: s.owner,
+        lock: s.locked,
+        settles: false,
+        drops: false,
+        value: 0,
+    }
 }
 
-fn flight_in(regions: [Region; 32], l: u8) -> usize
-    ensures { λ r. ⌜ (r ≡ flightPlace l regions) × (length regions ≡ 32) ⌝ }
-{
-    lookup::flight_place(regions, l)
-}
-
-fn thread_of(t: Tables, th: u8) -> Thread
-    ensures { λ r. ⌜ r ≡ threadAt th t ⌝ }
-{
-    let threads = t.threads;
-    lookup::thread_at(threads, th as usize)
-}
-
-// ---- setup and cut
+// ---- setup, fence and cut
 
 // T and L stand.
-pub fn setup_step(t: Tables, n: u8, l: u16) -> Tables
-    ensures { λ r. ⌜ r ≡ setup n l t ⌝ }
+fn setup_change(s: Sight, n: u8, l: u16) -> Change
+    ensures { λ r. ⌜ r ≡ setupChange s n l ⌝ }
 {
-    let z = t.size;
-    let mut y = z;
-    y.threads = n;
-    y.lines = l;
-    let mut u = t;
-    u.size = y;
-    u
+    let mut z = s.size;
+    z.threads = n;
+    z.lines = l;
+    let mut c = same(s);
+    c.size = z;
+    c
 }
 
-pub fn cut_step(t: Tables) -> Tables
-    ensures { λ r. ⌜ r ≡ withCut t ⌝ }
+// The value tells whether every region of the thread has committed.
+fn fence_change(s: Sight) -> Change
+    ensures { λ r. ⌜ r ≡ withValue (cond (s .survey .some) 0 1) (same s) ⌝ }
 {
-    let mut u = t;
-    u.cut = true;
-    u
+    let v = s.survey;
+    let mut c = same(s);
+    if !v.some {
+        c.value = 1;
+    }
+    c
+}
+
+fn cut_change(s: Sight) -> Change
+    ensures { λ r. ⌜ r ≡ cutChange s ⌝ }
+{
+    let v = s.survey;
+    let mut c = same(s);
+    c.cut = true;
+    c.value = v.held as u64;
+    c
 }
 
 // ---- begin
 
-fn key_of(th: u8, n: u16) -> u32
-    ensures { λ r. ⌜ r ≡ keyOf th n ⌝ }
+fn key_of(t: u8, n: u16) -> u32
+    ensures { λ r. ⌜ r ≡ keyOf t n ⌝ }
 {
-    65536 * (th as u32) + (n as u32)
+    65536 * (t as u32) + (n as u32)
 }
 
-// The dependence of a region on its predecessor p: none if that is committed.
-fn predecessor(regions: [Region; 32], p: u32) -> u32
-    ensures { λ r. ⌜ r ≡ cond (listed p regions) p 0 ⌝ }
+// Region k as it begins, with the dependence d on its predecessor.
+fn begun_with(k: u32, d: u32) -> Region
+    ensures { λ r. ⌜ r ≡ begunWith k d ⌝ }
 {
-    if lookup::is_listed(regions, p) { p } else { 0 }
-}
-
-// Region k as it begins; its predecessor is region p.
-fn begun(regions: [Region; 32], k: u32, p: u32) -> Region
-    ensures { λ r. ⌜ r ≡ begun k p regions ⌝ }
-{
-    let d = predecessor(regions, p);
     let s = lookup::no_slot();
     Region {
         key: k,
@@ -103,9 +121,9 @@ fn begun(regions: [Region; 32], k: u32, p: u32) -> Region
 }
 
 // The thread with its next region open.
-fn opened_thread(x: Thread) -> Thread
+fn next_region(x: Thread) -> Thread
     requires { ⌜ x .last < 65535 ⌝ }
-    ensures { λ r. ⌜ r ≡ record { depth = 1; last = x .last + 1; log = x .log } ⌝ }
+    ensures { λ r. ⌜ r ≡ nextRegion x ⌝ }
 {
     let mut y = x;
     y.depth = 1;
@@ -113,52 +131,53 @@ fn opened_thread(x: Thread) -> Thread
     y
 }
 
-fn open_region(t: Tables, th: u8) -> Tables
-    requires { ⌜ (th < 8) × (threadAt th t .last < 65535) ⌝ }
-    ensures { λ r. ⌜ r ≡ opened th t ⌝ }
+fn deeper_thread(x: Thread) -> Thread
+    requires { ⌜ x .depth < 255 ⌝ }
+    ensures { λ r. ⌜ r ≡ withDepth (x .depth + 1) x ⌝ }
 {
-    let ti = th as usize;
-    let x = thread_of(t, th);
-    let y = opened_thread(x);
-    let k = key_of(th, y.last);
-    let p = lookup::current_of(t, th);
-    let regions = t.regions;
-    let r = begun(regions, k, p);
-    let i = place_in(regions, 0);
-    let mut u = t;
-    u.threads[ti] = y;
-    if i < 32 {
-        u.regions[i] = r;
-    }
-    u
-}
-
-fn go_deeper(t: Tables, th: u8) -> Tables
-    requires { ⌜ (th < 8) × (threadAt th t .depth < 255) ⌝ }
-    ensures { λ r. ⌜ r ≡ deeper th t ⌝ }
-{
-    let ti = th as usize;
-    let mut x = thread_of(t, th);
-    x.depth = x.depth + 1;
-    let mut u = t;
-    u.threads[ti] = x;
-    u
+    let mut y = x;
+    y.depth = x.depth + 1;
+    y
 }
 
 // At depth 0 numbers are left: refusal 14.
-pub fn begin_step(t: Tables, th: u8) -> Tables
-    requires { ⌜ (th < 8) × ((threadAt th t .depth < 255) × (eqb (threadAt th t .depth) 0 && leb 65535 (threadAt th t .last) ≡ false)) ⌝ }
-    ensures { λ r. ⌜ r ≡ begin th t ⌝ }
+fn begin_change(s: Sight, t: u8) -> Change
+    requires { ⌜ (s .thread .depth < 255) × (eqb (s .thread .depth) 0 && leb 65535 (s .thread .last) ≡ false) ⌝ }
+    ensures { λ r. ⌜ r ≡ beginChange s t ⌝ }
 {
-    let x = thread_of(t, th);
+    let x = s.thread;
+    let mut c = same(s);
     if x.depth == 0 {
-        open_region(t, th)
+        let v = s.survey;
+        let y = next_region(x);
+        let k = key_of(t, y.last);
+        c.thread = y;
+        c.place = v.place;
+        c.region = begun_with(k, v.other);
     } else {
-        go_deeper(t, th)
+        c.thread = deeper_thread(x);
     }
+    c
 }
 
 // ---- read and write
+
+// The last region of the event's thread t.
+fn seen_key(s: Sight, t: u8) -> u32
+    ensures { λ r. ⌜ r ≡ seenKey t s ⌝ }
+{
+    let x = s.thread;
+    key_of(t, x.last)
+}
+
+// The dependence that an access by thread t brings; 0 if none.
+fn seen_dep(s: Sight, t: u8) -> u32
+    ensures { λ r. ⌜ r ≡ seenDep t s ⌝ }
+{
+    let v = s.survey;
+    let o = v.other;
+    if o == seen_key(s, t) { 0 } else { o }
+}
 
 // The region with the dependence d, 0 for none.
 fn joined_region(r: Region, d: u32) -> Region
@@ -171,19 +190,21 @@ fn joined_region(r: Region, d: u32) -> Region
     q
 }
 
-pub fn read_step(t: Tables, th: u8, l: u8) -> Tables
-    ensures { λ r. ⌜ r ≡ read (current th t) l t ⌝ }
+fn read_change(s: Sight, cur: &[[u64; 8]; 256], t: u8, l: u8, w: u8) -> Change
+    requires { ⌜ w < 8 ⌝ }
+    ensures { λ r. ⌜ r ≡ withValue (getD (lineOf l (now (cur .entry))) w 0) (withRegionAt (s .survey .place) (joinedRegion (seenDep t s) (s .survey .region)) (same s)) ⌝ }
 {
-    let k = lookup::current_of(t, th);
-    let d = lookup::dependence_of(t, k, l);
-    let regions = t.regions;
-    let i = place_in(regions, k);
-    let mut u = t;
-    if i < 32 {
-        let r = lookup::region_in(regions, i);
-        u.regions[i] = joined_region(r, d);
-    }
-    u
+    let v = s.survey;
+    let r = v.region;
+    let d = seen_dep(s, t);
+    let li = l as usize;
+    let x = cur[li];
+    let wi = w as usize;
+    let mut c = same(s);
+    c.place = v.place;
+    c.region = joined_region(r, d);
+    c.value = x[wi];
+    c
 }
 
 // The region after a write of line l that brings the dependence d.
@@ -197,9 +218,9 @@ fn wrote_region(r: Region, d: u32, l: u8) -> Region
     q
 }
 
-// The log with a new entry of region k for line l.
-fn with_entry(log: [Entry; 32], k: u32, l: u8) -> [Entry; 32]
-    ensures { λ r. ⌜ r ≡ withEntry k l log ⌝ }
+// The log with a new entry of region k for line l at place i; it has 32 places.
+fn with_entry(log: [Entry; 32], i: usize, k: u32, l: u8) -> [Entry; 32]
+    ensures { λ r. ⌜ _≡_ {A = List Entry} r (set log i (record { key = k; line = l; rank = count (isOf k) log; persistent = false })) × (length log ≡ 32) ⌝ }
 {
     let e = Entry {
         key: k,
@@ -207,7 +228,6 @@ fn with_entry(log: [Entry; 32], k: u32, l: u8) -> [Entry; 32]
         rank: lookup::entry_count(log, k),
         persistent: false,
     };
-    let i = lookup::free_entry(log);
     let mut q = log;
     if i < 32 {
         q[i] = e;
@@ -215,31 +235,19 @@ fn with_entry(log: [Entry; 32], k: u32, l: u8) -> [Entry; 32]
     q
 }
 
-// Where the old line of the thread's next log entry goes; the log has 32 places.
-fn old_place(log: [Entry; 32], th: u8) -> usize
-    ensures { λ r. ⌜ (r ≡ 32 * th + place (isOf 0) log) × (length log ≡ 32) ⌝ }
+// The line y becomes a log entry of region k of thread t, whose log has a free place.
+fn log_line(x: Thread, old: &mut [[u64; 8]; 256], y: [u64; 8], t: u8, k: u32, l: u8) -> Thread
+    requires { ⌜ (t < 8) × (any (isOf 0) (x .log) ≡ true) ⌝ }
+    ensures { λ r. ⌜ (r ≡ withLog k l x) × (now (old .exit) ≡ set (now (old .entry)) (32 * t + place (isOf 0) (x .log)) y) ⌝ }
 {
-    32 * (th as usize) + lookup::free_entry(log)
-}
-
-// The old line x becomes a log entry of region k of thread th, whose log has a free place.
-fn log_line(t: Tables, old: &mut [[u64; 8]; 256], x: [u64; 8], th: u8, k: u32, l: u8) -> Tables
-    requires { ⌜ (th < 8) × (any (isOf 0) (threadAt th t .log) ≡ true) ⌝ }
-    ensures { λ r. ⌜ ((cur med car : List (List ℕ)) → lineOf l cur ≡ x → board r cur med (now (old .exit)) car ≡ logged th k l (board t cur med (now (old .entry)) car)) ⌝ }
-{
-    let ti = th as usize;
-    let li = l as usize;
-    let mut y = thread_of(t, th);
-    let log = y.log;
-    let at = old_place(log, th);
-    let now = with_entry(log, k, l);
-    y.log = now;
-    let mut u = t;
-    u.threads[ti] = y;
-    u.owner[li] = k;
-    u.lock[li] = true;
-    old[at] = x;
-    u
+    let log = x.log;
+    let i = lookup::free_entry(log);
+    let now = with_entry(log, i, k, l);
+    let at = 32 * (t as usize) + i;
+    old[at] = y;
+    let mut z = x;
+    z.log = now;
+    z
 }
 
 // The slots of the region fly where they can.
@@ -258,57 +266,44 @@ fn fly_region(
     q
 }
 
-// Line l becomes y, and region k, with the dependence d, has written it.
-fn store(
-    t: Tables,
-    cur: &mut [[u64; 8]; 256],
-    car: &mut [[u64; 8]; 256],
-    k: u32,
-    d: u32,
-    l: u8,
-    y: [u64; 8],
-) -> Tables
-    ensures { λ r. ⌜ ((med old : List (List ℕ)) → board r (now (cur .exit)) med old (now (car .exit)) ≡ flown k (board (withRegion k (wroteRegion d l (regionAt k (t .regions))) t) (set (now (cur .entry)) l y) med old (now (car .entry)))) ⌝ }
-{
-    let li = l as usize;
-    cur[li] = y;
-    let regions = t.regions;
-    let i = place_in(regions, k);
-    let lock = t.lock;
-    let mut u = t;
-    if i < 32 {
-        let r = lookup::region_in(regions, i);
-        let p = wrote_region(r, d, l);
-        u.regions[i] = fly_region(p, lock, cur, car);
-    }
-    u
-}
-
 // A write that needs a log entry has one free: refusal 21.
-pub fn write_step(
-    t: Tables,
+fn write_change(
+    s: Sight,
+    lock: [bool; 256],
     cur: &mut [[u64; 8]; 256],
     old: &mut [[u64; 8]; 256],
     car: &mut [[u64; 8]; 256],
-    th: u8,
+    t: u8,
     l: u8,
     w: u8,
     v: u64,
-) -> Tables
-    requires { ⌜ ((th < 8) × (w < 8)) × (needsLog (current th t) l t && not (any (isOf 0) (threadAt th t .log)) ≡ false) ⌝ }
-    ensures { λ r. ⌜ ((med : List (List ℕ)) → board r (now (cur .exit)) med (now (old .exit)) (now (car .exit)) ≡ write th l w v (board t (now (cur .entry)) med (now (old .entry)) (now (car .entry)))) ⌝ }
+) -> Change
+    requires { ⌜ ((t < 8) × (w < 8)) × (seenNeeds t s && not (any (isOf 0) (s .thread .log)) ≡ false) ⌝ }
+    ensures { λ r. ⌜ ((r ≡ writeChange s lock t l) × (now (cur .exit) ≡ storeWord l w v (now (cur .entry)))) × ((now (old .exit) ≡ cond (seenNeeds t s) (set (now (old .entry)) (32 * t + place (isOf 0) (s .thread .log)) (lineOf l (now (cur .entry)))) (now (old .entry))) × (now (car .exit) ≡ carriedBy (lockNow s lock t l) (wroteNow s t l) (storeWord l w v (now (cur .entry))) (now (car .entry)))) ⌝ }
 {
-    let k = lookup::current_of(t, th);
-    let d = lookup::dependence_of(t, k, l);
+    let k = seen_key(s, t);
     let li = l as usize;
     let x = cur[li];
     let y = lines::store_word(x, w as usize, v);
-    if lookup::needs_log(t, k, l) {
-        let u = log_line(t, old, x, th, k, l);
-        store(u, cur, car, k, d, l, y)
+    cur[li] = y;
+    let p = s.survey;
+    let r = p.region;
+    let d = seen_dep(s, t);
+    let q = wrote_region(r, d, l);
+    let mut c = same(s);
+    c.place = p.place;
+    if s.owner == k {
+        c.region = fly_region(q, lock, cur, car);
     } else {
-        store(t, cur, car, k, d, l, y)
+        let h = s.thread;
+        let mut now = lock;
+        now[li] = true;
+        c.thread = log_line(h, old, x, t, k, l);
+        c.owner = k;
+        c.lock = true;
+        c.region = fly_region(q, now, cur, car);
     }
+    c
 }
 
 // ---- end
@@ -322,17 +317,6 @@ fn shallower_thread(x: Thread) -> Thread
         y.depth = x.depth - 1;
     }
     y
-}
-
-pub fn shallower_step(t: Tables, th: u8) -> Tables
-    requires { ⌜ th < 8 ⌝ }
-    ensures { λ r. ⌜ r ≡ shallower th t ⌝ }
-{
-    let ti = th as usize;
-    let x = thread_of(t, th);
-    let mut u = t;
-    u.threads[ti] = shallower_thread(x);
-    u
 }
 
 // The clock counts one end more.
@@ -351,24 +335,29 @@ fn ended_region(r: Region, c: u32) -> Region
     q
 }
 
-// The region of thread th ends.
-pub fn end_step(t: Tables, cur: &[[u64; 8]; 256], car: &mut [[u64; 8]; 256], th: u8) -> Tables
-    requires { ⌜ th < 8 ⌝ }
-    ensures { λ r. ⌜ ((med old : List (List ℕ)) → board r (now (cur .entry)) med old (now (car .exit)) ≡ endRegion th (board t (now (cur .entry)) med old (now (car .entry)))) ⌝ }
+// At depth 1 the region ends: it gets its stamp, its slots fly, and regions may become done and commit.
+fn end_change(
+    s: Sight,
+    lock: [bool; 256],
+    cur: &[[u64; 8]; 256],
+    car: &mut [[u64; 8]; 256],
+) -> Change
+    ensures { λ r. ⌜ (r ≡ endChange s lock) × (now (car .exit) ≡ cond (eqb (s .thread .depth) 1) (carriedBy lock (endedNow s) (now (cur .entry)) (now (car .entry))) (now (car .entry))) ⌝ }
 {
-    let k = lookup::current_of(t, th);
-    let regions = t.regions;
-    let i = place_in(regions, k);
-    let c = tick(t.clock);
-    let lock = t.lock;
-    let mut u = shallower_step(t, th);
-    u.clock = c;
-    if i < 32 {
-        let r = lookup::region_in(regions, i);
-        let p = ended_region(r, c);
-        u.regions[i] = fly_region(p, lock, cur, car);
+    let x = s.thread;
+    let mut c = same(s);
+    c.thread = shallower_thread(x);
+    if x.depth == 1 {
+        let v = s.survey;
+        let r = v.region;
+        let n = tick(s.clock);
+        let q = ended_region(r, n);
+        c.clock = n;
+        c.place = v.place;
+        c.region = fly_region(q, lock, cur, car);
+        c.settles = true;
     }
-    u
+    c
 }
 
 // ---- the acknowledgements
@@ -428,53 +417,85 @@ fn dropped_regions(regions: [Region; 32], k: u32, l: u8) -> [Region; 32]
     q
 }
 
-// Line l, whose owner is region k, is unlocked.
-fn unlock(t: Tables, k: u32, l: u8) -> Tables
-    ensures { λ r. ⌜ r ≡ unlocked k l t ⌝ }
+// Line l, whose owner is region k: flights of other regions on it are dropped.
+pub fn drop_flights(t: Tables, k: u32, l: u8) -> Tables
+    ensures { λ r. ⌜ r ≡ withRegions (map (dropped k l) (t .regions)) t ⌝ }
 {
-    let li = l as usize;
     let regions = t.regions;
     let now = dropped_regions(regions, k, l);
-    let th = (k / 65536) as usize;
-    let threads = t.threads;
-    let x = thread_in(threads, th);
     let mut u = t;
-    u.lock[li] = false;
     u.regions = now;
-    if th < 8 {
-        u.threads[th] = kept_thread(x, k, l);
-    }
     u
 }
 
-pub fn log_ack_step(t: Tables, cur: &[[u64; 8]; 256], car: &mut [[u64; 8]; 256], l: u8) -> Tables
-    ensures { λ r. ⌜ ((med old : List (List ℕ)) → board r (now (cur .entry)) med old (now (car .exit)) ≡ logAck l (board t (now (cur .entry)) med old (now (car .entry)))) ⌝ }
+// The line is unlocked, its log entry becomes persistent, and the slots of its last writer fly where they can.
+fn log_ack_change(
+    s: Sight,
+    lock: [bool; 256],
+    cur: &[[u64; 8]; 256],
+    car: &mut [[u64; 8]; 256],
+    l: u8,
+) -> Change
+    ensures { λ r. ⌜ (r ≡ logAckChange s lock l) × (now (car .exit) ≡ carriedBy (set lock l false) (s .survey .region) (now (cur .entry)) (now (car .entry))) ⌝ }
 {
     let li = l as usize;
-    let k = t.owner[li];
-    let mut u = unlock(t, k, l);
-    let regions = u.regions;
-    let i = place_in(regions, k);
-    let lock = u.lock;
-    if i < 32 {
-        let r = lookup::region_in(regions, i);
-        u.regions[i] = fly_region(r, lock, cur, car);
+    let k = s.owner;
+    let v = s.survey;
+    let r = v.region;
+    let mut now = lock;
+    now[li] = false;
+    let mut c = same(s);
+    c.place = v.place;
+    c.region = fly_region(r, now, cur, car);
+    c.lock = false;
+    c.settles = true;
+    c.drops = v.some;
+    if k / 65536 < 8 {
+        let x = s.thread;
+        c.thread = kept_thread(x, k, l);
     }
-    u
+    c
 }
 
-pub fn data_ack_step(t: Tables, med: &mut [[u64; 8]; 256], car: &[[u64; 8]; 256], l: u8) -> Tables
-    ensures { λ r. ⌜ ((cur old : List (List ℕ)) → board r cur (now (med .exit)) old (now (car .entry)) ≡ dataAck l (board t cur (now (med .entry)) old (now (car .entry)))) ⌝ }
+// The carried line is in the medium, and its slot is empty.
+fn data_ack_change(s: Sight, med: &mut [[u64; 8]; 256], car: &[[u64; 8]; 256], l: u8) -> Change
+    ensures { λ r. ⌜ (r ≡ dataAckChange s l) × (now (med .exit) ≡ set (now (med .entry)) l (lineOf l (now (car .entry)))) ⌝ }
 {
     let li = l as usize;
     let x = car[li];
     med[li] = x;
-    let regions = t.regions;
-    let i = flight_in(regions, l);
-    let mut u = t;
-    if i < 32 {
-        let r = lookup::region_in(regions, i);
-        u.regions[i] = slots::landed(r, l);
+    let v = s.survey;
+    let r = v.region;
+    let mut c = same(s);
+    c.place = v.place;
+    c.region = slots::landed(r, l);
+    c.settles = true;
+    c
+}
+
+// ---- an accepted event
+
+pub fn change_of(
+    s: Sight,
+    lock: [bool; 256],
+    cur: &mut [[u64; 8]; 256],
+    med: &mut [[u64; 8]; 256],
+    old: &mut [[u64; 8]; 256],
+    car: &mut [[u64; 8]; 256],
+    e: Event,
+) -> Change
+    requires { ⌜ seenRefusal s e ≡ 0 ⌝ }
+    ensures { λ r. ⌜ _≡_ {A = Effect} (record { change = r; cur = now (cur .exit); med = now (med .exit); old = now (old .exit); car = now (car .exit) }) (effectOf s lock (now (cur .entry)) (now (med .entry)) (now (old .entry)) (now (car .entry)) e) ⌝ }
+{
+    match e {
+        Event::Setup(n, l) => setup_change(s, n, l),
+        Event::Begin(t) => begin_change(s, t),
+        Event::End(_) => end_change(s, lock, cur, car),
+        Event::Read(t, l, w) => read_change(s, cur, t, l, w),
+        Event::Write(t, l, w, v) => write_change(s, lock, cur, old, car, t, l, w, v),
+        Event::LogAck(l) => log_ack_change(s, lock, cur, car, l),
+        Event::DataAck(l) => data_ack_change(s, med, car, l),
+        Event::Fence(_) => fence_change(s),
+        Event::Cut => cut_change(s),
     }
-    u
 }

@@ -87,7 +87,7 @@ fn digit(n: u64) -> u8
 }
 
 // A number in decimal.
-fn put_decimal(out: &mut [u8], c: Cursor, n: u64) -> Cursor
+pub fn put_decimal(out: &mut [u8], c: Cursor, n: u64) -> Cursor
     ensures { λ r. ⌜ room (now (out .exit)) r ≡ puts (room (now (out .entry)) c) (decimal n) ⌝ }
 {
     if n < 10 {
@@ -176,7 +176,7 @@ fn put_body(out: &mut [u8], c: Cursor, kind: u8, body: &[u8]) -> Cursor
 }
 
 // The bytes of the record at the front, 0 if it is not whole.
-fn record_length(r: &[u8]) -> usize
+pub fn record_length(r: &[u8]) -> usize
     ensures { λ n. ⌜ n ≡ recordLength (now (r .entry)) ⌝ }
 {
     if r.len() == 0 {

@@ -2,6 +2,7 @@
 use rules::Tables;
 ghost use Prim.Native.Nat.{_≤_, _<_};
 ghost use mathlib.Core.Path.{_≡_};
+ghost use mathlib.Core.Bool.{true};
 ghost use lib.ListN.{length};
 ghost use Rattle.io.specs.Counts.{Counts};
 
@@ -25,6 +26,11 @@ fn write_if_full(out: &[u8], n: usize) -> usize
     io::write_all(1, &out[..n]);
     0
 }
+
+// No text is lost: a caller shows that there was room for it.
+fn nothing_lost(room: bool)
+    requires { ⌜ room ≡ true ⌝ }
+{}
 
 // Runs the records at the front of a piece, as long as `least` bytes are left. More may come behind the piece: a rest that is shorter than the longest
 // record waits for it, but not behind the last piece.
@@ -55,6 +61,7 @@ fn run_piece(
             };
         }
         let r = tracing::trace_event(t, cur, med, old, car, &piece[at..], out, p);
+        nothing_lost(r.room);
         t = r.tables;
         p = write_if_full(out, r.at);
         if r.passed == 0 {

@@ -1,41 +1,26 @@
--- Numbers in decimal.
-use Prim.Native.Nat.{_%_, _*_, _+_, _/_, _<_, _^_, _≤_, suc, zero, ℕ}
-use mathlib.Core.Path.{_∙_, _≡_, ap}
+-- Numbers in decimal: their lengths, and how they are put where there is room.
+use Prim.Native.Nat.{_%_, _+_, _/_, _≤_, suc, zero, ℕ}
+use mathlib.Core.Path.{_≡_}
 use mathlib.Core.Bool.{Bool, cond, false, true}
 use mathlib.Core.List.{List, [], _++_, _∷_}
 use lib.Dec.{ltb}
-use lib.ListN.{length, length-append}
+use lib.ListN.{length, length-append, length-set, set}
+use lib.Seq.{sets}
 use native.Mathlib.Omega.{arith}
-use borrow.Author.Tests.{le-ltb, lt-ltb}
-use native.Mathlib.Nat.{div-lt-iff-lt-mul, pow-suc}
-use Rattle.tracing.specs.Text.{decimal, digits}
+use native.Mathlib.Nat.{add-suc, add-zero, suc-add}
+use native.Mathlib.Numerals.{add-one}
+use borrow.Author.Tests.{lt-ltb}
+use Rattle.text.specs.Room.{put, puts, room}
+use Rattle.text.specs.Write.{decimal, digits}
 
--- more room for digits than a number has makes no difference
-digits-more : (f n : ℕ) → n < 10 ^ f → 0 < f → digits f n ≡ digits (suc f) n
-unfolding digits
-digits-more zero n h z = absurd (omega arith)
-digits-more (suc zero) n h z = let k : n < 10 = omega arith in rw (lt-ltb n 10 k)
-digits-more (suc (suc f)) n h z =
-    let g : n < 10 ^ suc f * 10 = omega (arith, pow-suc 10 (suc f)) in
-    let t : 0 < 10 = omega arith in
-    let ih = digits-more (suc f) (n / 10) (div-lt-iff-lt-mul t .1 g) (omega arith) in
-    rw ih
-
-pub decimal-small : (n : ℕ) → n < 10 → decimal n ≡ (48 + n % 10) ∷ []
-unfolding decimal digits
-decimal-small n h = let e : n % 10 ≡ n = omega arith in rw (lt-ltb n 10 h, e)
-
-last-digit : (n : ℕ) → 10 ≤ n → digits 20 n ≡ digits 19 (n / 10) ++ ((48 + n % 10) ∷ [])
-unfolding digits
-last-digit n l = rw (le-ltb n 10 l)
-
--- the digits of a number: those of its tenth, then the last one
-pub decimal-more : (n : ℕ) → n < 18446744073709551616 → 10 ≤ n → decimal n ≡ decimal (n / 10) ++ ((48 + n % 10) ∷ [])
-unfolding decimal
-decimal-more n h l = last-digit n l ∙ rw (digits-more 19 (n / 10) (omega arith) (omega arith))
-
-pub length-more : (n : ℕ) → n < 18446744073709551616 → 10 ≤ n → length (decimal n) ≡ length (decimal (n / 10)) + 1
-length-more n h l = ap length (decimal-more n h l) ∙ length-append (decimal (n / 10)) ((48 + n % 10) ∷ [])
+-- bytes for which there is room
+pub puts-fit : (d bs : List ℕ) (at : ℕ) → at + length bs ≤ length d
+    → puts (room d (record { at = at; short = false })) bs ≡ room (sets d at bs) (record { at = at + length bs; short = false })
+unfolding puts put room
+puts-fit d [] at h = rw add-zero
+puts-fit d (b ∷ bs) at h =
+    let l : suc at + length bs ≤ length (set d at b) = rw (length-set d at b) (omega arith) in
+    rw (lt-ltb at (length d) (omega arith), add-one at) (rw (add-suc at (length bs), ← suc-add at (length bs)) (puts-fit (set d at b) bs (suc at) l))
 
 pub either-short : (b : Bool) (x y : List ℕ) (m : ℕ) → length x ≤ m → length y ≤ m → length (cond b x y) ≤ m
 either-short true x y m h k = h

@@ -2,7 +2,7 @@
 use Rattle.rules.specs.Image.{image, save}
 use Prim.Native.Nat.{_≤_, ℕ}
 use mathlib.Core.Path.{_∙_, _≡_, ap, refl, sym}
-use mathlib.Core.Bool.{_&&_, cond}
+use mathlib.Core.Bool.{Bool, _&&_, cond}
 use mathlib.Core.List.{List, []}
 use lib.Dec.{eqb, leb}
 use lib.ListN.{getD, length, length-append, length-take, take}
@@ -88,7 +88,7 @@ behind-short k s =
     (either-short (eqb (s .answer .refusal) 0) (cutText (s .board)) [] 133120 (cut-short (s .board)) (omega arith))
     (omega arith)
 
-pub event-short : (b : Board) (bs : List ℕ) → length (eventText b bs) ≤ 133183
+event-short : (b : Board) (bs : List ℕ) → length (eventText b bs) ≤ 133183
 event-short b bs =
     let k = getD bs 0 0 in
     let s = step b bs in
@@ -99,3 +99,7 @@ event-short b bs =
       answer-short k (s .answer),
       behind-short k s,
     )
+
+-- the text of an event, or nothing where there is no room for it
+pub traced-short : (room : Bool) (b : Board) (bs : List ℕ) → length (cond room (eventText b bs) []) ≤ 133183
+traced-short room b bs = either-short room (eventText b bs) [] 133183 (event-short b bs) (omega arith)

@@ -11,9 +11,10 @@ use native.Mathlib.Nat.{mul-suc}
 use Rattle.rules.specs.Step.{Stepped, step}
 use Rattle.rules.specs.Tables.{Board}
 use Rattle.rules.specs.declared.Answer.{Answer}
+use Rattle.text.specs.Write.{decimal}
 use Rattle.tracing.proofs.Digits.{decimal-short, either-short}
 use Rattle.tracing.specs.Results.{Put}
-use Rattle.tracing.specs.Text.{answerText, behindText, cutText, decimal, eventText, flatTo, imageLine, lineText, memoryText, numberText, wordText}
+use Rattle.tracing.specs.Text.{answerText, behindText, cutText, eventText, flatTo, imageLine, lineText, memoryText, numberText, wordText}
 
 module _ (f : ℕ → List ℕ) (n : ℕ) where
   -- what is still to write from i on
@@ -53,6 +54,13 @@ answer-short k a =
       number-short (a .refusal) 32,
       number-short (a .value) 10,
     )
+
+-- room for the line of any answer, and its end
+pub answer-room : (k : ℕ) (a : Answer) (at n : ℕ) → at + 63 ≤ n → at + length (answerText k a) ≤ n
+answer-room k a at n h = omega (arith, answer-short k a)
+
+pub answer-end : (k : ℕ) (a : Answer) (at p : ℕ) → p ≡ at + length (answerText k a) → p ≤ at + 63
+answer-end k a at p e = omega (arith, answer-short k a)
 
 module _ (l w v : ℕ) where
   -- the line of a word that is not zero

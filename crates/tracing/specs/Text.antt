@@ -1,27 +1,18 @@
 -- "The trace program reads an event file on standard input and prints kind, refusal (0 for accepted), value per event; after an accepted cut it prints M, line,
 -- word, value for each nonzero recovered word, rising." Numbers are decimal, a space stands between them, a newline ends each line.
 use Rattle.rules.specs.Image.{save}
-use Prim.Native.Nat.{_%_, _+_, _/_, suc, zero, ℕ}
+use Prim.Native.Nat.{_+_, suc, zero, ℕ}
 use mathlib.Core.Bool.{cond}
 use mathlib.Core.List.{List, [], _++_, _∷_}
-use lib.Dec.{eqb, leb, ltb}
+use lib.Dec.{eqb, leb}
 use lib.ListN.{getD, length, replicate, take}
 use Rattle.rules.specs.Bytes.{lineAt}
-use Rattle.rules.specs.Record.{bodyLength, isWhole, readRecord}
 use Rattle.rules.specs.Recovery.{Recovering, lineStart, restore}
 use Rattle.rules.specs.Run.{Wrote}
 use Rattle.rules.specs.Step.{Stepped, step}
 use Rattle.rules.specs.Tables.{Board}
 use Rattle.rules.specs.declared.Answer.{Answer}
-
--- the decimal digits of n, at most f of them, the highest first
-unfoldable pub digits : ℕ → ℕ → List ℕ
-digits zero n = []
-digits (suc f) n = cond (ltb n 10) ((48 + n) ∷ []) (digits f (n / 10) ++ ((48 + n % 10) ∷ []))
-
--- a number below 2^64 has at most 20
-unfoldable pub decimal : ℕ → List ℕ
-decimal n = digits 20 n
+use Rattle.text.specs.Write.{decimal}
 
 -- a number and the byte that ends it
 unfoldable pub numberText : ℕ → ℕ → List ℕ
@@ -84,7 +75,3 @@ eventText b bs = answerText (getD bs 0 0) (step b bs .answer) ++ behindText (get
 unfoldable pub traceText : Board → List (List ℕ) → List ℕ
 traceText b [] = []
 traceText b (r ∷ rs) = eventText b r ++ traceText (step b r .board) rs
-
--- the bytes of the record at the front; 0 if it ends its file
-unfoldable pub recordLength : List ℕ → ℕ
-recordLength r = cond (isWhole (readRecord r)) (suc (bodyLength (getD r 0 0))) 0

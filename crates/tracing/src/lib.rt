@@ -3,13 +3,17 @@
 // answer is the place behind them.
 use rules::Answer;
 use rules::Tables;
-ghost use Prim.Native.Nat.{ℕ, _%_, _*_, _+_, _<_, _≤_};
+use text::Cursor;
+ghost use Prim.Native.Nat.{ℕ, _*_, _+_, _≤_};
 ghost use mathlib.Core.Path.{_≡_};
+ghost use mathlib.Core.Bool.{true};
 ghost use mathlib.Core.List.{List, [], _∷_};
-ghost use lib.ListN.{length};
+ghost use lib.Dec.{leb};
+ghost use lib.ListN.{getD, length};
 ghost use Rattle.rules.specs.Image.{save};
 ghost use Rattle.steps.specs.Parts.{board};
-ghost use Rattle.tracing.specs.Text.{answerText, behindText, cutText, decimal, imageBuffer, imageLine, lineText, memoryText, numberText, recordLength, recovered, recoveredText, wordText};
+ghost use Rattle.text.specs.Write.{decimal};
+ghost use Rattle.tracing.specs.Text.{answerText, behindText, cutText, imageBuffer, imageLine, lineText, memoryText, numberText, recovered, recoveredText, wordText};
 ghost use Rattle.tracing.specs.Results.{Put, TracedEvent};
 
 fn put_byte(dst: &mut [u8], at: usize, x: u8) -> usize
@@ -20,22 +24,13 @@ fn put_byte(dst: &mut [u8], at: usize, x: u8) -> usize
     at + 1
 }
 
-fn digit(n: u64) -> u8
-    ensures { λ r. ⌜ r ≡ 48 + n % 10 ⌝ }
-{
-    48 + (n % 10) as u8
-}
-
 // A number in decimal.
-pub fn put_decimal(dst: &mut [u8], at: usize, n: u64) -> usize
+fn put_decimal(dst: &mut [u8], at: usize, n: u64) -> usize
     requires { ⌜ at + length (decimal n) ≤ length (now dst) ⌝ }
     ensures { λ r. ⌜ Put (now (dst .entry)) (now (dst .exit)) at r (decimal n) ⌝ }
 {
-    if n < 10 {
-        return put_byte(dst, at, digit(n));
-    }
-    let p = put_decimal(dst, at, n / 10);
-    put_byte(dst, p, digit(n))
+    let c = text::put_decimal(dst, Cursor { at, short: false }, n);
+    c.at
 }
 
 // A number and the byte that ends it.
@@ -48,7 +43,7 @@ fn put_number(dst: &mut [u8], at: usize, n: u64, end: u8) -> usize
 }
 
 // The line of an answer: kind, refusal, value.
-pub fn answer_line(dst: &mut [u8], at: usize, kind: u8, a: Answer) -> usize
+fn answer_line(dst: &mut [u8], at: usize, kind: u8, a: Answer) -> usize
     requires { ⌜ at + length (answerText kind a) ≤ length (now dst) ⌝ }
     ensures { λ r. ⌜ Put (now (dst .entry)) (now (dst .exit)) at r (answerText kind a) ⌝ }
 {
@@ -153,11 +148,11 @@ fn saved_words(
     requires { ⌜ at + 133120 ≤ length (now dst) ⌝ }
     ensures { λ r. ⌜ ((cur car : List (List ℕ)) → Put (now (dst .entry)) (now (dst .exit)) at r (recoveredText (t .size .lines) (save (board t cur (now (med .entry)) (now (old .entry)) car) (now (image .entry))))) ⌝ }
 {
-    let a = saving::save(t, med, old, image);
-    if a.refusal != 0 {
+    let saved = saving::save(t, med, old, image);
+    if saved.refusal != 0 {
         return at;
     }
-    let n = a.value as usize;
+    let n = saved.value as usize;
     let size = t.size;
     image_words(dst, at, &mut image[..n], size.lines as usize)
 }
@@ -206,33 +201,63 @@ fn behind_words(
     cut_words(dst, at, t, med, old)
 }
 
-// The bytes of the record at the front; 0 if it is cut short or of an unknown kind, and so ends its file.
-fn record_length(bytes: &[u8]) -> usize
-    ensures { λ r. ⌜ r ≡ recordLength (now (bytes .entry)) ⌝ }
+// The first byte of a record, its kind; 0 where there is none.
+fn first(bytes: &[u8]) -> u8
+    ensures { λ r. ⌜ r ≡ getD (now (bytes .entry)) 0 0 ⌝ }
 {
     if bytes.len() == 0 {
         return 0;
     }
-    let kind = bytes[0];
-    if 8 < kind {
-        return 0;
-    }
-    let there = bytes.len() - 1;
-    let wanted = events::body_length(kind);
-    if there < wanted {
-        return 0;
-    }
-    wanted + 1
+    bytes[0]
 }
 
-// What an event leaves: the tables, the place behind its text, and the bytes of its record, 0 for one that ends its file.
+// What an event leaves: the tables, the place behind its text, the bytes of its record, 0 for one that ends its file, and whether there was room for its text.
 pub struct Traced {
     pub tables: Tables,
     pub at: usize,
     pub passed: usize,
+    pub room: bool,
 }
 
-// One event of a file: its step, and its text from `at` on.
+// One event of a file where there is room for its text: its step, and its text from `at` on.
+fn trace_step(
+    t: Tables,
+    cur: &mut [[u64; 8]; 256],
+    med: &mut [[u64; 8]; 256],
+    old: &mut [[u64; 8]; 256],
+    car: &mut [[u64; 8]; 256],
+    bytes: &[u8],
+    dst: &mut [u8],
+    at: usize,
+) -> Traced
+    requires { ⌜ at + 133183 ≤ length (now dst) ⌝ }
+    ensures { λ r. ⌜ TracedEvent true (board t (now (cur .entry)) (now (med .entry)) (now (old .entry)) (now (car .entry))) (board (r .tables) (now (cur .exit)) (now (med .exit)) (now (old .exit)) (now (car .exit))) (now (bytes .entry)) (now (dst .entry)) (now (dst .exit)) at r ⌝ }
+{
+    let kind = first(bytes);
+    let o = engine::event(t, cur, med, old, car, bytes);
+    let u = o.tables;
+    let a = o.answer;
+    let p = answer_line(dst, at, kind, a);
+    let q = behind_words(dst, p, kind, a, u, med, old);
+    Traced {
+        tables: u,
+        at: q,
+        passed: text::record_length(bytes),
+        room: true,
+    }
+}
+
+// Whether a buffer of n bytes has room from `at` on for the longest text of an event: a line of 63 bytes, and behind a cut 256 lines of eight words, 65 bytes each.
+fn has_room(n: usize, at: usize) -> bool
+    ensures { λ r. ⌜ r ≡ leb (at + 133183) n ⌝ }
+{
+    if n < 133183 {
+        return false;
+    }
+    at <= n - 133183
+}
+
+// One event of a file: its step, and its text from `at` on. Without room nothing is done.
 pub fn trace_event(
     t: Tables,
     cur: &mut [[u64; 8]; 256],
@@ -243,18 +268,15 @@ pub fn trace_event(
     dst: &mut [u8],
     at: usize,
 ) -> Traced
-    requires { ⌜ (0 < length (now bytes)) × (at + 133183 ≤ length (now dst)) ⌝ }
-    ensures { λ r. ⌜ TracedEvent (board t (now (cur .entry)) (now (med .entry)) (now (old .entry)) (now (car .entry))) (board (r .tables) (now (cur .exit)) (now (med .exit)) (now (old .exit)) (now (car .exit))) (now (bytes .entry)) (now (dst .entry)) (now (dst .exit)) at r ⌝ }
+    ensures { λ r. ⌜ TracedEvent (leb (at + 133183) (length (now (dst .entry)))) (board t (now (cur .entry)) (now (med .entry)) (now (old .entry)) (now (car .entry))) (board (r .tables) (now (cur .exit)) (now (med .exit)) (now (old .exit)) (now (car .exit))) (now (bytes .entry)) (now (dst .entry)) (now (dst .exit)) at r ⌝ }
 {
-    let kind = bytes[0];
-    let o = engine::event(t, cur, med, old, car, bytes);
-    let u = o.tables;
-    let a = o.answer;
-    let p = answer_line(dst, at, kind, a);
-    let q = behind_words(dst, p, kind, a, u, med, old);
+    if has_room(dst.len(), at) {
+        return trace_step(t, cur, med, old, car, bytes, dst, at);
+    }
     Traced {
-        tables: u,
-        at: q,
-        passed: record_length(bytes),
+        tables: t,
+        at,
+        passed: 0,
+        room: false,
     }
 }

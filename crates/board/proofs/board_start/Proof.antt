@@ -1,3 +1,4 @@
+use Rattle.rules.specs.Refusal.{refusal, testsOf}
 use mathlib.Core.Path.{_∙_, refl, sym}
 use Rattle.board.proofs.Start.{many-lines, many-threads, start-answer, start-far}
 use borrow.Author.Needs.{needs}
@@ -6,8 +7,6 @@ use Rattle.board.proofs.board_start.Tie as tie
 use Rattle.board.proofs.board_start.Reads as reads
 use Rattle.board.proofs.board_start.Lts as lts
 use Rattle.board.proofs.answer.Reads as answer-reads
-use Rattle.refusals.proofs.refusal.Reads as refusal-reads
-use Rattle.starting.proofs.fresh_tables.Reads as fresh-tables-reads
 
 -- src/lib.rt:22:9
 answer-requires : tie.Need-answer-requires
@@ -25,21 +24,17 @@ answer-requires-2 c κs = search needs
 returns-2 : tie.Need-returns-2
 returns-2 c = let a = c .before .before .before .before .args in c .answer2 .ensures ∙ sym (start-far (a .threads) (a .lines) (a .memory .now) (many-lines (a .threads) (a .lines) (c .before .if2 .taken)))
 
--- src/lib.rt:27:9
-fresh-tables-requires : tie.Need-fresh-tables-requires
-fresh-tables-requires c κs = search needs
-
 -- src/lib.rt:28:46
-cast-t9 : tie.Need-cast-t9
-cast-t9 c = search needs
+cast-setup-refusal : tie.Need-cast-setup-refusal
+cast-setup-refusal c = search needs
 
 -- src/lib.rt:28:61
-cast-t10 : tie.Need-cast-t10
-cast-t10 c = search needs
+cast-setup-refusal-2 : tie.Need-cast-setup-refusal-2
+cast-setup-refusal-2 c = search needs
 
 -- src/lib.rt:28:12
-refusal-requires : tie.Need-refusal-requires
-refusal-requires c κs = search needs
+setup-refusal-requires : tie.Need-setup-refusal-requires
+setup-refusal-requires c κs = search needs
 
 -- src/lib.rt:28:5
 answer-requires-3 : tie.Need-answer-requires-3
@@ -47,7 +42,10 @@ answer-requires-3 c κs = search needs
 
 -- src/lib.rt:17:1
 returns-3 : tie.Need-returns-3
-returns-3 c = let t = c .before .before in let a = t .before .before .before .before .args in rw (c .answer3 .ensures, c .before .refusal .ensures, t .fresh-tables .ensures) (sym (start-answer (a .threads) (a .lines) (a .memory .now)))
+unfolding refusal testsOf
+returns-3 c =
+    let a = c .before .before .before .before .before .args in
+    rw (c .answer3 .ensures, c .before .setup-refusal .ensures) (sym (start-answer (a .threads) (a .lines) (a .memory .now)))
 
 pub board-start-spec : {M : Type 1} → statement M
 board-start-spec =
@@ -57,9 +55,8 @@ board-start-spec =
     returns
     answer-requires-2
     returns-2
-    fresh-tables-requires
-    cast-t9
-    cast-t10
-    refusal-requires
+    cast-setup-refusal
+    cast-setup-refusal-2
+    setup-refusal-requires
     answer-requires-3
     returns-3)

@@ -26,7 +26,7 @@ returns c = let R = c .before .before in sym (size-last (R .before .before .args
 
 -- src/lib.rt:150:29
 shared-slice-read-body-length : tie.Need-shared-slice-read-body-length
-shared-slice-read-body-length c = search needs
+shared-slice-read-body-length c = let R = c .before .before .before in let W = size-whole (R .before .before .args .bytes .now) _ (sym (R .read-record .ensures) ∙ c .before .enum-told .given .1) in omega (arith, W .1)
 
 -- src/lib.rt:150:9
 body-length-requires : tie.Need-body-length-requires

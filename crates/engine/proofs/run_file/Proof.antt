@@ -1,3 +1,4 @@
+use Rattle.engine.proofs.Walked.{walked-all}
 use mathlib.Core.Path.{_∙_, _≡_, ap, refl, sym}
 use native.Mathlib.Omega.{arith}
 use Rattle.rules.specs.Tables.{fresh, startLines}
@@ -43,7 +44,15 @@ same-length c = search needs
 -- src/lib.rt:182:1
 returns-2 : tie.Need-returns-2
 unfolding fresh
-returns-2 c = let W = c .before .before in let l = W .before .before .before .before .before .before in let n = W .before .before .before .before .before .before .before .before .before .before .before .before in let a = n .before .before .before .before .args in rw (W .run-records .ensures .1, l .before .before .before .before .fresh-tables .ensures, l .before .before .load .ensures, l .load2 .ensures, n .record-count .ensures) (call-accepted (a .file .now) (a .memory .now) (a .answers .now) (rw (← n .record-count .ensures) (W .before .before .before .before .before .before .before .before .before .before .before .if1 .left)))
+returns-2 c =
+    let W = c .before .before in
+    let l = W .before .before .before .before .before .before in
+    let n = W .before .before .before .before .before .before .before .before .before .before .before .before in
+    let a = n .before .before .before .before .args in
+    let i = W .before .before .before .before .before .before .before .before .before .before .before .if1 .left in
+    let E = W .run-records .ensures .1 .1 (omega (arith, i)) in
+    rw (E, l .before .before .before .before .fresh-tables .ensures, l .before .before .load .ensures, l .load2 .ensures, n .record-count .ensures, walked-all)
+    (call-accepted (a .file .now) (a .memory .now) (a .answers .now) (rw (← n .record-count .ensures) i))
 
 pub run-file-spec : {M : Type 1} → statement M
 run-file-spec =

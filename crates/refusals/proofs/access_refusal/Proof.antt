@@ -1,16 +1,16 @@
 use Rattle.refusals.proofs.access_refusal.Statement.{statement}
 use Rattle.refusals.proofs.access_refusal.Tie as tie
 use mathlib.Core.Path.{_∙_, sym}
-use mathlib.Core.List.{List}
+use mathlib.Core.List.{List, []}
 use borrow.Author.Tests.{eq-eqb, le-ltb, lt-ltb, ne-eqb}
 use borrow.Author.Needs.{needs}
-use Rattle.refusals.proofs.Order.{Passed}
-use Rattle.refusals.specs.Parts.{accessTests}
+use Rattle.sights.proofs.Order.{Passed}
 use Rattle.rules.specs.Refusal.{Test}
+use Rattle.sights.specs.Tests.{accessTests}
 
 -- the tests that are left at each place of the code
 abbrev tests : tie.Start → List Test
-tests s = accessTests (s .args .t) (s .args .th) (s .args .l) (s .args .w)
+tests s = accessTests (s .args .s) (s .args .th) (s .args .l) (s .args .w) []
 
 passed-1 : (c : tie.Else1) → Passed 1 (tests (c .before .before))
 passed-1 c = rw (← c .before .is-set-up .ensures, c .if1 .left)

@@ -3,13 +3,13 @@ use Rattle.refusals.proofs.ack_refusal.Tie as tie
 use mathlib.Core.Path.{_∙_, sym}
 use mathlib.Core.List.{List}
 use borrow.Author.Needs.{needs}
-use Rattle.refusals.proofs.Order.{Passed}
-use Rattle.refusals.specs.Parts.{ackTests}
+use Rattle.sights.proofs.Order.{Passed}
 use Rattle.rules.specs.Refusal.{Test}
+use Rattle.sights.specs.Tests.{ackTests}
 
 -- the tests that are left at each place of the code
 abbrev tests : tie.Start → List Test
-tests s = ackTests (s .args .t) (s .args .l) (s .args .flies)
+tests s = ackTests (s .args .s) (s .args .l) (s .args .flies)
 
 passed-1 : (c : tie.Else1) → Passed 1 (tests (c .before .before))
 passed-1 c = rw (← c .before .is-set-up .ensures, c .if1 .left)

@@ -3,12 +3,6 @@ use Rattle.refusals.proofs.no_room_for_slot.Tie as tie
 use mathlib.Core.Path.{_∙_}
 use borrow.Author.Needs.{needs}
 
-current-of-requires : tie.Need-current-of-requires
-current-of-requires c κs = search needs
-
-region-at-requires : tie.Need-region-at-requires
-region-at-requires c κs = search needs
-
 slot-for-requires : tie.Need-slot-for-requires
 slot-for-requires c κs = search needs
 
@@ -16,9 +10,7 @@ is-full-requires : tie.Need-is-full-requires
 is-full-requires c κs = search needs
 
 returns : tie.Need-returns
-returns c = c .is-full .ensures ∙ rw (c .before .slot-for .ensures, c .before .before .before .region-at .ensures, c .before .before .before .before .before .current-of .ensures)
+returns c = c .is-full .ensures ∙ rw (c .before .slot-for .ensures)
 
 pub no-room-for-slot-spec : {M : Type 1} → statement M
-no-room-for-slot-spec =
-    tie.close
-    (tie.spec current-of-requires region-at-requires slot-for-requires is-full-requires returns)
+no-room-for-slot-spec = tie.close (tie.spec slot-for-requires is-full-requires returns)

@@ -1,8 +1,8 @@
 use Rattle.refusals.proofs.refusal.Statement.{statement}
 use Rattle.refusals.proofs.refusal.Tie as tie
 use mathlib.Core.Path.{_∙_, ap, sym}
+use Rattle.sights.specs.Tests.{seenRefusal, seenTests}
 use borrow.Author.Needs.{needs}
-use Rattle.rules.specs.Refusal.{refusal}
 
 enum-known-e : tie.Need-enum-known-e
 enum-known-e c = search needs
@@ -59,31 +59,32 @@ cut-refusal-requires : tie.Need-cut-refusal-requires
 cut-refusal-requires c κs = search needs
 
 returns : tie.Need-returns
-returns c = c .setup-refusal .ensures ∙ ap (refusal (c .before .before .before .before .args .t)) (sym (c .before .before .e .given .1))
+unfolding seenRefusal seenTests
+returns c = c .setup-refusal .ensures ∙ ap (seenRefusal (c .before .before .before .before .before .args .s)) (sym (c .before .before .before .e .given .1))
 
 returns-2 : tie.Need-returns-2
-returns-2 c = c .begin-refusal .ensures ∙ ap (refusal (c .before .before .before .before .args .t)) (sym (c .before .before .e2 .given .1))
+returns-2 c = c .begin-refusal .ensures ∙ ap (seenRefusal (c .before .before .before .before .args .s)) (sym (c .before .before .e2 .given .1))
 
 returns-3 : tie.Need-returns-3
-returns-3 c = c .end-refusal .ensures ∙ ap (refusal (c .before .before .before .before .args .t)) (sym (c .before .before .e3 .given .1))
+returns-3 c = c .end-refusal .ensures ∙ ap (seenRefusal (c .before .before .before .before .args .s)) (sym (c .before .before .e3 .given .1))
 
 returns-4 : tie.Need-returns-4
-returns-4 c = c .read-refusal .ensures ∙ ap (refusal (c .before .before .before .before .args .t)) (sym (c .before .before .e4 .given .1))
+returns-4 c = c .read-refusal .ensures ∙ ap (seenRefusal (c .before .before .before .before .args .s)) (sym (c .before .before .e4 .given .1))
 
 returns-5 : tie.Need-returns-5
-returns-5 c = c .write-refusal .ensures ∙ ap (refusal (c .before .before .before .before .args .t)) (sym (c .before .before .e5 .given .1))
+returns-5 c = c .write-refusal .ensures ∙ ap (seenRefusal (c .before .before .before .before .args .s)) (sym (c .before .before .e5 .given .1))
 
 returns-6 : tie.Need-returns-6
-returns-6 c = c .log-ack-refusal .ensures ∙ ap (refusal (c .before .before .before .before .args .t)) (sym (c .before .before .e6 .given .1))
+returns-6 c = c .log-ack-refusal .ensures ∙ ap (seenRefusal (c .before .before .before .before .args .s)) (sym (c .before .before .e6 .given .1))
 
 returns-7 : tie.Need-returns-7
-returns-7 c = c .data-ack-refusal .ensures ∙ ap (refusal (c .before .before .before .before .args .t)) (sym (c .before .before .e7 .given .1))
+returns-7 c = c .data-ack-refusal .ensures ∙ ap (seenRefusal (c .before .before .before .before .args .s)) (sym (c .before .before .e7 .given .1))
 
 returns-8 : tie.Need-returns-8
-returns-8 c = c .fence-refusal .ensures ∙ ap (refusal (c .before .before .before .before .args .t)) (sym (c .before .before .e8 .given .1))
+returns-8 c = c .fence-refusal .ensures ∙ ap (seenRefusal (c .before .before .before .before .args .s)) (sym (c .before .before .e8 .given .1))
 
 returns-9 : tie.Need-returns-9
-returns-9 c = c .cut-refusal .ensures ∙ ap (refusal (c .before .before .before .args .t)) (sym (c .before .enum-told .given .1))
+returns-9 c = c .cut-refusal .ensures ∙ ap (seenRefusal (c .before .before .before .args .s)) (sym (c .before .enum-told .given .1))
 
 pub refusal-spec : {M : Type 1} → statement M
 refusal-spec =

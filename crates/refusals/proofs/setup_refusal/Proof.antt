@@ -1,48 +1,33 @@
 use Rattle.refusals.proofs.setup_refusal.Statement.{statement}
 use Rattle.refusals.proofs.setup_refusal.Tie as tie
-use mathlib.Core.Path.{_∙_, sym}
-use mathlib.Core.List.{List}
 use borrow.Author.Needs.{needs}
-use Rattle.refusals.proofs.Order.{Passed}
-use Rattle.rules.specs.Refusal.{Test, refusal, testsOf}
-use Rattle.rules.specs.declared.Event.the-variants.{Setup}
-
--- the tests that are left at each place of the code
-abbrev tests : tie.Start → List Test
-tests s = testsOf (s .args .t) (Setup (s .args .n) (s .args .l))
-
-passed-1 : (c : tie.Else1) → Passed 1 (tests (c .before .before))
-unfolding refusal testsOf
-passed-1 c = rw (← c .before .in-range .ensures, c .if1 .left)
-
-passed-2 : (c : tie.Else2) → Passed 2 (tests (c .before .before .before .before .before))
-unfolding refusal testsOf
-passed-2 c = passed-1 (c .before .before .before) ∙ rw (← c .before .memory-fits .ensures, c .if2 .left)
 
 in-range-requires : tie.Need-in-range-requires
 in-range-requires c κs = search needs
 
 returns : tie.Need-returns
-unfolding refusal testsOf
 returns c = rw (← c .before .in-range .ensures, c .if1 .taken)
 
 memory-fits-requires : tie.Need-memory-fits-requires
 memory-fits-requires c κs = search needs
 
 returns-2 : tie.Need-returns-2
-unfolding refusal testsOf
-returns-2 c = sym (passed-1 (c .before .before .before) ∙ rw (← c .before .memory-fits .ensures, c .if2 .taken))
+returns-2 c = rw (← c .before .before .before .in-range .ensures, c .before .before .if1 .left, ← c .before .memory-fits .ensures, c .if2 .taken)
 
-is-set-up-requires : tie.Need-is-set-up-requires
-is-set-up-requires c κs = search needs
+in-range-requires-2 : tie.Need-in-range-requires-2
+in-range-requires-2 c κs = search needs
 
 returns-3 : tie.Need-returns-3
-unfolding refusal testsOf
-returns-3 c = sym (passed-2 (c .before .before) ∙ rw (← c .before .is-set-up .ensures, c .if3 .taken))
+returns-3 c =
+    let b = c .before .before in
+    let a = b .before .before in
+    rw (← a .before .in-range .ensures, a .if1 .left, ← b .before .memory-fits .ensures, b .if2 .left, ← c .before .in-range2 .ensures, c .if3 .taken)
 
 returns-4 : tie.Need-returns-4
-unfolding refusal testsOf
-returns-4 c = sym (passed-2 (c .before .before) ∙ rw (← c .before .is-set-up .ensures, c .if3 .left))
+returns-4 c =
+    let b = c .before .before in
+    let a = b .before .before in
+    rw (← a .before .in-range .ensures, a .if1 .left, ← b .before .memory-fits .ensures, b .if2 .left, ← c .before .in-range2 .ensures, c .if3 .left)
 
 pub setup-refusal-spec : {M : Type 1} → statement M
 setup-refusal-spec =
@@ -52,6 +37,6 @@ setup-refusal-spec =
     returns
     memory-fits-requires
     returns-2
-    is-set-up-requires
+    in-range-requires-2
     returns-3
     returns-4)

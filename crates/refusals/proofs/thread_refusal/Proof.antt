@@ -1,15 +1,15 @@
 use Rattle.refusals.proofs.thread_refusal.Statement.{statement}
 use Rattle.refusals.proofs.thread_refusal.Tie as tie
 use mathlib.Core.Path.{_∙_, sym}
-use mathlib.Core.List.{List}
+use mathlib.Core.List.{List, []}
 use borrow.Author.Needs.{needs}
-use Rattle.refusals.proofs.Order.{Passed}
-use Rattle.refusals.specs.Parts.{threadTests}
+use Rattle.sights.proofs.Order.{Passed}
 use Rattle.rules.specs.Refusal.{Test}
+use Rattle.sights.specs.Tests.{threadTests}
 
 -- the tests that are left at each place of the code
 abbrev tests : tie.Start → List Test
-tests s = threadTests (s .args .t) (s .args .th)
+tests s = threadTests (s .args .s) (s .args .th) []
 
 passed-1 : (c : tie.Else1) → Passed 1 (tests (c .before .before))
 passed-1 c = rw (← c .before .is-set-up .ensures, c .if1 .left)

@@ -1,71 +1,42 @@
-use mathlib.Core.Path.{_∙_, ap, sym}
-use mathlib.Core.List.{_++_}
-use lib.ListN.{getD}
+use Prim.Native.Nat.{_+_}
+use mathlib.Core.Path.{_∙_, _≡_, refl, sym}
+use mathlib.Core.Bool.{true}
+use lib.Dec.{leb}
+use lib.ListN.{length}
 use native.Mathlib.Omega.{arith}
-use Rattle.engine.specs.Parts.{stepped}
-use Rattle.rules.specs.Step.{Stepped}
-use Rattle.saving.proofs.Emit.{last, on, start}
-use Rattle.steps.specs.Parts.{board}
-use Rattle.tracing.proofs.Texts.{answer-short, event-said, put-as}
-use Rattle.tracing.specs.Text.{answerText, behindText}
 use borrow.Author.Needs.{needs}
+use borrow.Author.Tests.{leb-true}
 use Rattle.tracing.proofs.trace_event.Statement.{statement}
 use Rattle.tracing.proofs.trace_event.Tie as tie
-use Rattle.tracing.proofs.trace_event.Reads as reads
-use Rattle.tracing.proofs.trace_event.Lts as lts
-use Rattle.engine.proofs.event.Reads as event-reads
-use Rattle.tracing.proofs.answer_line.Reads as answer-line-reads
-use Rattle.tracing.proofs.behind_words.Reads as behind-words-reads
-use Rattle.tracing.proofs.record_length.Reads as record-length-reads
 
--- src/lib.rt:213:16
-shared-slice-read-kind : tie.Need-shared-slice-read-kind
-shared-slice-read-kind c = search needs
+-- there is room where the test found it
+abbrev entry : tie.After-has-room → tie.Start
+entry h = h .before .before .before
 
--- src/lib.rt:214:9
-event-requires : tie.Need-event-requires
-event-requires c κs = search needs
+roomy : (h : tie.Then1) → leb (entry (h .before) .args .at + 133183) (length (entry (h .before) .args .dst .now)) ≡ true
+roomy h = sym (h .before .has-room .ensures) ∙ h .if1 .taken
 
--- src/lib.rt:217:9
-answer-line-requires : tie.Need-answer-line-requires
-answer-line-requires c κs = let s = c .before .before .before .before .before .before .before .before .before .before .before in omega (arith, answer-short (getD (s .args .bytes .now) 0 0) (c .before .before .before .event .result .answer), s .pre .1)
+has-room-requires : tie.Need-has-room-requires
+has-room-requires c κs = search needs
 
--- src/lib.rt:218:9
-behind-words-requires : tie.Need-behind-words-requires
-behind-words-requires c κs = let s = c .before .before .before .before .before .before .before .before .before .before .before .before .before .before .before .before .before in let g = c .before .before .before .before .before .answer-line .ensures in
-    omega (arith, g .1, c .before .before .before .before .before .answer-line .kept .0, answer-short (getD (s .args .bytes .now) 0 0) (c .before .before .before .before .before .before .before .before .before .event .result .answer), s .pre .1)
+trace-step-requires : tie.Need-trace-step-requires
+trace-step-requires c κs =
+    let h = c .before .before .before .before .before in
+    let a = entry (h .before) .args in
+    leb-true (a .at + 133183) (length (a .dst .now)) (roomy h)
 
--- src/lib.rt:222:17
-record-length-requires : tie.Need-record-length-requires
-record-length-requires c κs = search needs
-
--- src/lib.rt:209:1
 same-length : tie.Need-same-length
 same-length c = search needs
 
--- src/lib.rt:209:1
 returns : tie.Need-returns
-returns c = let a = c .before .before .before .before .before .before .before .before .before .before .before .before .before .before .before .before .before .before .before .before .before .args in let k = getD (a .bytes .now) 0 0 in let o = c .before .before .before .before .before .before .before .before .before .before .before .before .before .event in
-    let m = o .last .1 in
-    let s : Stepped = stepped (o .result) (m .0) (m .1 .0) (m .1 .1 .0) (m .1 .1 .1 .0) in
-    let x = answerText k (o .result .answer) in let y = behindText k s in
-    let w = on x y (start (a .dst .now) (a .at) (x ++ y)) (c .before .before .before .before .before .before .before .before .before .answer-line .ensures) in
-    record {
-      stands = ap (λ (z : Stepped). z .board) (o .ensures);
-      written = put-as (a .dst .now) (a .at)
-          (ap (λ (z : Stepped). answerText k (z .answer) ++ behindText k z) (o .ensures) ∙ sym (event-said (board (a .t) (a .cur .now) (a .med .now) (a .old .now) (a .car .now)) (a .bytes .now)))
-          (last y w (c .before .before .before .behind-words .ensures (m .0) (m .1 .1 .1 .0)));
-      passes = c .record-length .ensures;
-    }
+returns c =
+    let l = c .before .before in
+    rw (roomy (l .before .before .before .before .before .before)) (l .trace-step .ensures)
+
+returns-2 : tie.Need-returns-2
+returns-2 c =
+    rw (sym (c .before .has-room .ensures) ∙ c .if1 .left)
+    (record { told = refl; stands = refl; written = (refl, omega arith); passes = refl })
 
 pub trace-event-spec : {M : Type 1} → statement M
-trace-event-spec =
-    tie.close
-    (tie.spec
-    shared-slice-read-kind
-    event-requires
-    answer-line-requires
-    behind-words-requires
-    record-length-requires
-    same-length
-    returns)
+trace-event-spec = tie.close (tie.spec has-room-requires trace-step-requires same-length returns returns-2)

@@ -1,0 +1,14 @@
+-- When a step settles nothing: no region becomes done and none commits.
+use mathlib.Core.Bool.{Bool, _&&_, cond, not}
+use mathlib.Core.List.{List}
+use Rattle.rules.specs.Commit.{commits}
+use Rattle.rules.specs.Lists.{all}
+use Rattle.rules.specs.Slots.{hasSlot}
+use Rattle.rules.specs.declared.Region.{Region}
+
+-- a done region that commits, or another that becomes done
+abbrev pub ripe : Region → Bool
+ripe r = cond (r .done) (commits r) (r .ended && not (hasSlot r))
+
+unfoldable pub isSettled : List Region → Bool
+isSettled rs = all (λ r. not (ripe r)) rs

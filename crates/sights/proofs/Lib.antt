@@ -1,0 +1,3 @@
+pub mod Owner
+pub mod Order
+pub mod Seen

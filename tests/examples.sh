@@ -1,0 +1,90 @@
+#!/usr/bin/env bash
+# examples.sh BUILD: the example benches of that directory, on every sample. The readable form, the answers and the recovered words must be those of the
+# proved programs totext, tobytes and trace. The last line is 'N passed, M failed'.
+set -euo pipefail
+cd "$(dirname "$0")"
+build=$1
+bin=../target/bin
+scratch=$(mktemp -d)
+trap 'rm -rf "$scratch"' EXIT
+passed=0
+failed=0
+
+# check WHAT EXPECTED FOUND: two texts must be the same.
+check() {
+    if [ "$2" = "$3" ]; then
+        passed=$((passed + 1))
+    else
+        failed=$((failed + 1))
+        printf 'FAILED %s\n expected: %s\n found: %s\n' "$1" "$2" "$3"
+    fi
+}
+
+# byte OF AT VALUE: a copy of the answers with one byte changed, in $scratch/changed.
+byte() {
+    cp "$1" "$scratch/changed"
+    printf "\\x$(printf %02x "$3")" | dd of="$scratch/changed" bs=1 seek="$2" conv=notrunc status=none
+}
+
+# in_words REFUSAL VALUE: an answer as replay prints it, without the words of a refusal.
+in_words() {
+    if [ "$1" = 0 ]; then echo "accepted, value $2"; else echo "refusal $1, value $2"; fi
+}
+
+# replayed FILE ANSWERS: what replay prints, without the words of a refusal, and its exit code.
+replayed() {
+    local code=0 said
+    said=$("$build/replay" "$1" "$2") || code=$?
+    printf '%s\nexit %d\n' "$said" "$code" | sed 's/ ([^)]*)//g'
+}
+
+# replay_file FILE: right answers agree; a wrong refusal and a wrong value are found at each event; answers too few and too many.
+replay_file() {
+    local answers=$scratch/answers due count line kind refusal value n=0 cut=$scratch/fewer
+    "$build/replay" -w "$1" "$answers"
+    "$bin/totext" < "$1" > "$scratch/text"
+    "$bin/trace" < "$1" | grep -v '^M' > "$scratch/due" || true
+    count=$(wc -l < "$scratch/due")
+    check "$1" "$count answers agree"$'\n''exit 0' "$(replayed "$1" "$answers")"
+    while read -r kind refusal value && IFS= read -r line <&3; do
+        due="event $((n + 1)): $line: expected $(in_words "$refusal" "$value"); found"
+        byte "$answers" $((9 * n)) $((refusal == 18 ? 0 : 18))
+        check "$1" "$due $(in_words $((refusal == 18 ? 0 : 18)) "$value")"$'\n''exit 1' "$(replayed "$1" "$scratch/changed")"
+        byte "$answers" $((9 * n + 2)) $(((value / 256 + 1) % 256))
+        check "$1" "$due $(in_words "$refusal" $((value + 256)))"$'\n''exit 1' "$(replayed "$1" "$scratch/changed")"
+        n=$((n + 1))
+    done < "$scratch/due" 3< "$scratch/text"
+    head -c $((9 * (count - 1))) "$answers" > "$cut"
+    check "$1" "$due no answer"$'\n'"the board gave $((count - 1)) answers, $count are due"$'\n''exit 1' "$(replayed "$1" "$cut")"
+    head -c $((9 * count - 4)) "$answers" > "$cut"
+    check "$1" "$due 5 bytes of an answer's nine"$'\n'"the board gave $((count - 1)) answers, $count are due"$'\n''exit 1' "$(replayed "$1" "$cut")"
+    cat "$answers" <(printf '\0\1\0\0\0\0\0\0\0') > "$cut"
+    check "$1" 'behind the last event: expected no answer; found accepted, value 1'$'\n'"the board gave $((count + 1)) answers, $count are due"$'\n''exit 1' \
+        "$(replayed "$1" "$cut")"
+}
+
+# found FILE STEPS: the words that the bench finds in the end, as the trace program prints them.
+found() { "$build/bench" "$@" | sed -e '1,/^words found:/d' -e 's/^  line \([0-9]*\) word \([0-9]*\): /M \1 \2 /'; }
+
+for text in ../samples/*.txt; do
+    file=${text%.txt}.events
+    check "$text" "$(od -An -tx1 "$file")" "$("$bin/tobytes" < "$text" | od -An -tx1)"
+    replay_file "$file"
+    if grep -q '^cut' "$text"; then check "$file" "$("$bin/trace" < "$file" | grep '^M' || true)" "$(found "$file")"; fi
+done
+
+# files that end early, and one whose first setup is refused
+for end in 'bytes 4 0 1' 'bytes 9 0 255 1' 'bytes 200'; do
+    printf '%s\n' 'setup 9 1' 'setup 2 3' 'begin 1' 'write 1 2 7 18446744073709551615' 'write 1 2 0 1311768467463790320' 'read 1 2 0' 'fence 0' "$end" |
+        "$bin/tobytes" > "$scratch/damaged"
+    replay_file "$scratch/damaged"
+done
+check 'an empty file' '0 answers agree'$'\n''exit 0' "$(replayed /dev/null /dev/null)"
+
+# power lost after any number of recovery steps: the same memory is found
+check 'the whole output of the bench' "$(cat recovery.expected)" "$("$build/bench" ../samples/recovery.events)"
+for steps in 0 1 2 3 4 5 6 7 8 9 10 11; do
+    check "power lost after step $steps" "$("$bin/trace" < ../samples/recovery.events | grep '^M')" "$(found ../samples/recovery.events $steps)"
+done
+echo "examples: $passed passed, $failed failed"
+[ "$failed" = 0 ]

@@ -1,0 +1,114 @@
+/* short [FILES]: every call with buffers of every short length, from 0 to a little beyond what is needed, each a heap block of exactly that length, so that
+   valgrind sees any access outside. Answers and bytes must be those of the plain engine; an output that is too short, or a place not of eight bytes, must
+   give 6 with nothing written. The last line is 'N passed, M failed'. */
+#include <stdio.h>
+#include <stdlib.h>
+#include <string.h>
+
+#include "../include/board.h"
+#include "plain/common.h"
+#include "plain/random.h"
+
+enum { EVENTS = 48, BEYOND = 10, FILL = 0xA5 };
+
+static unsigned long long passed, failed;
+
+static void check(int holds, const char *what, size_t length) {
+    if (holds) {
+        passed++;
+    } else {
+        failed++;
+        printf("FAILED %s, length %zu\n", what, length);
+    }
+}
+
+static int agree(board_answer a, plain_answer b) { return a.refusal == b.refusal && a.value == b.value; }
+static int is_six(board_answer a) { return a.refusal == 6 && a.value == 0; }
+
+/* A block of exactly that length: its front from the source, as far as that reaches, then the fill. */
+static uint8_t *block(const uint8_t *source, size_t source_len, size_t length) {
+    uint8_t *b = malloc(length);
+    if (b == NULL) exit(2);
+    for (size_t i = 0; i < length; i++) b[i] = i < source_len ? source[i] : FILL;
+    return b;
+}
+
+/* The file, the memory, the image that they give, and the lengths that are needed. */
+static uint8_t file[(EVENTS + 1) * PLAIN_RECORD_BYTES], memory[3 * PLAIN_LINE_BYTES], image[PLAIN_IMAGE_BYTES];
+static size_t file_len, memory_len, answers_len, image_len;
+
+typedef board_answer board_call(const uint8_t *, size_t, const uint8_t *, size_t, uint8_t *, size_t);
+typedef plain_answer plain_call(const uint8_t *, size_t, const uint8_t *, size_t, uint8_t *, size_t);
+
+/* One call that runs a file, with buffers of these lengths; `is_short` says that its output is too short. */
+static void try_file(board_call *proved, plain_call *plain, const char *what, size_t f, size_t m, size_t out, int is_short) {
+    uint8_t *lent_file = block(file, file_len, f), *lent_memory = block(memory, memory_len, m);
+    uint8_t *given = block(NULL, 0, out), *due = block(NULL, 0, out), *untouched = block(NULL, 0, out);
+    board_answer a = proved(lent_file, f, lent_memory, m, given, out);
+    plain_answer b = plain(lent_file, f, lent_memory, m, due, out);
+    check(agree(a, b) && memcmp(given, due, out) == 0, what, out);
+    if (is_short) check(is_six(a) && memcmp(given, untouched, out) == 0, what, out);
+    free(lent_file);
+    free(lent_memory);
+    free(given);
+    free(due);
+    free(untouched);
+}
+
+/* Files of every length, memories of every length, outputs of every length. */
+static void try_lengths(board_call *proved, plain_call *plain, const char *what, size_t needed) {
+    for (size_t n = 0; n <= file_len + BEYOND; n++) try_file(proved, plain, what, n, memory_len, needed + 9 * BEYOND, 0);
+    for (size_t n = 0; n <= memory_len + BEYOND; n++) try_file(proved, plain, what, file_len, n, needed, 0);
+    for (size_t n = 0; n <= needed + BEYOND; n++) try_file(proved, plain, what, file_len, memory_len, n, n < needed);
+}
+
+/* One recovery step, with an image and a place of these lengths. */
+static void try_step(size_t i, size_t p) {
+    static const uint8_t zero[8];
+    uint8_t *given = block(image, image_len, i), *due = block(image, image_len, i), *untouched = block(image, image_len, i);
+    uint8_t *place = block(zero, 8, p), *due_place = block(zero, 8, p), *untouched_place = block(zero, 8, p);
+    board_answer a = board_recovery_step(given, i, place, p);
+    plain_answer b = plain_recovery_step(due, i, due_place, p);
+    check(agree(a, b) && memcmp(given, due, i) == 0 && memcmp(place, due_place, p) == 0, "recovery step", i);
+    if (p != 8) check(is_six(a), "place of another length", p);
+    if (a.refusal != 0) check(memcmp(given, untouched, i) == 0 && memcmp(place, untouched_place, p) == 0, "nothing written by a refused step", i);
+    free(given);
+    free(due);
+    free(untouched);
+    free(place);
+    free(due_place);
+    free(untouched_place);
+}
+
+static void try_start(void) {
+    for (uint64_t t = 0; t < 10; t++)
+        for (size_t n = 0; n <= memory_len + BEYOND; n++) {
+            uint8_t *lent = block(memory, memory_len, n);
+            uint64_t lines = memory_len / PLAIN_LINE_BYTES;
+            check(agree(board_start(t, lines, lent, n), plain_start(t, lines, lent, n)), "start", n);
+            free(lent);
+        }
+}
+
+/* A file of a few threads and lines, and the four calls on it. */
+static void try_seed(uint64_t seed) {
+    random_source source = {seed};
+    uint16_t lines = (uint16_t)(1 + seed % 3);
+    memory_len = (size_t)lines * PLAIN_LINE_BYTES;
+    for (size_t i = 0; i < memory_len; i++) memory[i] = (uint8_t)random_next(&source);
+    file_len = random_file(seed, RANDOM_MIXED, (uint8_t)(1 + seed % PLAIN_THREADS), lines, EVENTS, file);
+    answers_len = EVENTS * PLAIN_ANSWER_BYTES;
+    image_len = (size_t)plain_image(file, file_len, memory, memory_len, image, sizeof image).value;
+    try_start();
+    try_lengths(board_events, plain_events, "events", answers_len);
+    try_lengths(board_image, plain_image, "image", image_len);
+    for (size_t n = 0; n <= image_len + BEYOND; n++) try_step(n, 8);
+    for (size_t n = 0; n <= 8 + BEYOND; n++) try_step(image_len, n);
+}
+
+int main(int argc, char **argv) {
+    uint64_t files = argc > 1 ? strtoull(argv[1], NULL, 10) : 6;
+    for (uint64_t seed = 1; seed <= files; seed++) try_seed(seed);
+    printf("short buffers: %llu passed, %llu failed\n", passed, failed);
+    return failed != 0;
+}
