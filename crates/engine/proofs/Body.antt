@@ -8,14 +8,15 @@ use lib.ListN.{getD, length, set}
 use lib.Seq.{set-out}
 use native.Mathlib.Omega.{arith}
 use Rattle.commits.specs.Settled.{isSettled}
-use Rattle.engine.specs.Parts.{decided, eventIn, verdictOf}
-use Rattle.engine.proofs.Steps.{done-more, done-none, met, met-read, read-number, settles-none}
+use Rattle.engine.specs.Parts.{decidedBy, eventIn, verdictOf}
+use Rattle.engine.proofs.Steps.{done-more, done-none, idle, met, met-read}
 use Rattle.lookup.proofs.Search.{getD-any}
 use Rattle.rules.specs.Commit.{settled}
 use Rattle.rules.specs.Record.{readRecord}
 use Rattle.rules.specs.Step.{Did, Stepped, did, step}
 use Rattle.rules.specs.Tables.{Board, keyOf, noThread}
 use Rattle.rules.specs.declared.Event.{Event}
+use Rattle.rules.specs.declared.Reading.{Reading}
 use Rattle.rules.specs.declared.Tables.{Tables}
 use Rattle.rules.specs.declared.Thread.{Thread}
 use Rattle.sights.specs.Sight.{lineIn, seenBy, sightOf, surveyOf, threadIn}
@@ -89,24 +90,23 @@ module _ (u : Tables) (h8 : length (u .threads) ≡ 8) (h32 : length (u .regions
   abbrev B : Board
   B = board u cur med old car
 
-  abbrev outcomeOf : Event → Sight → ℕ → Stepped
-  outcomeOf e s v = met v (doneBy e (decided v s (u .lock) cur med old car e) u)
+  abbrev outcomeOf : Reading → Sight → Event → Stepped
+  outcomeOf r s e = met (verdictOf r s) (doneBy e (decidedBy r s (u .lock) cur med old car) u)
 
   module _ (e : Event) (s : Sight) (v : ℕ) (fx : Effect) (ee : e ≡ eventIn (readRecord bs)) (es : s ≡ sightOf u e) (ev : v ≡ verdictOf (readRecord bs) s)
-      (ef : fx ≡ decided v s (u .lock) cur med old car e) where
+      (ef : fx ≡ decidedBy (readRecord bs) s (u .lock) cur med old car) where
     pub met-step : met v (doneBy e fx u) ≡ step B bs
     unfolding step
     met-step =
         ap (λ (f : Effect). met v (doneBy e f u)) ef
-        ∙ (ap (outcomeOf e s) ev
-        ∙ (ap (λ (x : Sight). outcomeOf e x (verdictOf (readRecord bs) x)) es
-        ∙ (ap (λ (x : Event). outcomeOf x (sightOf u x) (verdictOf (readRecord bs) (sightOf u x))) ee
-        ∙ met-read u h8 h32 cur med old car (readRecord bs) (read-number bs))))
+        ∙ (ap (λ (n : ℕ). met n (doneBy e (decidedBy (readRecord bs) s (u .lock) cur med old car) u)) ev
+        ∙ (ap (λ (x : Sight). outcomeOf (readRecord bs) x e) es
+        ∙ (ap (λ (x : Event). outcomeOf (readRecord bs) (sightOf u x) x) ee ∙ met-read u h8 h32 cur med old car (readRecord bs))))
 
-    idle : fx .change .settles ≡ true → fx .change .value ≡ 0
-    idle a =
+    at-rest : fx .change .settles ≡ true → fx .change .value ≡ 0
+    at-rest a =
         ap (λ (f : Effect). f .change .value) ef
-        ∙ settles-none v s (u .lock) cur med old car e (sym (ap (λ (f : Effect). f .change .settles) ef) ∙ a)
+        ∙ idle (readRecord bs) s (u .lock) cur med old car (sym (ap (λ (f : Effect). f .change .settles) ef) ∙ a)
 
     module _ (u1 : Tables) (eu : u1 ≡ changed e (fx .change) u) where
       abbrev pub more : Tables → Bool
@@ -123,4 +123,4 @@ module _ (u : Tables) (h8 : length (u .threads) ≡ 8) (h32 : length (u .regions
       pub body-none : more u1 ≡ false → made fx v (fx .change .value) u1 ≡ step B bs
       body-none h =
           ap (made fx v (fx .change .value)) eu
-          ∙ (ap (met v) (sym (done-none e fx u (sym (ap more eu) ∙ h) idle)) ∙ met-step)
+          ∙ (ap (met v) (sym (done-none e fx u (sym (ap more eu) ∙ h) at-rest)) ∙ met-step)

@@ -9,7 +9,7 @@ use native.Mathlib.Omega.{arith}
 use Rattle.commits.specs.Choice.{settlementOf}
 use Rattle.commits.specs.Settled.{isSettled}
 use Rattle.commits.proofs.Settled.{settled-none}
-use Rattle.engine.specs.Parts.{decided, eventIn, verdictOf}
+use Rattle.engine.specs.Parts.{decidedBy, eventIn, verdictOf}
 use Rattle.sights.proofs.Seen.{seen-refusal}
 use Rattle.steps.proofs.Effects.{effect-law, same-law}
 use Rattle.events.specs.Number.{refusalOf}
@@ -27,7 +27,7 @@ use Rattle.rules.specs.declared.Tables.{Tables}
 use Rattle.sights.specs.Sight.{lineIn, sightOf}
 use Rattle.sights.specs.Tests.{seenRefusal}
 use Rattle.sights.specs.declared.Sight.{Sight}
-use Rattle.steps.specs.Change.{Effect, beginChange, changed, doneBy, droppedIf, effectOf, endChange, only, same, writeChange, logAckChange, dataAckChange}
+use Rattle.steps.specs.Change.{Effect, beginChange, changed, decided, doneBy, droppedIf, effectOf, endChange, only, same, writeChange, logAckChange, dataAckChange}
 use Rattle.steps.specs.Parts.{board}
 use Rattle.undo.proofs.Laws.{and-true, never, test}
 
@@ -40,43 +40,23 @@ module _ (ts : Tables) (h8 : length (ts .threads) ≡ 8) (h32 : length (ts .regi
   b = board ts cur med old car
 
   -- a refusal changes nothing
-  pub met-refused : (n : ℕ) (e : Event) → doneBy e (decided (suc n) (sightOf ts e) (ts .lock) cur med old car e) ts ≡ did 0 b
-  unfolding doneBy decided
-  met-refused n e = ap (λ (t : Tables). did 0 (board t cur med old car)) (same-law ts h8 h32 e)
+  met-same : (e : Event) → doneBy e (only (sightOf ts e) (ts .lock) cur med old car (same (sightOf ts e))) ts ≡ did 0 b
+  unfolding doneBy
+  met-same e = ap (λ (t : Tables). did 0 (board t cur med old car)) (same-law ts h8 h32 e)
 
   met-by : (n : ℕ) (e : Event) → refusal ts e ≡ n → met n (doneBy e (decided n (sightOf ts e) (ts .lock) cur med old car e) ts) ≡ stepBy n b e
   unfolding stepBy decided
   met-by zero e z = ap (met 0) (effect-law ts h8 h32 cur med old car e z)
-  met-by (suc n) e z = ap (met (suc n)) (met-refused n e)
+  met-by (suc n) e z = ap (met (suc n)) (met-same e)
 
   abbrev pub sawIn : Reading → Sight
   sawIn r = sightOf ts (eventIn r)
 
-  pub met-read : (r : Reading) → (r ≡ Refused 0 → ⊥)
-      → met (verdictOf r (sawIn r)) (doneBy (eventIn r) (decided (verdictOf r (sawIn r)) (sawIn r) (ts .lock) cur med old car (eventIn r)) ts) ≡ stepRead b r
-  unfolding verdictOf eventIn stepEvent
-  met-read (Refused zero) f = absurd (f refl)
-  met-read (Refused (suc n)) f = ap (met (suc n)) (met-refused n Cut)
-  met-read (Whole e) f =
-      rw (seen-refusal ts e) (met-by (refusal ts e) e refl)
-
--- the reader refuses with a number
-module _ where
-  pub read-number : (bs : List ℕ) → readRecord bs ≡ Refused 0 → ⊥
-  unfolding readRecord
-  read-number [] e = let z : _≡_ {A = ℕ} 1 0 = ap refusalOf e in absurd (omega arith)
-  read-number (k ∷ body) e =
-      test (ltb 8 k)
-      (λ a. let z : _≡_ {A = ℕ} 2 0 = ap refusalOf (rw a at e) in absurd (omega arith))
-      (λ a. test (ltb (length body) (bodyLength k))
-      (λ s. let z : _≡_ {A = ℕ} 1 0 = ap refusalOf (rw (a, s) at e) in absurd (omega arith))
-      (λ s. let z : _≡_ {A = Reading} (Whole (eventOf k body)) (Refused 0) = rw (a, s) at e in false≢true (ap isWhole (sym z))))
-
-pub decided-refused : (n : ℕ) (s : Sight) (lock : List Bool) (cur med old car : List (List ℕ)) (e : Event) → (n ≡ 0 → ⊥)
-    → decided n s lock cur med old car e ≡ only s lock cur med old car (same s)
-unfolding decided
-decided-refused zero s lock cur med old car e f = absurd (f refl)
-decided-refused (suc n) s lock cur med old car e f = refl
+  pub met-read : (r : Reading)
+      → met (verdictOf r (sawIn r)) (doneBy (eventIn r) (decidedBy r (sawIn r) (ts .lock) cur med old car) ts) ≡ stepRead b r
+  unfolding verdictOf eventIn decidedBy stepEvent
+  met-read (Refused n) = ap (met n) (met-same Cut)
+  met-read (Whole e) = rw (seen-refusal ts e) (met-by (refusal ts e) e refl)
 
 -- ---- what follows a change
 
@@ -114,7 +94,7 @@ module _ (e : Event) (f : Effect) (ts : Tables) where
       (λ a. rw a)
 
 -- an event that settles has no value of its own
-pub settles-none : (n : ℕ) (s : Sight) (lock : List Bool) (cur med old car : List (List ℕ)) (e : Event)
+settles-none : (n : ℕ) (s : Sight) (lock : List Bool) (cur med old car : List (List ℕ)) (e : Event)
     → decided n s lock cur med old car e .change .settles ≡ true → decided n s lock cur med old car e .change .value ≡ 0
 unfolding decided effectOf beginChange endChange writeChange logAckChange dataAckChange
 settles-none (suc n) s lock cur med old car e h = refl
@@ -128,10 +108,11 @@ settles-none zero s lock cur med old car (DataAck l) h = refl
 settles-none zero s lock cur med old car (Fence t) h = absurd (false≢true h)
 settles-none zero s lock cur med old car Cut h = absurd (false≢true h)
 
-pub accepted : (r : Reading) (s : Sight) → (r ≡ Refused 0 → ⊥) → verdictOf r s ≡ 0 → seenRefusal s (eventIn r) ≡ 0
-unfolding verdictOf eventIn
-accepted (Refused n) s f z = absurd (f (ap Refused z))
-accepted (Whole e) s f z = z
+pub idle : (r : Reading) (s : Sight) (lock : List Bool) (cur med old car : List (List ℕ))
+    → decidedBy r s lock cur med old car .change .settles ≡ true → decidedBy r s lock cur med old car .change .value ≡ 0
+unfolding decidedBy
+idle (Refused n) s lock cur med old car h = refl
+idle (Whole e) s lock cur med old car h = settles-none (seenRefusal s e) s lock cur med old car e h
 
 -- a step by its board and its answer
 pub stepped-by : (s : Stepped) (b : Board) (a : Answer) → b ≡ s .board → a ≡ s .answer → _≡_ {A = Stepped} (record { board = b; answer = a }) s

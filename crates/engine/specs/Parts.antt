@@ -14,7 +14,7 @@ use Rattle.rules.specs.declared.Reading.{Reading}
 use Rattle.rules.specs.declared.Reading.the-variants.{Refused, Whole}
 use Rattle.sights.specs.Tests.{seenRefusal}
 use Rattle.sights.specs.declared.Sight.{Sight}
-use Rattle.steps.specs.Change.{Effect, effectOf, only, same}
+use Rattle.steps.specs.Change.{Effect, decided, only, same}
 
 -- the bytes of the record at the front; one that ends its file takes the rest of it
 unfoldable pub sizeOf : List ℕ → ℕ
@@ -31,10 +31,10 @@ unfoldable pub verdictOf : Reading → Sight → ℕ
 verdictOf (Refused n) s = n
 verdictOf (Whole e) s = seenRefusal s e
 
--- nothing changes with a refusal
-unfoldable pub decided : ℕ → Sight → List Bool → List (List ℕ) → List (List ℕ) → List (List ℕ) → List (List ℕ) → Event → Effect
-decided zero s lock cur med old car e = effectOf s lock cur med old car e
-decided (suc n) s lock cur med old car e = only s lock cur med old car (same s)
+-- a refused record changes nothing
+unfoldable pub decidedBy : Reading → Sight → List Bool → List (List ℕ) → List (List ℕ) → List (List ℕ) → List (List ℕ) → Effect
+decidedBy (Refused n) s lock cur med old car = only s lock cur med old car (same s)
+decidedBy (Whole e) s lock cur med old car = decided (seenRefusal s e) s lock cur med old car e
 
 -- ---- the first n records of a file, each on what the last one left
 

@@ -9,6 +9,7 @@ use rules::Tables;
 use rules::Thread;
 use sights::Sight;
 use steps::Change;
+use steps::Decision;
 ghost use Prim.Native.Nat.{_%_, _*_, _+_, _≤_};
 ghost use mathlib.Core.Path.{_≡_};
 ghost use mathlib.Core.Bool.{_&&_, _||_, not};
@@ -22,10 +23,9 @@ ghost use Rattle.rules.specs.Image.{imageCall};
 ghost use Rattle.commits.specs.Choice.{settlementOf};
 ghost use Rattle.commits.specs.Settled.{isSettled};
 ghost use Rattle.sights.specs.Sight.{threadIn};
-ghost use Rattle.sights.specs.Tests.{seenRefusal};
 ghost use Rattle.steps.specs.Change.{Effect, droppedIf};
 ghost use Rattle.steps.specs.Parts.{board};
-ghost use Rattle.engine.specs.Parts.{decided, eventIn, lastOf, sizeOf, verdictOf, walked};
+ghost use Rattle.engine.specs.Parts.{decidedBy, eventIn, lastOf, sizeOf, verdictOf, walked};
 
 // The answer to an event, and the tables after it.
 pub struct Outcome {
@@ -79,34 +79,25 @@ fn thread_place(threads: [Thread; 8], e: Event, o: u32) -> usize
     (sights::thread_in(e, o) % 8) as usize
 }
 
-// The refusal of a record, 0 for accepted.
-fn verdict(r: Reading, s: Sight) -> u8
-    ensures { λ n. ⌜ n ≡ verdictOf r s ⌝ }
-{
-    let Reading::Whole(e) = r else {
-        return events::number_of(r);
-    };
-    refusals::refusal(s, e)
-}
-
-// What an event changes, refused with n or accepted with 0.
+// The refusal that a record meets, 0 for accepted, and what it changes.
 fn decide(
-    n: u8,
+    r: Reading,
     s: Sight,
     lock: [bool; 256],
     cur: &mut [[u64; 8]; 256],
     med: &mut [[u64; 8]; 256],
     old: &mut [[u64; 8]; 256],
     car: &mut [[u64; 8]; 256],
-    e: Event,
-) -> Change
-    requires { ⌜ (n ≡ 0 → seenRefusal s e ≡ 0) ⌝ }
-    ensures { λ r. ⌜ _≡_ {A = Effect} (record { change = r; cur = now (cur .exit); med = now (med .exit); old = now (old .exit); car = now (car .exit) }) (decided n s lock (now (cur .entry)) (now (med .entry)) (now (old .entry)) (now (car .entry)) e) ⌝ }
+) -> Decision
+    ensures { λ d. ⌜ (d .refusal ≡ verdictOf r s) × (_≡_ {A = Effect} (record { change = d .change; cur = now (cur .exit); med = now (med .exit); old = now (old .exit); car = now (car .exit) }) (decidedBy r s lock (now (cur .entry)) (now (med .entry)) (now (old .entry)) (now (car .entry)))) ⌝ }
 {
-    if n == 0 {
-        return steps::change_of(s, lock, cur, med, old, car, e);
-    }
-    steps::same(s)
+    let Reading::Whole(e) = r else {
+        return Decision {
+            refusal: events::number_of(r),
+            change: steps::same(s),
+        };
+    };
+    steps::decide(s, lock, cur, med, old, car, e)
 }
 
 // Whether anything is dropped, becomes done or commits after a change; regions are those after it.
@@ -181,9 +172,9 @@ fn run_records(
         let regions = u.regions;
         let z = u.size;
         let s = sights::sight_of(z, u.cut, u.clock, x, o, b, regions, e);
-        let v = verdict(reading, s);
         let lock = u.lock;
-        let c = decide(v, s, lock, cur, med, old, car, e);
+        let d = decide(reading, s, lock, cur, med, old, car);
+        let c = d.change;
         let size = c.size;
         u.size = size;
         u.cut = c.cut;
@@ -206,10 +197,10 @@ fn run_records(
             value = f.commits;
         }
         answer = Answer {
-            refusal: v,
+            refusal: d.refusal,
             value: value,
         };
-        p = put_next(answers, p, v, value);
+        p = put_next(answers, p, d.refusal, value);
         let k = record_size(&file[at..]);
         at += k;
         left -= 1;

@@ -1,6 +1,6 @@
 -- What an event changes, worked out of what it looks at: at most one thread, one region, the last writer and the lock of one line, and the numbers.
 -- proofs/Effects.antt shows that storing it gives what the definitions of `rules` give.
-use Prim.Native.Nat.{_*_, _+_, _-_, ℕ}
+use Prim.Native.Nat.{_*_, _+_, _-_, suc, zero, ℕ}
 use mathlib.Core.Bool.{Bool, cond, false, true}
 use mathlib.Core.List.{List, _∷_, map}
 use lib.Dec.{eqb, ltb}
@@ -274,6 +274,11 @@ module _ (s : Sight) (lock : List Bool) (cur med old car : List (List ℕ)) wher
   effectOf (DataAck l) = record { change = dataAckChange s l; cur = cur; med = set med l (lineOf l car); old = old; car = car }
   effectOf (Fence t) = only (withValue (cond (s .survey .some) 0 1) (same s))
   effectOf Cut = only (cutChange s)
+
+-- an event met with a refusal, 0 for accepted: nothing changes with a refusal
+unfoldable pub decided : ℕ → Sight → List Bool → List (List ℕ) → List (List ℕ) → List (List ℕ) → List (List ℕ) → Event → Effect
+decided zero s lock cur med old car e = effectOf s lock cur med old car e
+decided (suc n) s lock cur med old car e = only s lock cur med old car (same s)
 
 -- ---- storing a change
 

@@ -20,7 +20,7 @@ ghost use Rattle.rules.specs.Acknowledge.{dropped, isEntry, kept, keptEntry};
 ghost use Rattle.rules.specs.End.{endedRegion, tick};
 ghost use Rattle.rules.specs.declared.Entry.{Entry};
 ghost use Rattle.sights.specs.Tests.{seenDep, seenKey, seenNeeds, seenRefusal};
-ghost use Rattle.steps.specs.Change.{Effect, beginChange, begunWith, cutChange, dataAckChange, effectOf, endChange, endedNow, lockNow, logAckChange, nextRegion, same, setupChange, withLog, withRegionAt, withValue, writeChange, wroteNow};
+ghost use Rattle.steps.specs.Change.{Effect, beginChange, begunWith, cutChange, dataAckChange, decided, effectOf, endChange, endedNow, lockNow, logAckChange, nextRegion, same, setupChange, withLog, withRegionAt, withValue, writeChange, wroteNow};
 ghost use Rattle.steps.specs.Parts.{carriedBy, flownRegion, joinedRegion, withDepth, wroteRegion};
 
 // What an event changes: its thread, the region at a place (32 for none), the last writer and the lock of its line, and the numbers. `settles`: regions
@@ -37,6 +37,12 @@ pub struct Change {
     pub settles: bool,
     pub drops: bool,
     pub value: u64,
+}
+
+// The refusal that an event meets, 0 for accepted, and what it changes.
+pub struct Decision {
+    pub refusal: u8,
+    pub change: Change,
 }
 
 // Nothing changes.
@@ -473,9 +479,10 @@ fn data_ack_change(s: Sight, med: &mut [[u64; 8]; 256], car: &[[u64; 8]; 256], l
     c
 }
 
-// ---- an accepted event
+// ---- an event
 
-pub fn change_of(
+// What an accepted event changes.
+fn change_of(
     s: Sight,
     lock: [bool; 256],
     cur: &mut [[u64; 8]; 256],
@@ -497,5 +504,30 @@ pub fn change_of(
         Event::DataAck(l) => data_ack_change(s, med, car, l),
         Event::Fence(_) => fence_change(s),
         Event::Cut => cut_change(s),
+    }
+}
+
+// The refusal of an event, 0 for accepted, and what it changes: nothing if it is refused.
+pub fn decide(
+    s: Sight,
+    lock: [bool; 256],
+    cur: &mut [[u64; 8]; 256],
+    med: &mut [[u64; 8]; 256],
+    old: &mut [[u64; 8]; 256],
+    car: &mut [[u64; 8]; 256],
+    e: Event,
+) -> Decision
+    ensures { λ r. ⌜ (r .refusal ≡ seenRefusal s e) × (_≡_ {A = Effect} (record { change = r .change; cur = now (cur .exit); med = now (med .exit); old = now (old .exit); car = now (car .exit) }) (decided (seenRefusal s e) s lock (now (cur .entry)) (now (med .entry)) (now (old .entry)) (now (car .entry)) e)) ⌝ }
+{
+    let n = refusals::refusal(s, e);
+    if n == 0 {
+        return Decision {
+            refusal: 0,
+            change: change_of(s, lock, cur, med, old, car, e),
+        };
+    }
+    Decision {
+        refusal: n,
+        change: same(s),
     }
 }

@@ -1,30 +1,56 @@
-use Rattle.engine.proofs.Steps.{decided-refused}
-use mathlib.Core.Path.{sym}
-use Rattle.engine.specs.Parts.{decided}
+use mathlib.Core.Path.{_∙_, ap, refl}
+use Rattle.engine.specs.Parts.{decidedBy, verdictOf}
+use Rattle.events.specs.Number.{refusalOf}
 use borrow.Author.Needs.{needs}
 use Rattle.engine.proofs.decide.Statement.{statement}
 use Rattle.engine.proofs.decide.Tie as tie
 use Rattle.engine.proofs.decide.Reads as reads
 use Rattle.engine.proofs.decide.Lts as lts
-use Rattle.steps.proofs.change_of.Reads as change-of-reads
+use Rattle.events.proofs.number_of.Reads as number-of-reads
+use Rattle.steps.proofs.decide.Reads as decide-reads
 use Rattle.steps.proofs.same.Reads as same-reads
 
--- src/lib.rt:162:9
-change-of-requires : tie.Need-change-of-requires
-change-of-requires c κs = let T = c .before .before .before .before in T .before .pre (T .if1 .taken)
+-- src/lib.rt:94:24
+enum-known-r : tie.Need-enum-known-r
+enum-known-r c = search needs
 
--- src/lib.rt:162:9
-returns : tie.Need-returns
-unfolding decided
-returns c = rw (c .before .before .before .before .before .if1 .taken) (c .change-of .ensures)
+-- src/lib.rt:96:22
+enum-told : tie.Need-enum-told
+enum-told c = search needs
 
--- src/lib.rt:164:5
+-- src/lib.rt:96:22
+number-of-requires : tie.Need-number-of-requires
+number-of-requires c κs = search needs
+
+-- src/lib.rt:97:21
 same-requires : tie.Need-same-requires
 same-requires c κs = search needs
 
--- src/lib.rt:148:1
+-- src/lib.rt:95:9
+returns : tie.Need-returns
+unfolding verdictOf decidedBy
+returns c =
+    let N = c .before in
+    let e = N .before .enum-told .given .1 in
+    rw e (N .number-of .ensures ∙ ap refusalOf e, rw (c .same .ensures) refl)
+
+-- src/lib.rt:100:5
+decide-requires : tie.Need-decide-requires
+decide-requires c κs = search needs
+
+-- src/lib.rt:83:1
 returns-2 : tie.Need-returns-2
-returns-2 c = rw (c .same .ensures) (sym (decided-refused _ _ _ _ _ _ _ _ (c .before .if1 .left)))
+unfolding verdictOf decidedBy
+returns-2 c = rw (c .before .before .before .before .before .before .r .given .1) (c .decide .ensures)
 
 pub decide-spec : {M : Type 1} → statement M
-decide-spec = tie.close (tie.spec change-of-requires returns same-requires returns-2)
+decide-spec =
+    tie.close
+    (tie.spec
+    enum-known-r
+    enum-told
+    number-of-requires
+    same-requires
+    returns
+    decide-requires
+    returns-2)

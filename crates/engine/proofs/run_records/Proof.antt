@@ -12,13 +12,11 @@ use Rattle.rules.specs.Run.{Ran, answerBytes, answersBytes}
 use Rattle.rules.specs.Step.{Stepped, step}
 use Rattle.steps.specs.Change.{Effect, changed, droppedIf}
 use Rattle.steps.specs.Parts.{board}
-use Rattle.engine.specs.Parts.{decided, eventIn, lastOf, sizeOf, verdictOf, walked}
-use Rattle.engine.proofs.Steps.{accepted, read-number}
+use Rattle.engine.specs.Parts.{decidedBy, eventIn, lastOf, sizeOf, verdictOf, walked}
 use Rattle.rules.specs.Record.{readRecord}
 use Rattle.rules.specs.declared.Reading.{Reading}
 use Rattle.rules.specs.declared.Tables.{Tables}
 use Rattle.sights.specs.Sight.{lineIn, sightOf, threadIn}
-use Rattle.sights.specs.Tests.{seenRefusal}
 use Rattle.engine.proofs.Body.{body-more, body-none, either, lhs, made, see, store-in, store-out}
 use Rattle.engine.proofs.Walked.{behind, front-inside, walked-bytes, walked-last, walked-more, walked-none}
 use borrow.Author.Needs.{needs}
@@ -35,7 +33,6 @@ use Rattle.engine.proofs.record_size.Reads as record-size-reads
 use Rattle.sights.proofs.sight_of.Reads as sight-of-reads
 use Rattle.sights.proofs.thread_in.Reads as thread-in-reads
 use Rattle.engine.proofs.unsettled.Reads as unsettled-reads
-use Rattle.engine.proofs.verdict.Reads as verdict-reads
 use Rattle.events.proofs.read_record.Reads as read-record-reads
 
 abbrev Inv-loop : tie.InvT-loop
@@ -112,18 +109,9 @@ element-copy-out-b c = search needs
 sight-of-requires : tie.Need-sight-of-requires Inv-loop μ-loop
 sight-of-requires c κs = search needs
 
--- src/lib.rt:238:13
-verdict-requires : tie.Need-verdict-requires Inv-loop μ-loop
-verdict-requires c κs = search needs
-
 -- src/lib.rt:240:13
 decide-requires : tie.Need-decide-requires Inv-loop μ-loop
-decide-requires c κs =
-    let VE = c .before .before .before .before .before in
-    let EV = VE .before .before .before .before .before .before .before .before .before .before in
-    let RD = EV .before in
-    λ z. ap (seenRefusal (VE .before .sight-of .result)) (EV .event-in .ensures)
-    ∙ accepted (RD .read-record .result) (VE .before .sight-of .result) (λ q. read-number _ (sym (RD .read-record .ensures) ∙ q)) (sym (VE .verdict .ensures) ∙ z)
+decide-requires c κs = search needs
 
 -- src/lib.rt:246:9
 mul-thread : tie.Need-mul-thread Inv-loop μ-loop
@@ -225,9 +213,8 @@ loop-again c =
     let US = J2 .before in
     let J1 = US .before .before in
     let TH = J1 .before in
-    let DE = TH .before .before in
-    let VE = DE .before .before .before .before .before .before in
-    let SI = VE .before in
+    let DE = TH .before .before .before in
+    let SI = DE .before .before .before .before .before .before in
     let TP = SI .before .before .before .before .before in
     let LI = TP .before .before .before in
     let EV = LI .before in
@@ -247,17 +234,19 @@ loop-again c =
     let bs = drop at f in
     let e = EV .event-in .result in
     let s = SI .sight-of .result in
-    let v = VE .verdict .result in
-    let ch = DE .decide .result in
-    let ee : e ≡ eventIn (readRecord bs) = EV .event-in .ensures ∙ ap eventIn (RD .read-record .ensures ∙ ap readRecord (rest f at)) in
+    let v = DE .decide .result .refusal in
+    let ch = DE .decide .result .change in
+    let er : RD .read-record .result ≡ readRecord bs = RD .read-record .ensures ∙ ap readRecord (rest f at) in
+    let ee : e ≡ eventIn (readRecord bs) = EV .event-in .ensures ∙ ap eventIn er in
     let h8 : length (u .threads) ≡ 8 = TP .thread-place .ensures .1 in
     let h32 : length (u .regions) ≡ 32 = SI .sight-of .ensures .1 in
     let el : LI .line-in .result ≡ lineIn e = LI .line-in .ensures in
     let ei = TP .thread-place .ensures .0 in
     let es : s ≡ sightOf u e = see u h8 e (LI .line-in .result) (TP .thread-place .result) el ei s (SI .sight-of .ensures .0) in
-    let ev : v ≡ verdictOf (readRecord bs) s = VE .verdict .ensures ∙ ap (λ (r : Reading). verdictOf r s) (RD .read-record .ensures ∙ ap readRecord (rest f at)) in
-    let fx : Effect = lhs (DE .decide .ensures) in
-    let ef : fx ≡ decided v s (u .lock) cur med old car e = DE .decide .ensures in
+    let ev : v ≡ verdictOf (readRecord bs) s = DE .decide .ensures .0 ∙ ap (λ (r : Reading). verdictOf r s) er in
+    let fx : Effect = lhs (DE .decide .ensures .1) in
+    let ef : fx ≡ decidedBy (readRecord bs) s (u .lock) cur med old car
+    = DE .decide .ensures .1 ∙ ap (λ (r : Reading). decidedBy r s (u .lock) cur med old car) er in
     let u1 = J1 .if1 .u in
     let eu : u1 ≡ changed e ch u =
     either
@@ -340,7 +329,6 @@ run-records-spec =
     element-copy-out-x
     element-copy-out-b
     sight-of-requires
-    verdict-requires
     decide-requires
     mul-thread
     element-set-from-thread
