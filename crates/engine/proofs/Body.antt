@@ -13,7 +13,7 @@ use Rattle.engine.proofs.Steps.{done-more, done-none, idle, met, met-re
 use Rattle.lookup.proofs.Search.{getD-any}
 use Rattle.rules.specs.Commit.{settled}
 use Rattle.rules.specs.Record.{readRecord}
-use Rattle.rules.specs.Step.{Did, Stepped, did, step}
+use Rattle.rules.specs.Step.{Stepped, step}
 use Rattle.rules.specs.Tables.{Board, keyOf, noThread}
 use Rattle.rules.specs.declared.Event.{Event}
 use Rattle.rules.specs.declared.Reading.{Reading}

@@ -1,6 +1,6 @@
 -- The call that runs an event file: a buffer that is too short, and one that holds the answers.
 use Prim.Native.Nat.{_*_, _/_, _<_, _≤_, ℕ}
-use mathlib.Core.Path.{_∙_, _≡_, ap, refl}
+use mathlib.Core.Path.{_∙_, _≡_, ap}
 use mathlib.Core.List.{List}
 use lib.ListN.{length}
 use native.Mathlib.Omega.{arith}

@@ -1,7 +1,7 @@
 -- The records of a file one by one, and the answers of its run.
 use Prim.Native.Nat.{_*_, _+_, _<_, _≤_, suc, zero, ℕ}
-use mathlib.Core.Path.{_∙_, _≡_, ap, refl}
-use mathlib.Core.List.{List, [], _++_, _∷_}
+use mathlib.Core.Path.{_≡_, ap, refl}
+use mathlib.Core.List.{List, [], _∷_}
 use lib.Dec.{ltb}
 use lib.ListN.{drop, getD, length, length-append, length-drop}
 use native.Mathlib.Omega.{arith}
@@ -9,9 +9,8 @@ use borrow.Author.Tests.{ltb-false}
 use lib.Seq.{drop-drop, drop-length}
 use Rattle.engine.specs.Parts.{sizeOf}
 use Rattle.lines.proofs.Words.{length-bytes}
-use Rattle.rules.specs.Bytes.{bytesOf}
 use Rattle.rules.specs.Lists.{flat}
-use Rattle.rules.specs.Record.{bodyLength, isWhole, readRecord, recordsFrom, recordsOf}
+use Rattle.rules.specs.Record.{bodyLength, isWhole, readRecord, recordsFrom}
 use Rattle.rules.specs.Run.{answerBytes, answersBytes, run}
 use Rattle.rules.specs.Step.{step}
 use Rattle.rules.specs.Tables.{Board}

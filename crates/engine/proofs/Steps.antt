@@ -2,21 +2,17 @@
 use Prim.Native.Nat.{suc, zero, ℕ}
 use mathlib.Core.Path.{_∙_, _≡_, ap, refl, sym}
 use mathlib.Core.Bool.{Bool, _&&_, _||_, cond, false, false≢true, not, true}
-use mathlib.Core.List.{List, [], _∷_}
-use lib.Dec.{eqb, ltb}
+use mathlib.Core.List.{List}
+use lib.Dec.{eqb}
 use lib.ListN.{length}
-use native.Mathlib.Omega.{arith}
-use Rattle.commits.specs.Choice.{settlementOf}
 use Rattle.commits.specs.Settled.{isSettled}
 use Rattle.commits.proofs.Settled.{settled-none}
 use Rattle.engine.specs.Parts.{decidedBy, eventIn, verdictOf}
 use Rattle.sights.proofs.Seen.{seen-refusal}
 use Rattle.steps.proofs.Effects.{effect-law, same-law}
-use Rattle.events.specs.Number.{refusalOf}
 use Rattle.rules.specs.Commit.{Settled, settled}
-use Rattle.rules.specs.Record.{bodyLength, eventOf, isWhole, readRecord}
 use Rattle.rules.specs.Refusal.{refusal}
-use Rattle.rules.specs.Step.{Did, Stepped, accept, apply, did, settledBoard, step, stepBy, stepEvent, stepRead}
+use Rattle.rules.specs.Step.{Did, Stepped, did, settledBoard, step, stepBy, stepEvent, stepRead}
 use Rattle.rules.specs.Tables.{Board}
 use Rattle.rules.specs.declared.Answer.{Answer}
 use Rattle.rules.specs.declared.Event.{Event}

@@ -139,6 +139,7 @@ fn put_next(answers: &mut [u8], p: usize, refusal: u8, value: u64) -> usize
 }
 
 // The first n records of a file, each on what the last one left. The answers are written if there is room for all; the outcome has the last one.
+// The body stands in the loop, where it stores in place: as a function it would copy the tables in and out.
 fn run_records(
     t: Tables,
     cur: &mut [[u64; 8]; 256],
@@ -162,6 +163,7 @@ fn run_records(
     while 0 < left {
         let reading = events::read_record(&file[at..]);
         let e = event_in(reading);
+        // what it looks at
         let l = sights::line_in(e);
         let li = l as usize;
         let o = u.owner[li];
@@ -172,6 +174,7 @@ fn run_records(
         let regions = u.regions;
         let z = u.size;
         let s = sights::sight_of(z, u.cut, u.clock, x, o, b, regions, e);
+        // its refusal, and what it changes
         let lock = u.lock;
         let d = decide(reading, s, lock, cur, med, old, car);
         let c = d.change;
@@ -188,6 +191,7 @@ fn run_records(
             let region = c.region;
             u.regions[place] = region;
         }
+        // what that lets be dropped, become done or commit
         let mut value = c.value;
         let now = u.regions;
         if unsettled(c, now) {
@@ -196,6 +200,7 @@ fn run_records(
             u = after;
             value = f.commits;
         }
+        // its answer, and the next record
         answer = Answer {
             refusal: d.refusal,
             value: value,

@@ -3,19 +3,19 @@ use Prim.Native.Nat.{_+_, _<_, _≤_, suc, ℕ}
 use mathlib.Core.Path.{_∙_, _≡_, refl, sym}
 use mathlib.Core.Bool.{Bool, cond, false, not, true}
 use mathlib.Core.List.{List, [], _∷_}
-use lib.Dec.{eqb, ltb}
+use lib.Dec.{ltb}
 use lib.ListN.{getD, length}
 use native.Mathlib.Omega.{arith}
 use borrow.Author.Tests.{lt-ltb, ltb-false, ltb-true}
 use Rattle.lookup.proofs.Search.{any-place, place-le}
 use Rattle.rules.specs.Lists.{count, place}
 use Rattle.rules.specs.Slots.{isEmpty, names, orAt, slotFor, slotFrom}
-use Rattle.rules.specs.Tables.{isHeld, isKey, listed, placeOf}
+use Rattle.rules.specs.Tables.{isHeld, isKey, placeOf}
 use Rattle.rules.specs.declared.Found.{Found}
 use Rattle.rules.specs.declared.Found.the-variants.{At, Full}
 use Rattle.rules.specs.declared.Region.{Region}
 use Rattle.rules.specs.declared.Slot.{Slot}
-use Rattle.undo.proofs.Laws.{and-true, test}
+use Rattle.undo.proofs.Laws.{test}
 use Rattle.undo.proofs.Shape.{rest}
 use Rattle.undo.specs.Table.{any}
 

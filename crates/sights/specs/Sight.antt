@@ -1,6 +1,6 @@
 -- What an event looks at: the numbers, its thread, its line, and of the list of regions what its tests and its step need.
 use Prim.Native.Nat.{_%_, ℕ}
-use mathlib.Core.Bool.{Bool, cond, false, not}
+use mathlib.Core.Bool.{Bool, cond, false}
 use mathlib.Core.List.{List}
 use lib.ListN.{getD}
 use Rattle.rules.specs.Acknowledge.{flightPlace}

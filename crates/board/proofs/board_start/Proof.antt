@@ -1,5 +1,5 @@
 use Rattle.rules.specs.Refusal.{refusal, testsOf}
-use mathlib.Core.Path.{_∙_, refl, sym}
+use mathlib.Core.Path.{_∙_, sym}
 use Rattle.board.proofs.Start.{many-lines, many-threads, start-answer, start-far}
 use borrow.Author.Needs.{needs}
 use Rattle.board.proofs.board_start.Statement.{statement}

@@ -1,7 +1,6 @@
 use Rattle.engine.proofs.Walked.{walked-all}
-use mathlib.Core.Path.{_∙_, _≡_, ap, refl, sym}
 use native.Mathlib.Omega.{arith}
-use Rattle.rules.specs.Tables.{fresh, startLines}
+use Rattle.rules.specs.Tables.{fresh}
 use Rattle.engine.proofs.Call.{call-accepted, call-refused}
 use borrow.Author.Needs.{needs}
 use Rattle.engine.proofs.run_file.Statement.{statement}

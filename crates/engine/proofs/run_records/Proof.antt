@@ -1,8 +1,8 @@
 use Rattle.rules.specs.Lists.{flat}
-use Prim.Native.Nat.{_*_, _+_, _-_, _<_, _≤_, ℕ}
+use Prim.Native.Nat.{_*_, _+_, _-_, _≤_, ℕ}
 use mathlib.Core.Path.{_∙_, _≡_, ap, refl, sym}
 use lib.ListN.{drop, length}
-use lib.Seq.{length-sets, sets}
+use lib.Seq.{sets}
 use native.Mathlib.Omega.{arith}
 use Rattle.lines.proofs.Paste.{rest}
 use Rattle.commits.specs.Choice.{settlementOf}
@@ -16,7 +16,7 @@ use Rattle.engine.specs.Parts.{decidedBy, eventIn, lastOf, sizeOf, verdi
 use Rattle.rules.specs.Record.{readRecord}
 use Rattle.rules.specs.declared.Reading.{Reading}
 use Rattle.rules.specs.declared.Tables.{Tables}
-use Rattle.sights.specs.Sight.{lineIn, sightOf, threadIn}
+use Rattle.sights.specs.Sight.{lineIn, sightOf}
 use Rattle.engine.proofs.Body.{body-more, body-none, either, lhs, made, see, store-in, store-out}
 use Rattle.engine.proofs.Walked.{behind, front-inside, walked-bytes, walked-last, walked-more, walked-none}
 use borrow.Author.Needs.{needs}
