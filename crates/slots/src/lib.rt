@@ -231,11 +231,11 @@ fn carry(l: u8, f: bool, cur: &[[u64; 8]; 256], car: &mut [[u64; 8]; 256])
 pub fn fly(
     slots: [Slot; 8],
     ended: bool,
-    lock: [bool; 256],
+    lock: &[bool; 256],
     cur: &[[u64; 8]; 256],
     car: &mut [[u64; 8]; 256],
 ) -> [Slot; 8]
-    ensures { λ r. ⌜ (r ≡ flownSlots lock ended slots) × (now (car .exit) ≡ carried lock ended slots (now (cur .entry)) (now (car .entry))) ⌝ }
+    ensures { λ r. ⌜ (r ≡ flownSlots (now (lock .entry)) ended slots) × (now (car .exit) ≡ carried (now (lock .entry)) ended slots (now (cur .entry)) (now (car .entry))) ⌝ }
 {
     let mut q = slots;
     let mut i: usize = 0;

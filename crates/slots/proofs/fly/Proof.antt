@@ -9,10 +9,10 @@ use Rattle.slots.proofs.Laws.{carried-end, carried-more}
 use Rattle.slots.proofs.Walk.{map-end, map-more, mapped}
 
 abbrev Inv-loop : tie.InvT-loop
-Inv-loop ended cur car₀ lock q₀ i₀ car q i = (i ≤ 8) × ((length q ≡ 8) × ((mapped (flownSlot lock ended) i q ≡ flownSlots lock ended q₀) × (carried lock ended (drop i q) cur car ≡ carried lock ended q₀ cur car₀)))
+Inv-loop ended lock cur car₀ q₀ i₀ car q i = (i ≤ 8) × ((length q ≡ 8) × ((mapped (flownSlot lock ended) i q ≡ flownSlots lock ended q₀) × (carried lock ended (drop i q) cur car ≡ carried lock ended q₀ cur car₀)))
 
 abbrev μ-loop : tie.MeasureT-loop
-μ-loop ended cur car₀ lock q₀ i₀ car q i = 8 - i
+μ-loop ended lock cur car₀ q₀ i₀ car q i = 8 - i
 
 loop-holds : tie.Need-loop-holds Inv-loop μ-loop
 unfolding flownSlots
@@ -27,8 +27,8 @@ array-copy-out-s c = search needs
 cast-li : tie.Need-cast-li Inv-loop μ-loop
 cast-li c = search needs
 
-array-read-flies : tie.Need-array-read-flies Inv-loop μ-loop
-array-read-flies c = search needs
+element-copy-out-flies : tie.Need-element-copy-out-flies Inv-loop μ-loop
+element-copy-out-flies c = search needs
 
 flies-requires : tie.Need-flies-requires Inv-loop μ-loop
 flies-requires c κs = search needs
@@ -52,22 +52,22 @@ loop-less : tie.Need-loop-less Inv-loop μ-loop
 loop-less c = search needs
 
 loop-again : tie.Need-loop-again Inv-loop μ-loop
-loop-again c = let at = c .before .before .before .before .before .before .before in
+loop-again c = let at = c .before .before .before .before .before .before .before .before in
     let f = c .before .before .before .flies .ensures in (
       search needs,
       (
         simp length-set (at .loop .inv .1 .0),
         (
-          rw (c .flown-slot .ensures, f) (sym (map-more (flownSlot (at .before .args .t3) (at .before .args .ended)) (at .loop .i) (at .loop .q) _ (search needs)) ∙ at .loop .inv .1 .1 .0),
-          rw (c .before .carry .ensures, f) (sym (carried-more (at .before .args .t3) (at .before .args .ended) (at .loop .i) (at .loop .q) _ (at .loop .car) _ _ (search needs)) ∙ at .loop .inv .1 .1 .1),
+          rw (c .flown-slot .ensures, f) (sym (map-more (flownSlot (at .before .args .lock .now) (at .before .args .ended)) (at .loop .i) (at .loop .q) _ (search needs)) ∙ at .loop .inv .1 .1 .0),
+          rw (c .before .carry .ensures, f) (sym (carried-more (at .before .args .lock .now) (at .before .args .ended) (at .loop .i) (at .loop .q) _ (at .loop .car) _ _ (search needs)) ∙ at .loop .inv .1 .1 .1),
         ),
       ),
     )
 
 returns : tie.Need-returns Inv-loop μ-loop
 returns c = let at = c .before in (
-  sym (map-end (flownSlot (at .before .args .t3) (at .before .args .ended)) (at .loop .i) (at .loop .q) (search needs)) ∙ at .loop .inv .1 .1 .0,
-  sym (carried-end (at .before .args .t3) (at .before .args .ended) (at .loop .i) (at .loop .q) _ (at .loop .car) (search needs)) ∙ at .loop .inv .1 .1 .1,
+  sym (map-end (flownSlot (at .before .args .lock .now) (at .before .args .ended)) (at .loop .i) (at .loop .q) (search needs)) ∙ at .loop .inv .1 .1 .0,
+  sym (carried-end (at .before .args .lock .now) (at .before .args .ended) (at .loop .i) (at .loop .q) _ (at .loop .car) (search needs)) ∙ at .loop .inv .1 .1 .1,
 )
 
 pub fly-spec : {M : Type 1} → statement M
@@ -80,7 +80,7 @@ fly-spec =
     mul-s
     array-copy-out-s
     cast-li
-    array-read-flies
+    element-copy-out-flies
     flies-requires
     carry-requires
     flown-slot-requires

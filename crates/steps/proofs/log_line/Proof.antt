@@ -1,50 +1,119 @@
+use Rattle.rules.specs.Access.{logged}
+use Rattle.rows.proofs.Laws.{free-below, map-set, thread-at}
+use Rattle.rows.specs.Row.{threadOf}
+use native.Mathlib.Omega.{arith}
+use borrow.Author.Needs.{needs}
 use Rattle.steps.proofs.log_line.Statement.{statement}
 use Rattle.steps.proofs.log_line.Tie as tie
-use mathlib.Core.Path.{refl}
-use Prim.Native.Nat.{_<_}
-use lib.ListN.{length}
-use native.Mathlib.Omega.{arith}
-use Rattle.lookup.proofs.Bounds.{place-lt}
-use Rattle.rules.specs.Access.{isOf}
-use Rattle.rules.specs.Lists.{place}
-use borrow.Author.Needs.{needs}
+use Rattle.steps.proofs.log_line.Reads as reads
+use Rattle.steps.proofs.log_line.Lts as lts
+use Rattle.rows.proofs.entry_count.Reads as entry-count-reads
+use Rattle.rows.proofs.free_entry.Reads as free-entry-reads
+use Rattle.rows.proofs.put_entry.Reads as put-entry-reads
+use Rattle.rows.proofs.threads8.Reads as threads8-reads
 
--- the free place is one of the log's 32
-below : (c : tie.After-with-entry) → c .before .free-entry .result < 32
-below c = let f = c .before in
-    let log = f .before .before .args .x .log in
-    let h : place (isOf 0) log < length log = place-lt (isOf 0) log (f .before .before .pre .1) in
-    omega (arith, f .free-entry .ensures, c .with-entry .ensures .1)
+-- src/lib.rt:57:5
+threads8-requires : tie.Need-threads8-requires
+threads8-requires c κs = search needs
 
+-- src/lib.rt:60:30
+mul-free-entry : tie.Need-mul-free-entry
+mul-free-entry c = search needs
+
+-- src/lib.rt:60:30
+index-1-free-entry : tie.Need-index-1-free-entry
+index-1-free-entry c = search needs
+
+-- src/lib.rt:60:9
 free-entry-requires : tie.Need-free-entry-requires
 free-entry-requires c κs = search needs
 
-with-entry-requires : tie.Need-with-entry-requires
-with-entry-requires c κs = search needs
+-- src/lib.rt:64:33
+mul-entry-count : tie.Need-mul-entry-count
+mul-entry-count c = search needs
 
-mul-at : tie.Need-mul-at
-mul-at c = search needs
+-- src/lib.rt:64:33
+index-1-entry-count : tie.Need-index-1-entry-count
+index-1-entry-count c = search needs
 
-add-at : tie.Need-add-at
-add-at c = let h = below c in let t : c .before .before .before .args .t < 8 = c .before .before .before .pre .0 in omega arith
+-- src/lib.rt:64:15
+entry-count-requires : tie.Need-entry-count-requires
+entry-count-requires c κs = search needs
 
-mul-y : tie.Need-mul-y
-mul-y c = let h = below c in let t : c .before .before .before .args .t < 8 = c .before .before .before .pre .0 in omega arith
+-- src/lib.rt:67:21
+mul-put-entry : tie.Need-mul-put-entry
+mul-put-entry c = search needs
 
-element-set-from-y : tie.Need-element-set-from-y
-element-set-from-y c = let h = below c in let t : c .before .before .before .args .t < 8 = c .before .before .before .pre .0 in omega arith
+-- src/lib.rt:67:21
+index-1-put-entry : tie.Need-index-1-put-entry
+index-1-put-entry c = search needs
 
+-- src/lib.rt:67:5
+put-entry-requires : tie.Need-put-entry-requires
+put-entry-requires c κs = search needs
+
+-- src/lib.rt:68:13
+mul-x : tie.Need-mul-x
+mul-x c = search needs
+
+-- src/lib.rt:68:13
+element-copy-out-x : tie.Need-element-copy-out-x
+element-copy-out-x c = search needs
+
+-- src/lib.rt:69:9
+mul-x-2 : tie.Need-mul-x-2
+mul-x-2 c = search needs
+
+-- src/lib.rt:69:9
+add-x : tie.Need-add-x
+add-x c = let s = c .before .before .before .before .before .before .before .before .before in let h = free-below (s .args .threads .now) (s .args .t) (omega (arith, s .pre .0, c .before .before .before .before .before .before .before .threads8 .ensures)) (s .pre .1) in omega (arith, h, s .pre .0, c .before .before .before .before .before .free-entry .ensures)
+
+-- src/lib.rt:69:5
+mul-x-3 : tie.Need-mul-x-3
+mul-x-3 c = let s = c .before .before .before .before .before .before .before .before .before in let h = free-below (s .args .threads .now) (s .args .t) (omega (arith, s .pre .0, c .before .before .before .before .before .before .before .threads8 .ensures)) (s .pre .1) in omega (arith, h, s .pre .0, c .before .before .before .before .before .free-entry .ensures)
+
+-- src/lib.rt:69:5
+element-set-from-x : tie.Need-element-set-from-x
+element-set-from-x c = let s = c .before .before .before .before .before .before .before .before .before in let h = free-below (s .args .threads .now) (s .args .t) (omega (arith, s .pre .0, c .before .before .before .before .before .before .before .threads8 .ensures)) (s .pre .1) in omega (arith, h, s .pre .0, c .before .before .before .before .before .free-entry .ensures)
+
+-- src/lib.rt:70:5
+mul-owner : tie.Need-mul-owner
+mul-owner c = search needs
+
+-- src/lib.rt:70:5
+element-write-owner : tie.Need-element-write-owner
+element-write-owner c = search needs
+
+-- src/lib.rt:71:5
+element-write-lock : tie.Need-element-write-lock
+element-write-lock c = search needs
+
+-- src/lib.rt:44:1
 returns : tie.Need-returns
-returns c = (rw (c .with-entry .ensures .0, c .before .free-entry .ensures) refl, rw (c .before .free-entry .ensures) refl)
+unfolding logged
+returns c = λ h regions med car. let s = c .before .before .before .before .before .before .before .before .before in rw (map-set threadOf _ _ _, c .before .put-entry .ensures, c .before .before .before .entry-count .ensures, c .before .before .before .before .before .free-entry .ensures, thread-at (s .args .threads .now) (s .args .t) (omega (arith, s .pre .0, c .before .before .before .before .before .before .before .threads8 .ensures)))
 
 pub log-line-spec : {M : Type 1} → statement M
 log-line-spec =
     tie.close
     (tie.spec
+    threads8-requires
+    mul-free-entry
+    index-1-free-entry
     free-entry-requires
-    with-entry-requires
-    mul-at
-    add-at
-    mul-y
-    element-set-from-y
+    mul-entry-count
+    index-1-entry-count
+    entry-count-requires
+    mul-put-entry
+    index-1-put-entry
+    put-entry-requires
+    mul-x
+    element-copy-out-x
+    mul-x-2
+    add-x
+    mul-x-3
+    element-set-from-x
+    mul-owner
+    element-write-owner
+    element-write-lock
     returns)
