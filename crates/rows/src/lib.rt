@@ -582,3 +582,25 @@ pub fn dependence(regions: &[[u32; 16]; 32], o: u32, k: u32) -> u32
     let d = uncommitted(regions, o);
     if d == k { 0 } else { d }
 }
+
+// Thread t gets the depth d and the last number n; behind the list nothing changes.
+pub fn set_thread(threads: &mut [[u64; 34]; 8], t: u8, d: u8, n: u16)
+    ensures { λ _. ⌜ threadsOf (now (threads .exit)) ≡ set (threadsOf (now (threads .entry))) t (record { depth = d; last = n; log = getD (threadsOf (now (threads .entry))) t noThread .log }) ⌝ }
+{
+    threads8(threads);
+    let i = t as usize;
+    if i < 8 {
+        set_place(&mut threads[i], d, n);
+    }
+}
+
+// The log entry of region k for line l is persistent; a key of no thread has none.
+pub fn keep_of(threads: &mut [[u64; 34]; 8], k: u32, l: u8)
+    ensures { λ _. ⌜ threadsOf (now (threads .exit)) ≡ set (threadsOf (now (threads .entry))) (k / 65536) (kept k l (getD (threadsOf (now (threads .entry))) (k / 65536) noThread)) ⌝ }
+{
+    threads8(threads);
+    let i = (k / 65536) as usize;
+    if i < 8 {
+        keep_entry(&mut threads[i], k, l);
+    }
+}

@@ -5,17 +5,19 @@ use rules::Region;
 ghost use Prim.Native.Nat.{ℕ, _*_, _+_, _-_, _<_, _≤_};
 ghost use mathlib.Core.Path.{_≡_};
 ghost use mathlib.Core.Bool.{Bool, _&&_, cond, false, not, true};
-ghost use mathlib.Core.List.{List, map};
-ghost use lib.Dec.{eqb};
-ghost use lib.ListN.{getD, length, set};
+ghost use mathlib.Core.List.{List, _∷_, map};
+ghost use lib.Dec.{eqb, leb};
+ghost use lib.ListN.{getD, replicate, set};
 ghost use Rattle.undo.specs.Table.{any};
-ghost use Rattle.rules.specs.Lists.{count, place};
-ghost use Rattle.rules.specs.Tables.{Board, lineOf, noThread, placeOf, regionAt, withDeps, withSlots};
-ghost use Rattle.rules.specs.Access.{isOf, joined, loggedOnce, logged, storeWord, write};
+ghost use Rattle.rules.specs.Tables.{noRegion, noSlot, noThread, placeOf, regionAt, withDeps, withSlots};
+ghost use Rattle.rules.specs.Access.{isOf, joined, logged, loggedOnce, read, storeWord, write};
+ghost use Rattle.rules.specs.Acknowledge.{dataAck, dropped, logAck};
+ghost use Rattle.rules.specs.Begin.{begin, opened};
+ghost use Rattle.rules.specs.End.{endRegion, endedRegion, shallower, tick};
 ghost use Rattle.rules.specs.Flight.{flown};
 ghost use Rattle.rules.specs.Slots.{written};
 ghost use Rattle.rows.specs.Row.{regionsOf, threadsOf};
-ghost use Rattle.rows.specs.Whole.{boardOf};
+ghost use Rattle.rows.specs.Whole.{boardOf, tablesOf};
 
 // ---- "The slots fly where they can"
 
@@ -126,7 +128,7 @@ fn store(cur: &mut [[u64; 8]; 256], l: u8, w: u8, v: u64)
 }
 
 // A write that needs a log entry has one free: refusal 21.
-pub fn write(
+fn write(
     threads: &mut [[u64; 34]; 8],
     regions: &mut [[u32; 16]; 32],
     owner: &mut [u32; 256],
@@ -151,4 +153,186 @@ pub fn write(
     rows::put(regions, i, q);
     store(cur, l, w, v);
     fly(regions, lock, cur, car, k);
+}
+
+// ---- begin
+
+// Region k as it begins, with the dependence d on its predecessor.
+fn begun(k: u32, d: u32) -> Region
+    ensures { λ r. ⌜ _≡_ {A = Region} r (record { key = k; ended = false; done = false; stamp = 0; deps = d ∷ replicate 3 0; slots = replicate 8 noSlot }) ⌝ }
+{
+    let s = lookup::no_slot();
+    Region {
+        key: k,
+        ended: false,
+        done: false,
+        stamp: 0,
+        deps: [d, 0, 0, 0],
+        slots: [s; 8],
+    }
+}
+
+// Thread t opens its next region. Numbers are left: refusal 14.
+fn open(threads: &mut [[u64; 34]; 8], regions: &mut [[u32; 16]; 32], t: u8)
+    requires { ⌜ getD (threadsOf (now threads)) t noThread .last < 65535 ⌝ }
+    ensures { λ _. ⌜ ((h : Head) (owner : List ℕ) (lock : List Bool) → tablesOf h (now (threads .exit)) (now (regions .exit)) owner lock ≡ opened t (tablesOf h (now (threads .entry)) (now (regions .entry)) owner lock)) ⌝ }
+{
+    let n = rows::last_of(threads, t);
+    let p = rows::current(threads, t);
+    let d = rows::uncommitted(regions, p);
+    let i = rows::place_of(regions, 0);
+    let r = begun(65536 * (t as u32) + (n as u32 + 1), d);
+    rows::put(regions, i, r);
+    rows::set_thread(threads, t, 1, n + 1);
+}
+
+// The depth rises: refusal 13.
+fn begin(threads: &mut [[u64; 34]; 8], regions: &mut [[u32; 16]; 32], t: u8)
+    requires { ⌜ (getD (threadsOf (now threads)) t noThread .depth < 15) × (eqb (getD (threadsOf (now threads)) t noThread .depth) 0 && leb 65535 (getD (threadsOf (now threads)) t noThread .last) ≡ false) ⌝ }
+    ensures { λ _. ⌜ ((h : Head) (owner : List ℕ) (lock : List Bool) → tablesOf h (now (threads .exit)) (now (regions .exit)) owner lock ≡ begin t (tablesOf h (now (threads .entry)) (now (regions .entry)) owner lock)) ⌝ }
+{
+    let d = rows::depth_of(threads, t);
+    if d == 0 {
+        open(threads, regions, t);
+        return;
+    }
+    let n = rows::last_of(threads, t);
+    rows::set_thread(threads, t, d + 1, n);
+}
+
+// ---- end
+
+// The clock counts one end more.
+fn tick(c: u32) -> u32
+    ensures { λ r. ⌜ r ≡ tick c ⌝ }
+{
+    ((c as u64 + 1) % 4294967296) as u32
+}
+
+fn one_less(d: u8) -> u8
+    ensures { λ r. ⌜ r ≡ d - 1 ⌝ }
+{
+    if d == 0 { 0 } else { d - 1 }
+}
+
+// The depth of thread t falls.
+fn shallower(threads: &mut [[u64; 34]; 8], t: u8)
+    ensures { λ _. ⌜ ((h : Head) (regions : List (List ℕ)) (owner : List ℕ) (lock : List Bool) → tablesOf h (now (threads .exit)) regions owner lock ≡ shallower t (tablesOf h (now (threads .entry)) regions owner lock)) ⌝ }
+{
+    let d = rows::depth_of(threads, t);
+    let n = rows::last_of(threads, t);
+    rows::set_thread(threads, t, one_less(d), n);
+}
+
+// Region k ends at the clock c.
+fn close(regions: &mut [[u32; 16]; 32], k: u32, c: u32)
+    ensures { λ _. ⌜ regionsOf (now (regions .exit)) ≡ set (regionsOf (now (regions .entry))) (placeOf k (regionsOf (now (regions .entry)))) (endedRegion c (regionAt k (regionsOf (now (regions .entry))))) ⌝ }
+{
+    let i = rows::place_of(regions, k);
+    let r = rows::get(regions, i);
+    let mut q = r;
+    q.ended = true;
+    q.stamp = c;
+    rows::put(regions, i, q);
+}
+
+// The region of thread t ends: it gets its stamp, and its slots fly.
+fn end_region(
+    h: Head,
+    threads: &mut [[u64; 34]; 8],
+    regions: &mut [[u32; 16]; 32],
+    lock: &[bool; 256],
+    cur: &[[u64; 8]; 256],
+    car: &mut [[u64; 8]; 256],
+    t: u8,
+) -> Head
+    ensures { λ r. ⌜ ((owner : List ℕ) (med old : List (List ℕ)) → boardOf r (now (threads .exit)) (now (regions .exit)) owner (now (lock .entry)) (now (cur .entry)) med old (now (car .exit)) ≡ endRegion t (boardOf h (now (threads .entry)) (now (regions .entry)) owner (now (lock .entry)) (now (cur .entry)) med old (now (car .entry)))) ⌝ }
+{
+    let k = rows::current(threads, t);
+    let c = tick(h.clock);
+    shallower(threads, t);
+    close(regions, k, c);
+    fly(regions, lock, cur, car, k);
+    let size = h.size;
+    Head {
+        size: size,
+        cut: h.cut,
+        clock: c,
+    }
+}
+
+// ---- read
+
+// A read of line l by region k: the dependence that it brings.
+fn read(regions: &mut [[u32; 16]; 32], owner: &[u32; 256], k: u32, l: u8)
+    ensures { λ _. ⌜ ((h : Head) (threads : List (List ℕ)) (lock : List Bool) → tablesOf h threads (now (regions .exit)) (now (owner .entry)) lock ≡ read k l (tablesOf h threads (now (regions .entry)) (now (owner .entry)) lock)) ⌝ }
+{
+    let d = rows::dependence(regions, owner[l as usize], k);
+    let i = rows::place_of(regions, k);
+    let r = rows::get(regions, i);
+    let q = joined_region(r, d);
+    rows::put(regions, i, q);
+}
+
+// ---- the acknowledgements
+
+// The flight of line l in the region at place i is dropped unless region k owns it.
+fn drop_at(regions: &mut [[u32; 16]; 32], i: usize, k: u32, l: u8)
+    ensures { λ _. ⌜ regionsOf (now (regions .exit)) ≡ set (regionsOf (now (regions .entry))) i (dropped k l (getD (regionsOf (now (regions .entry))) i noRegion)) ⌝ }
+{
+    if rows::carries_at(regions, i, l) {
+        let r = rows::get(regions, i);
+        let q = slots::dropped(r, k, l);
+        rows::put(regions, i, q);
+    }
+}
+
+// Flights of regions other than k on line l are dropped.
+fn drop_flights(regions: &mut [[u32; 16]; 32], k: u32, l: u8)
+    ensures { λ _. ⌜ regionsOf (now (regions .exit)) ≡ map (dropped k l) (regionsOf (now (regions .entry))) ⌝ }
+{
+    rows::rows32(regions);
+    let mut i: usize = 0;
+    while i < 32 {
+        drop_at(regions, i, k, l);
+        i += 1;
+    }
+}
+
+// The line is unlocked, its log entry persistent, and the flights of other regions on it dropped; then its owner's slots fly.
+fn log_ack(
+    threads: &mut [[u64; 34]; 8],
+    regions: &mut [[u32; 16]; 32],
+    owner: &[u32; 256],
+    lock: &mut [bool; 256],
+    cur: &[[u64; 8]; 256],
+    car: &mut [[u64; 8]; 256],
+    l: u8,
+)
+    ensures { λ _. ⌜ ((h : Head) (med old : List (List ℕ)) → boardOf h (now (threads .exit)) (now (regions .exit)) (now (owner .entry)) (now (lock .exit)) (now (cur .entry)) med old (now (car .exit)) ≡ logAck l (boardOf h (now (threads .entry)) (now (regions .entry)) (now (owner .entry)) (now (lock .entry)) (now (cur .entry)) med old (now (car .entry)))) ⌝ }
+{
+    let li = l as usize;
+    let k = owner[li];
+    drop_flights(regions, k, l);
+    rows::keep_of(threads, k, l);
+    lock[li] = false;
+    fly(regions, lock, cur, car, k);
+}
+
+// The carried line is in the medium, and its slot is empty.
+fn data_ack(
+    regions: &mut [[u32; 16]; 32],
+    med: &mut [[u64; 8]; 256],
+    car: &[[u64; 8]; 256],
+    l: u8,
+)
+    ensures { λ _. ⌜ ((h : Head) (threads : List (List ℕ)) (owner : List ℕ) (lock : List Bool) (cur old : List (List ℕ)) → boardOf h threads (now (regions .exit)) owner lock cur (now (med .exit)) old (now (car .entry)) ≡ dataAck l (boardOf h threads (now (regions .entry)) owner lock cur (now (med .entry)) old (now (car .entry)))) ⌝ }
+{
+    let li = l as usize;
+    let x = car[li];
+    med[li] = x;
+    let i = rows::flight_place(regions, l);
+    let r = rows::get(regions, i);
+    let q = slots::landed(r, l);
+    rows::put(regions, i, q);
 }

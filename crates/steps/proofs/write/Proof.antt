@@ -65,7 +65,7 @@ fly-requires c κs = search needs
 -- src/lib.rt:129:1
 returns : tie.Need-returns
 unfolding stored ownerOf
-returns c = λ h med. let s = c .before .before .before .before .before .before .before .before .before .before .before .before .before .before .before .before .before .before .before .before .before .before .before .before .before .args in let g = c .before .before .before .before .before .before .before .before .before .before .before .before .before .before .log-once in write-law (s .t) (s .l) (s .w) (s .v) (c .before .before .before .before .before .before .before .before .before .before .before .before .before .before .before .before .before .before .before .before .before .before .before .current .result) (c .before .before .before .before .before .before .before .before .before .before .before .before .before .before .before .before .before .before .before .before .dependence .result) (c .before .before .before .before .before .before .before .before .before .wrote-region .result) _ (boardOf h (g .last .0) (s .regions .now) (g .last .1 .0) (g .last .1 .1 .0) (s .cur .now) med (g .last .1 .1 .1 .1 .0) (s .car .now)) (boardOf h (g .last .0) (c .before .before .before .before .before .before .before .put .last .0) (g .last .1 .0) (g .last .1 .1 .0) (c .before .before .before .before .before .store .last .0) med (g .last .1 .1 .1 .1 .0) (s .car .now)) _ (c .before .before .before .before .before .before .before .before .before .before .before .before .before .before .before .before .before .before .before .before .before .before .before .current .ensures) (c .before .before .before .before .before .before .before .before .before .before .before .before .before .before .before .before .before .before .before .before .dependence .ensures) (g .ensures h (s .regions .now) med (s .car .now)) (rw (c .before .before .before .before .before .before .before .before .before .wrote-region .ensures, c .before .before .before .before .before .before .before .before .before .before .get .ensures, c .before .before .before .before .before .before .before .before .before .before .before .before .place-of .ensures)) (rw (c .before .before .before .before .before .before .before .put .ensures, c .before .before .before .before .before .before .before .before .before .before .before .before .place-of .ensures, c .before .before .before .before .before .store .ensures)) (c .fly .ensures h (g .last .0) (g .last .1 .0) med (g .last .1 .1 .1 .1 .0))
+returns c = λ h med. let s = c .before .before .before .before .before .before .before .before .before .before .before .before .before .before .before .before .before .before .before .before .before .before .before .before .before .args in let g = c .before .before .before .before .before .before .before .before .before .before .before .before .before .before .log-once in write-law (s .t) (s .l) (s .w) (s .v) (c .before .before .before .before .before .before .before .before .before .before .before .before .before .before .before .before .before .before .before .before .before .before .before .current .result) (c .before .before .before .before .before .before .before .before .before .before .before .before .before .before .before .before .before .before .before .before .dependence .result) (c .before .before .before .before .before .before .before .before .before .wrote-region .result) (boardOf h (s .threads .now) (s .regions .now) (s .owner .now) (s .lock .now) (s .cur .now) med (s .old .now) (s .car .now)) (boardOf h (g .last .0) (s .regions .now) (g .last .1 .0) (g .last .1 .1 .0) (s .cur .now) med (g .last .1 .1 .1 .1 .0) (s .car .now)) (boardOf h (g .last .0) (c .before .before .before .before .before .before .before .put .last .0) (g .last .1 .0) (g .last .1 .1 .0) (c .before .before .before .before .before .store .last .0) med (g .last .1 .1 .1 .1 .0) (s .car .now)) (boardOf h (g .last .0) (c .fly .last .0) (g .last .1 .0) (g .last .1 .1 .0) (c .before .before .before .before .before .store .last .0) med (g .last .1 .1 .1 .1 .0) (c .fly .last .1 .1 .1 .0)) (c .before .before .before .before .before .before .before .before .before .before .before .before .before .before .before .before .before .before .before .before .before .before .before .current .ensures) (c .before .before .before .before .before .before .before .before .before .before .before .before .before .before .before .before .before .before .before .before .dependence .ensures) (g .ensures h (s .regions .now) med (s .car .now)) (rw (c .before .before .before .before .before .before .before .before .before .wrote-region .ensures, c .before .before .before .before .before .before .before .before .before .before .get .ensures, c .before .before .before .before .before .before .before .before .before .before .before .before .place-of .ensures)) (rw (c .before .before .before .before .before .before .before .put .ensures, c .before .before .before .before .before .before .before .before .before .before .before .before .place-of .ensures, c .before .before .before .before .before .store .ensures)) (c .fly .ensures h (g .last .0) (g .last .1 .0) med (g .last .1 .1 .1 .1 .0))
 
 pub write-spec : {M : Type 1} → statement M
 write-spec =
