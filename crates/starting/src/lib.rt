@@ -1,17 +1,15 @@
 // The tables before setup and the starting memory.
 ghost use mathlib.Core.Path.{_≡_};
+ghost use mathlib.Core.Bool.{false};
+ghost use lib.ListN.{replicate};
+ghost use Rattle.rows.specs.Whole.{tablesOf};
 ghost use Rattle.rules.specs.Tables.{freshTables, startLines, Zero, Lent};
-use rules::Entry;
-use rules::Region;
+use rows::Head;
 use rules::Size;
-use rules::Slot;
-use rules::SlotState;
-use rules::Tables;
-use rules::Thread;
 
-// No owner, no lock and empty lists.
-pub fn fresh_tables(zero: bool, lent: u64) -> Tables
-    ensures { λ r. ⌜ r ≡ freshTables zero lent ⌝ }
+// The numbers beside the lists. Rows of zeros are empty lists, no owner and no lock.
+pub fn fresh_head(zero: bool, lent: u64) -> Head
+    ensures { λ r. ⌜ tablesOf r (replicate 8 (replicate 34 0)) (replicate 32 (replicate 16 0)) (replicate 256 0) (replicate 256 false) ≡ freshTables zero lent ⌝ }
 {
     let size = Size {
         threads: 0,
@@ -19,37 +17,10 @@ pub fn fresh_tables(zero: bool, lent: u64) -> Tables
         zero: zero,
         lent: lent,
     };
-    let entry = Entry {
-        key: 0,
-        line: 0,
-        rank: 0,
-        persistent: false,
-    };
-    let thread = Thread {
-        depth: 0,
-        last: 0,
-        log: [entry; 32],
-    };
-    let slot = Slot {
-        line: 0,
-        state: SlotState::Empty,
-    };
-    let region = Region {
-        key: 0,
-        ended: false,
-        done: false,
-        stamp: 0,
-        deps: [0; 4],
-        slots: [slot; 8],
-    };
-    Tables {
+    Head {
         size: size,
         cut: false,
         clock: 0,
-        threads: [thread; 8],
-        regions: [region; 32],
-        owner: [0; 256],
-        lock: [false; 256],
     }
 }
 

@@ -1,6 +1,8 @@
 // What an accepted event does, in place: one region, one thread or one line at a time is taken out of what is lent, changed by value, and put back.
 use rows::Head;
+use rules::Answer;
 use rules::Entry;
+use rules::Event;
 use rules::Region;
 ghost use Prim.Native.Nat.{ℕ, _*_, _+_, _-_, _<_, _≤_};
 ghost use mathlib.Core.Path.{_≡_};
@@ -15,9 +17,12 @@ ghost use Rattle.rules.specs.Acknowledge.{dataAck, dropped, logAck};
 ghost use Rattle.rules.specs.Begin.{begin, opened};
 ghost use Rattle.rules.specs.End.{endRegion, endedRegion, shallower, tick};
 ghost use Rattle.rules.specs.Flight.{flown};
+ghost use Rattle.rules.specs.Refusal.{isOfThread, refusal};
 ghost use Rattle.rules.specs.Slots.{written};
+ghost use Rattle.rules.specs.Step.{apply, did, stepEvent};
+ghost use Rattle.rules.specs.declared.Event.the-variants.{DataAck, End, LogAck, Read, Setup};
 ghost use Rattle.rows.specs.Row.{regionsOf, threadsOf};
-ghost use Rattle.rows.specs.Whole.{boardOf, tablesOf};
+ghost use Rattle.rows.specs.Whole.{boardOf, stepped, tablesOf};
 
 // ---- "The slots fly where they can"
 
@@ -335,4 +340,206 @@ fn data_ack(
     let r = rows::get(regions, i);
     let q = slots::landed(r, l);
     rows::put(regions, i, q);
+}
+
+// ---- an event
+
+// What an accepted event leaves beside the lists: the numbers, and the value of its answer.
+struct Effect {
+    head: Head,
+    value: u64,
+}
+
+// What an event leaves beside the lists: the numbers, and its answer.
+pub struct Outcome {
+    pub head: Head,
+    pub answer: Answer,
+}
+
+// At depth 1 the region ends, and regions may become done and commit; at any other only the depth falls.
+fn end(
+    h: Head,
+    threads: &mut [[u64; 34]; 8],
+    regions: &mut [[u32; 16]; 32],
+    lock: &[bool; 256],
+    cur: &[[u64; 8]; 256],
+    car: &mut [[u64; 8]; 256],
+    t: u8,
+) -> Effect
+    ensures { λ r. ⌜ ((owner : List ℕ) (med old : List (List ℕ)) → did (r .value) (boardOf (r .head) (now (threads .exit)) (now (regions .exit)) owner (now (lock .entry)) (now (cur .entry)) med old (now (car .exit))) ≡ apply (boardOf h (now (threads .entry)) (now (regions .entry)) owner (now (lock .entry)) (now (cur .entry)) med old (now (car .entry))) (End t)) ⌝ }
+{
+    if rows::depth_of(threads, t) != 1 {
+        shallower(threads, t);
+        return Effect { head: h, value: 0 };
+    }
+    let head = end_region(h, threads, regions, lock, cur, car, t);
+    let value = commits::settle(threads, regions);
+    Effect {
+        head: head,
+        value: value,
+    }
+}
+
+// The value of a read is the word.
+fn read_word(
+    threads: &[[u64; 34]; 8],
+    regions: &mut [[u32; 16]; 32],
+    owner: &[u32; 256],
+    cur: &[[u64; 8]; 256],
+    t: u8,
+    l: u8,
+    w: u8,
+) -> u64
+    requires { ⌜ w < 8 ⌝ }
+    ensures { λ r. ⌜ ((h : Head) (lock : List Bool) (med old car : List (List ℕ)) → did r (boardOf h (now (threads .entry)) (now (regions .exit)) (now (owner .entry)) lock (now (cur .entry)) med old car) ≡ apply (boardOf h (now (threads .entry)) (now (regions .entry)) (now (owner .entry)) lock (now (cur .entry)) med old car) (Read t l w)) ⌝ }
+{
+    let k = rows::current(threads, t);
+    read(regions, owner, k, l);
+    let x = cur[l as usize];
+    x[w as usize]
+}
+
+// A log acknowledgement, and what becomes done and commits after it.
+fn log_acked(
+    threads: &mut [[u64; 34]; 8],
+    regions: &mut [[u32; 16]; 32],
+    owner: &[u32; 256],
+    lock: &mut [bool; 256],
+    cur: &[[u64; 8]; 256],
+    car: &mut [[u64; 8]; 256],
+    l: u8,
+) -> u64
+    ensures { λ r. ⌜ ((h : Head) (med old : List (List ℕ)) → did r (boardOf h (now (threads .exit)) (now (regions .exit)) (now (owner .entry)) (now (lock .exit)) (now (cur .entry)) med old (now (car .exit))) ≡ apply (boardOf h (now (threads .entry)) (now (regions .entry)) (now (owner .entry)) (now (lock .entry)) (now (cur .entry)) med old (now (car .entry))) (LogAck l)) ⌝ }
+{
+    log_ack(threads, regions, owner, lock, cur, car, l);
+    commits::settle(threads, regions)
+}
+
+// A data acknowledgement, and what becomes done and commits after it.
+fn data_acked(
+    threads: &mut [[u64; 34]; 8],
+    regions: &mut [[u32; 16]; 32],
+    med: &mut [[u64; 8]; 256],
+    car: &[[u64; 8]; 256],
+    l: u8,
+) -> u64
+    ensures { λ r. ⌜ ((h : Head) (owner : List ℕ) (lock : List Bool) (cur old : List (List ℕ)) → did r (boardOf h (now (threads .exit)) (now (regions .exit)) owner lock cur (now (med .exit)) old (now (car .entry))) ≡ apply (boardOf h (now (threads .entry)) (now (regions .entry)) owner lock cur (now (med .entry)) old (now (car .entry))) (DataAck l)) ⌝ }
+{
+    data_ack(regions, med, car, l);
+    commits::settle(threads, regions)
+}
+
+// T and L stand.
+fn set_up(h: Head, n: u8, l: u16) -> Effect
+    ensures { λ r. ⌜ ((threads regions : List (List ℕ)) (owner : List ℕ) (lock : List Bool) (cur med old car : List (List ℕ)) → did (r .value) (boardOf (r .head) threads regions owner lock cur med old car) ≡ apply (boardOf h threads regions owner lock cur med old car) (Setup n l)) ⌝ }
+{
+    let mut size = h.size;
+    size.threads = n;
+    size.lines = l;
+    Effect {
+        head: Head {
+            size: size,
+            cut: h.cut,
+            clock: h.clock,
+        },
+        value: 0,
+    }
+}
+
+// The value tells whether every region of the thread has committed.
+fn fence(regions: &[[u32; 16]; 32], t: u8) -> u64
+    ensures { λ r. ⌜ r ≡ cond (any (isOfThread t) (regionsOf (now (regions .entry)))) 0 1 ⌝ }
+{
+    if rows::has_thread(regions, t) { 0 } else { 1 }
+}
+
+fn cut(h: Head) -> Head
+    ensures { λ r. ⌜ _≡_ {A = Head} r (record { size = h .size; cut = true; clock = h .clock }) ⌝ }
+{
+    let size = h.size;
+    Head {
+        size: size,
+        cut: true,
+        clock: h.clock,
+    }
+}
+
+// What an accepted event does.
+fn apply(
+    h: Head,
+    threads: &mut [[u64; 34]; 8],
+    regions: &mut [[u32; 16]; 32],
+    owner: &mut [u32; 256],
+    lock: &mut [bool; 256],
+    cur: &mut [[u64; 8]; 256],
+    med: &mut [[u64; 8]; 256],
+    old: &mut [[u64; 8]; 256],
+    car: &mut [[u64; 8]; 256],
+    e: Event,
+) -> Effect
+    requires { ⌜ refusal (tablesOf h (now threads) (now regions) (now owner) (now lock)) e ≡ 0 ⌝ }
+    ensures { λ r. ⌜ did (r .value) (boardOf (r .head) (now (threads .exit)) (now (regions .exit)) (now (owner .exit)) (now (lock .exit)) (now (cur .exit)) (now (med .exit)) (now (old .exit)) (now (car .exit))) ≡ apply (boardOf h (now (threads .entry)) (now (regions .entry)) (now (owner .entry)) (now (lock .entry)) (now (cur .entry)) (now (med .entry)) (now (old .entry)) (now (car .entry))) e ⌝ }
+{
+    match e {
+        Event::Setup(n, l) => set_up(h, n, l),
+        Event::Begin(t) => {
+            begin(threads, regions, t);
+            Effect { head: h, value: 0 }
+        }
+        Event::End(t) => end(h, threads, regions, lock, cur, car, t),
+        Event::Read(t, l, w) => {
+            let value = read_word(threads, regions, owner, cur, t, l, w);
+            Effect { head: h, value: value }
+        }
+        Event::Write(t, l, w, v) => {
+            write(threads, regions, owner, lock, cur, old, car, t, l, w, v);
+            Effect { head: h, value: 0 }
+        }
+        Event::LogAck(l) => {
+            let value = log_acked(threads, regions, owner, lock, cur, car, l);
+            Effect { head: h, value: value }
+        }
+        Event::DataAck(l) => {
+            let value = data_acked(threads, regions, med, car, l);
+            Effect { head: h, value: value }
+        }
+        Event::Fence(t) => Effect { head: h, value: fence(regions, t) },
+        Event::Cut => Effect { head: cut(h), value: rows::count_held(regions) as u64 },
+    }
+}
+
+// One event of any content. A refusal changes nothing, and its value is 0.
+pub fn step(
+    h: Head,
+    threads: &mut [[u64; 34]; 8],
+    regions: &mut [[u32; 16]; 32],
+    owner: &mut [u32; 256],
+    lock: &mut [bool; 256],
+    cur: &mut [[u64; 8]; 256],
+    med: &mut [[u64; 8]; 256],
+    old: &mut [[u64; 8]; 256],
+    car: &mut [[u64; 8]; 256],
+    e: Event,
+) -> Outcome
+    ensures { λ r. ⌜ stepped (r .answer) (boardOf (r .head) (now (threads .exit)) (now (regions .exit)) (now (owner .exit)) (now (lock .exit)) (now (cur .exit)) (now (med .exit)) (now (old .exit)) (now (car .exit))) ≡ stepEvent (boardOf h (now (threads .entry)) (now (regions .entry)) (now (owner .entry)) (now (lock .entry)) (now (cur .entry)) (now (med .entry)) (now (old .entry)) (now (car .entry))) e ⌝ }
+{
+    let n = refusals::refusal(h, threads, regions, owner, lock, e);
+    if n != 0 {
+        return Outcome {
+            head: h,
+            answer: Answer {
+                refusal: n,
+                value: 0,
+            },
+        };
+    }
+    let done = apply(h, threads, regions, owner, lock, cur, med, old, car, e);
+    let head = done.head;
+    Outcome {
+        head: head,
+        answer: Answer {
+            refusal: 0,
+            value: done.value,
+        },
+    }
 }

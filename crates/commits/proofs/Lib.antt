@@ -1,4 +1,0 @@
-pub mod Walk
-pub mod Next
-pub mod Turns
-pub mod Settled

@@ -1,0 +1,67 @@
+-- The first refusal of a list of tests, taken in two parts at a number, and what a list that refuses nothing tells of each number.
+use Prim.Native.Nat.{_<_, _≤_, ℕ}
+use mathlib.Core.Path.{_≡_, refl, sym}
+use mathlib.Core.Bool.{Bool, _&&_, cond, false, false≢true, not, true}
+use mathlib.Core.List.{List, [], _∷_}
+use lib.Dec.{eqb, leb}
+use native.Mathlib.Omega.{arith}
+use borrow.Author.Tests.{eq-eqb, leb-false, leb-true}
+use Rattle.rules.specs.Lists.{all}
+use Rattle.rules.specs.Refusal.{Test, firstBad, inRange}
+use Rattle.refusals.specs.Order.{before}
+use Rattle.undo.proofs.Laws.{and-true, never, test}
+
+-- the tests from number n on
+abbrev pub from : ℕ → List Test → List Test
+from n [] = []
+from n (x ∷ xs) = cond (eqb (x .code) n) (x ∷ xs) (from n xs)
+
+-- those before number n refuse nothing: the refusal is that of the others
+abbrev pub Passed : ℕ → List Test → Type 0
+Passed n ts = firstBad ts ≡ firstBad (from n ts)
+
+-- what the test of number n says
+abbrev pub bad : ℕ → List Test → Bool
+bad n [] = false
+bad n (x ∷ xs) = cond (eqb (x .code) n) (x .bad) (bad n xs)
+
+-- every test has a number
+abbrev pub numbered : List Test → Bool
+numbered ts = all (λ t. not (eqb (t .code) 0)) ts
+
+-- a test that refuses is not refused with 0
+refused : {C : Type 0} (x : Test) (xs : List Test) → numbered (x ∷ xs) ≡ true → x .code ≡ 0 → C
+refused x xs h e = never (and-true (not (eqb (x .code) 0)) (numbered xs) h .0) (rw (eq-eqb _ _ e))
+
+-- a refusal before number n is the refusal
+pub first-stop : (n : ℕ) (ts : List Test) → (firstBad (before n ts) ≡ 0 → ⊥) → firstBad (before n ts) ≡ firstBad ts
+first-stop n [] h = refl
+first-stop n (x ∷ xs) h =
+    test (eqb (x .code) n)
+    (λ e. absurd (h (rw e)))
+    (λ e. test (x .bad) (λ b. rw (e, b)) (λ b. rw (e, b) (first-stop n xs (simp (e, b) at h))))
+
+pub first-on : (n : ℕ) (ts : List Test) → numbered ts ≡ true → firstBad (before n ts) ≡ 0 → Passed n ts
+first-on n [] h z = refl
+first-on n (x ∷ xs) h z =
+    test (eqb (x .code) n)
+    (λ e. rw e)
+    (λ e. test (x .bad)
+    (λ b. refused x xs h (rw (e, b) at z))
+    (λ b. rw (e, b) (first-on n xs (and-true (not (eqb (x .code) 0)) (numbered xs) h .1) (rw (e, b) at z))))
+
+-- each test of a list that refuses nothing passes
+pub passed : (n : ℕ) (ts : List Test) → numbered ts ≡ true → firstBad ts ≡ 0 → bad n ts ≡ false
+passed n [] h z = refl
+passed n (x ∷ xs) h z =
+    test (x .bad)
+    (λ b. refused x xs h (rw b at z))
+    (λ b. test (eqb (x .code) n) (λ e. rw (e, b)) (λ e. rw e (passed n xs (and-true (not (eqb (x .code) 0)) (numbered xs) h .1) (rw b at z))))
+
+-- ---- a thread of a board that is set up is one of eight
+
+at-most-8 : (n l : ℕ) → inRange n l ≡ true → n ≤ 8
+at-most-8 n l e = leb-true _ _ (and-true (leb 1 n) (leb n 8) (and-true (leb 1 n && leb n 8) (leb 1 l && leb l 256) e .0) .1)
+
+pub thread-below : (n l t : ℕ) → not (inRange n l) ≡ false → leb n t ≡ false → t < 8
+thread-below n l t a b = test (inRange n l) (λ e. omega (arith, at-most-8 n l e, leb-false n t b)) (λ e. absurd (false≢true (sym (rw e at a))))
