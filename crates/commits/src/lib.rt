@@ -1,11 +1,239 @@
+// What is done, and what commits, in place over the lent rows: the last part of a step. A row is judged by its numbers, and no region is taken out of it.
 use rows::Head;
 ghost use Prim.Native.Nat.{ℕ};
 ghost use mathlib.Core.Path.{_≡_};
-ghost use mathlib.Core.Bool.{Bool};
-ghost use mathlib.Core.List.{List};
-ghost use Rattle.rules.specs.Commit.{settled};
+ghost use mathlib.Core.Bool.{Bool, _&&_};
+ghost use mathlib.Core.List.{List, map};
+ghost use lib.ListN.{getD, length};
+ghost use lib.Dec.{eqb};
+ghost use Rattle.undo.specs.Table.{any};
+ghost use Rattle.rules.specs.Lists.{all};
+ghost use Rattle.rules.specs.Tables.{noRegion};
+ghost use Rattle.rules.specs.Slots.{hasSlot};
+ghost use Rattle.rules.specs.Commit.{afterCommit, commit, commits, doneRegion, earlier, earliest, settled, withoutDep};
+ghost use Rattle.rows.specs.Row.{regionOf, regionsOf};
 ghost use Rattle.rows.specs.Whole.{tablesOf};
+ghost use Rattle.commits.specs.Ripe.{ripe};
+
+fn count_words(s: &[u32]) -> usize
+    ensures { λ n. ⌜ n ≡ length (now (s .entry)) ⌝ }
+{
+    s.len()
+}
+
+// A row has 16 numbers: no code, and the fact for the callers.
+fn words16(row: &[u32; 16])
+    ensures { λ _. ⌜ length (now (row .entry)) ≡ 16 ⌝ }
+{
+    count_words(row);
+}
+
+// ---- one row
+
+// Whether there is a slot: a number below 256 is an empty one.
+fn has_slot(row: &[u32; 16]) -> bool
+    ensures { λ r. ⌜ r ≡ hasSlot (regionOf (now (row .entry))) ⌝ }
+{
+    words16(row);
+    let mut i: usize = 8;
+    while i < 16 {
+        if row[i] > 255 {
+            return true;
+        }
+        i += 1;
+    }
+    false
+}
+
+fn and4(a: bool, b: bool, c: bool, d: bool) -> bool
+    ensures { λ r. ⌜ r ≡ (a && (b && (c && d))) ⌝ }
+{
+    a && (b && (c && d))
+}
+
+// Whether there is no dependence.
+fn no_dependence(row: &[u32; 16]) -> bool
+    ensures { λ r. ⌜ r ≡ all (eqb 0) (regionOf (now (row .entry)) .deps) ⌝ }
+{
+    and4(row[4] == 0, row[5] == 0, row[6] == 0, row[7] == 0)
+}
+
+// Whether the region can commit: it is done and has no dependence.
+fn can_commit(row: &[u32; 16]) -> bool
+    ensures { λ r. ⌜ r ≡ commits (regionOf (now (row .entry))) ⌝ }
+{
+    row[0] != 0 && (row[2] == 1 && no_dependence(row))
+}
+
+// Whether the region can commit, or has yet to become done and can: it has ended and has no slot.
+fn is_ripe(row: &[u32; 16]) -> bool
+    ensures { λ r. ⌜ r ≡ ripe (regionOf (now (row .entry))) ⌝ }
+{
+    if row[2] == 1 {
+        return can_commit(row);
+    }
+    row[1] == 1 && !has_slot(row)
+}
+
+// The region is done if it has ended and has no slot.
+fn become_done(row: &mut [u32; 16])
+    ensures { λ _. ⌜ regionOf (now (row .exit)) ≡ doneRegion (regionOf (now (row .entry))) ⌝ }
+{
+    words16(row);
+    if row[1] == 1 {
+        if !has_slot(row) {
+            row[2] = 1;
+        }
+    }
+}
+
+// The dependence d, or none if it is on the committed region.
+fn without_dep(key: u32, d: u32) -> u32
+    ensures { λ r. ⌜ r ≡ withoutDep key d ⌝ }
+{
+    if d == key { 0 } else { d }
+}
+
+// Of the committed region nothing is left, of another all but its dependence on that one.
+fn after_commit(row: &mut [u32; 16], key: u32)
+    ensures { λ _. ⌜ regionOf (now (row .exit)) ≡ afterCommit key (regionOf (now (row .entry))) ⌝ }
+{
+    words16(row);
+    if row[0] == key {
+        *row = [0; 16];
+        return;
+    }
+    row[4] = without_dep(key, row[4]);
+    row[5] = without_dep(key, row[5]);
+    row[6] = without_dep(key, row[6]);
+    row[7] = without_dep(key, row[7]);
+}
+
+// ---- all rows
+
+// Whether there is anything to settle. Most rows are left after two numbers.
+fn has_ripe(regions: &[[u32; 16]; 32]) -> bool
+    ensures { λ r. ⌜ r ≡ any ripe (regionsOf (now (regions .entry))) ⌝ }
+{
+    rows::rows32(regions);
+    let mut i: usize = 0;
+    while i < 32 {
+        if is_ripe(&regions[i]) {
+            return true;
+        }
+        i += 1;
+    }
+    false
+}
+
+// Every region is done that has ended and has no slot.
+fn done_all(regions: &mut [[u32; 16]; 32])
+    ensures { λ _. ⌜ regionsOf (now (regions .exit)) ≡ map doneRegion (regionsOf (now (regions .entry))) ⌝ }
+{
+    rows::rows32(regions);
+    let mut i: usize = 0;
+    while i < 32 {
+        become_done(&mut regions[i]);
+        i += 1;
+    }
+}
+
+// Region `key` vanishes from the list and from the dependences of the others.
+fn without_region(regions: &mut [[u32; 16]; 32], key: u32)
+    ensures { λ _. ⌜ regionsOf (now (regions .exit)) ≡ map (afterCommit key) (regionsOf (now (regions .entry))) ⌝ }
+{
+    rows::rows32(regions);
+    let mut i: usize = 0;
+    while i < 32 {
+        after_commit(&mut regions[i], key);
+        i += 1;
+    }
+}
+
+// ---- the next commit
+
+// Whether the region at place i can commit.
+fn commits_at(regions: &[[u32; 16]; 32], i: usize) -> bool
+    ensures { λ r. ⌜ r ≡ commits (getD (regionsOf (now (regions .entry))) i noRegion) ⌝ }
+{
+    rows::rows32(regions);
+    if i < 32 {
+        can_commit(&regions[i])
+    } else {
+        false
+    }
+}
+
+// The stamp at place i.
+fn stamp_at(regions: &[[u32; 16]; 32], i: usize) -> u32
+    ensures { λ r. ⌜ r ≡ getD (regionsOf (now (regions .entry))) i noRegion .stamp ⌝ }
+{
+    rows::rows32(regions);
+    if i < 32 { regions[i][3] } else { 0 }
+}
+
+// The better of two places: the one whose region commits, of two the one whose region ended earlier.
+fn earlier_of(regions: &[[u32; 16]; 32], best: usize, i: usize) -> usize
+    ensures { λ r. ⌜ getD (regionsOf (now (regions .entry))) r noRegion ≡ earlier (getD (regionsOf (now (regions .entry))) best noRegion) (getD (regionsOf (now (regions .entry))) i noRegion) ⌝ }
+{
+    if !commits_at(regions, i) {
+        return best;
+    }
+    if !commits_at(regions, best) {
+        return i;
+    }
+    if stamp_at(regions, i) < stamp_at(regions, best) {
+        i
+    } else {
+        best
+    }
+}
+
+// The place of the region that commits next; where none can commit, a place behind the list.
+fn next_commit(regions: &[[u32; 16]; 32]) -> usize
+    ensures { λ r. ⌜ getD (regionsOf (now (regions .entry))) r noRegion ≡ earliest (regionsOf (now (regions .entry))) ⌝ }
+{
+    rows::rows32(regions);
+    let mut best: usize = 32;
+    let mut i: usize = 0;
+    while i < 32 {
+        best = earlier_of(regions, best, i);
+        i += 1;
+    }
+    best
+}
+
+// Region `key` commits. A key of no thread has no log entries.
+fn commit_region(threads: &mut [[u64; 34]; 8], regions: &mut [[u32; 16]; 32], key: u32)
+    ensures { λ _. ⌜ ((h : Head) (owner : List ℕ) (lock : List Bool) → tablesOf h (now (threads .exit)) (now (regions .exit)) owner lock ≡ commit key (tablesOf h (now (threads .entry)) (now (regions .entry)) owner lock)) ⌝ }
+{
+    rows::threads8(threads);
+    without_region(regions, key);
+    let i = (key / 65536) as usize;
+    if i < 8 {
+        rows::free_entries(&mut threads[i], key);
+    }
+}
+
+// Regions become done, then commit, the earliest ended first, until none can commit; the answer is how many did. Each commit frees a place of the list,
+// so there are at most 32. Mostly there is nothing to settle, and one look at the rows tells.
 pub fn settle(threads: &mut [[u64; 34]; 8], regions: &mut [[u32; 16]; 32]) -> u64
-    requires { ⌜ ⊥ ⌝ }
     ensures { λ r. ⌜ ((h : Head) (owner : List ℕ) (lock : List Bool) → (tablesOf h (now (threads .exit)) (now (regions .exit)) owner lock ≡ settled (tablesOf h (now (threads .entry)) (now (regions .entry)) owner lock) .tables) × (r ≡ settled (tablesOf h (now (threads .entry)) (now (regions .entry)) owner lock) .commits)) ⌝ }
-{ 0 }
+{
+    if !has_ripe(regions) {
+        return 0;
+    }
+    rows::rows32(regions);
+    done_all(regions);
+    let mut n: u64 = 0;
+    while n < 32 {
+        let i = next_commit(regions);
+        if !commits_at(regions, i) {
+            break;
+        }
+        let key = rows::key_at(regions, i);
+        commit_region(threads, regions, key);
+        n += 1;
+    }
+    n
+}

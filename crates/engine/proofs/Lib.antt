@@ -1,5 +1,3 @@
-pub mod Steps
-pub mod Body
+pub mod Call
 pub mod Records
 pub mod Walked
-pub mod Call

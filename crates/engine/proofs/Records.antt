@@ -7,12 +7,14 @@ use lib.ListN.{drop, getD, length, length-append, length-drop}
 use native.Mathlib.Omega.{arith}
 use borrow.Author.Tests.{ltb-false}
 use lib.Seq.{drop-drop, drop-length}
+use Rattle.events.specs.Number.{refusalOf}
+use Rattle.rows.specs.Whole.{stepped}
+use Rattle.rules.specs.Step.{Stepped, step, stepEvent}
 use Rattle.engine.specs.Parts.{sizeOf}
 use Rattle.lines.proofs.Words.{length-bytes}
 use Rattle.rules.specs.Lists.{flat}
 use Rattle.rules.specs.Record.{bodyLength, isWhole, readRecord, recordsFrom}
 use Rattle.rules.specs.Run.{answerBytes, answersBytes, run}
-use Rattle.rules.specs.Step.{step}
 use Rattle.rules.specs.Tables.{Board}
 use Rattle.rules.specs.declared.Answer.{Answer}
 use Rattle.rules.specs.declared.Event.{Event}
@@ -106,3 +108,14 @@ module _ (file : List ℕ) (at : ℕ) (h : at < length file) where
 
   pub count-more : length (recordsFrom 0 front) ≡ suc (length behind)
   count-more = ap length file-more
+
+-- ---- an event by its record
+
+pub record-refused : (b : Board) (bs : List ℕ) (r : Reading) (m n : ℕ) → r ≡ readRecord bs → r ≡ Refused m → n ≡ refusalOf r
+    → stepped (record { refusal = n; value = 0 }) b ≡ step b bs
+unfolding step
+record-refused b bs r m n e f g = rw (← e, f, g, f)
+
+pub record-whole : (b : Board) (bs : List ℕ) (r : Reading) (e : Event) (x : Stepped) → r ≡ readRecord bs → r ≡ Whole e → x ≡ stepEvent b e → x ≡ step b bs
+unfolding step
+record-whole b bs r e x f g h = rw (← f, g, h)

@@ -6,7 +6,7 @@ use lib.ListN.{drop, length, length-drop}
 use lib.Seq.{drop-drop, sets}
 use native.Mathlib.Omega.{arith}
 use Rattle.engine.proofs.Records.{answer-long, records-more, records-none, size-last, size-whole}
-use Rattle.engine.specs.Parts.{lastOf, sizeOf, walked}
+use Rattle.engine.specs.Parts.{sizeOf, walked}
 use Rattle.lines.proofs.Paste.{sets-join}
 use Rattle.rules.specs.Lists.{flat}
 use Rattle.rules.specs.Record.{readRecord, recordsFrom, recordsOf}
@@ -51,11 +51,6 @@ module _ (b : Board) (file : List ℕ) (at : ℕ) (h : at ≤ length file) where
   walked-bytes left q d p =
       ap (λ (x : List Answer). sets d p (answersBytes x)) (walked-more left q .1)
       ∙ (sets-join d p (answerBytes (step b front .answer)) (answersBytes (behind (left - 1) (step b front) .answers)) ∙ rw (answer-long (step b front .answer)))
-
-  pub walked-last : (left : ℕ) → 0 < left → (a : Answer)
-      → lastOf a (walked left b front .answers) ≡ lastOf (step b front .answer) (behind (left - 1) (step b front) .answers)
-  unfolding lastOf
-  walked-last left q a = ap (lastOf a) (walked-more left q .1)
 
 pub walked-none : (b : Board) (bs : List ℕ) (left : ℕ) → left ≤ 0 → _≡_ {A = Ran} (walked left b bs) (record { board = b; answers = [] })
 unfolding walked

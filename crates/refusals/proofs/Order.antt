@@ -1,15 +1,15 @@
 -- The first refusal of a list of tests, taken in two parts at a number, and what a list that refuses nothing tells of each number.
 use Prim.Native.Nat.{_<_, _≤_, ℕ}
-use mathlib.Core.Path.{_≡_, refl, sym}
 use mathlib.Core.Bool.{Bool, _&&_, cond, false, false≢true, not, true}
 use mathlib.Core.List.{List, [], _∷_}
+use mathlib.Core.Path.{_∙_, _≡_, refl, sym}
 use lib.Dec.{eqb, leb}
 use native.Mathlib.Omega.{arith}
 use borrow.Author.Tests.{eq-eqb, leb-false, leb-true}
+use Rattle.undo.proofs.Laws.{and-true, never, test}
 use Rattle.rules.specs.Lists.{all}
 use Rattle.rules.specs.Refusal.{Test, firstBad, inRange}
 use Rattle.refusals.specs.Order.{before}
-use Rattle.undo.proofs.Laws.{and-true, never, test}
 
 -- the tests from number n on
 abbrev pub from : ℕ → List Test → List Test
@@ -33,22 +33,29 @@ numbered ts = all (λ t. not (eqb (t .code) 0)) ts
 refused : {C : Type 0} (x : Test) (xs : List Test) → numbered (x ∷ xs) ≡ true → x .code ≡ 0 → C
 refused x xs h e = never (and-true (not (eqb (x .code) 0)) (numbered xs) h .0) (rw (eq-eqb _ _ e))
 
--- a refusal before number n is the refusal
-pub first-stop : (n : ℕ) (ts : List Test) → (firstBad (before n ts) ≡ 0 → ⊥) → firstBad (before n ts) ≡ firstBad ts
-first-stop n [] h = refl
-first-stop n (x ∷ xs) h =
+stopped : (n : ℕ) (ts : List Test) → (firstBad (before n ts) ≡ 0 → ⊥) → firstBad (before n ts) ≡ firstBad ts
+stopped n [] h = refl
+stopped n (x ∷ xs) h =
     test (eqb (x .code) n)
     (λ e. absurd (h (rw e)))
-    (λ e. test (x .bad) (λ b. rw (e, b)) (λ b. rw (e, b) (first-stop n xs (simp (e, b) at h))))
+    (λ e. test (x .bad) (λ b. rw (e, b)) (λ b. rw (e, b) (stopped n xs (simp (e, b) at h))))
 
-pub first-on : (n : ℕ) (ts : List Test) → numbered ts ≡ true → firstBad (before n ts) ≡ 0 → Passed n ts
-first-on n [] h z = refl
-first-on n (x ∷ xs) h z =
+went : (n : ℕ) (ts : List Test) → numbered ts ≡ true → firstBad (before n ts) ≡ 0 → Passed n ts
+went n [] h z = refl
+went n (x ∷ xs) h z =
     test (eqb (x .code) n)
     (λ e. rw e)
     (λ e. test (x .bad)
     (λ b. refused x xs h (rw (e, b) at z))
-    (λ b. rw (e, b) (first-on n xs (and-true (not (eqb (x .code) 0)) (numbered xs) h .1) (rw (e, b) at z))))
+    (λ b. rw (e, b) (went n xs (and-true (not (eqb (x .code) 0)) (numbered xs) h .1) (rw (e, b) at z))))
+
+-- r is what the tests before number n say: a refusal there is the refusal, and without one it goes on from n
+module _ (n r : ℕ) (ts : List Test) (e : r ≡ firstBad (before n ts)) where
+  pub stops : (r ≡ 0 → ⊥) → r ≡ firstBad ts
+  stops h = e ∙ stopped n ts (λ z. h (e ∙ z))
+
+  pub goes : numbered ts ≡ true → r ≡ 0 → Passed n ts
+  goes h z = went n ts h (sym e ∙ z)
 
 -- each test of a list that refuses nothing passes
 pub passed : (n : ℕ) (ts : List Test) → numbered ts ≡ true → firstBad ts ≡ 0 → bad n ts ≡ false

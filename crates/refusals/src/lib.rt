@@ -1,9 +1,429 @@
+// The reading half of an event: its tests on the lent rows, in the order of document 01. The number of the first test that refuses is the refusal; 0 is accepted.
+// Nothing here changes a row, and every function has its answer for every content of the rows. A function takes the rows that its tests look at;
+// its contract says that the others make no difference.
 use rows::Head;
 use rules::Event;
+use rules::Found;
+use rules::Region;
+use rules::Size;
+ghost use Prim.Native.Nat.{_/_, ℕ};
 ghost use mathlib.Core.Path.{_≡_};
-ghost use Rattle.rules.specs.Refusal.{refusal};
+ghost use mathlib.Core.Bool.{Bool, _&&_, not};
+ghost use mathlib.Core.List.{List};
+ghost use lib.Dec.{eqb, leb};
+ghost use lib.ListN.{getD, length};
+ghost use Rattle.undo.specs.Table.{any};
+ghost use Rattle.rules.specs.Slots.{isFull, slotFor};
+ghost use Rattle.rules.specs.Access.{isOf};
+ghost use Rattle.rules.specs.Tables.{noThread, regionAt};
+ghost use Rattle.rules.specs.Refusal.{firstBad, fits, inRange, noRoomForDep, refusal, testsOf};
+ghost use Rattle.rules.specs.declared.Tables.{Tables};
+ghost use Rattle.rules.specs.declared.Event.the-variants.{Begin, Cut, DataAck, End, Fence, LogAck, Read, Setup, Write};
+ghost use Rattle.rows.specs.Row.{regionsOf, threadOf, threadsOf};
 ghost use Rattle.rows.specs.Whole.{tablesOf};
-pub fn refusal(h: Head, threads: &[[u64; 34]; 8], regions: &[[u32; 16]; 32], owner: &[u32; 256], lock: &[bool; 256], e: Event) -> u8
-    requires { ⌜ ⊥ ⌝ }
+ghost use Rattle.refusals.specs.Order.{before};
+ghost use Rattle.refusals.specs.Writer.{writerOf};
+
+// Another uncommitted region that wrote a line last: its key, 0 if there is none, and whether it has ended or there is none.
+struct Writer {
+    key: u32,
+    ended: bool,
+}
+
+// ---- the conditions
+
+fn in_range(n: u8, l: u16) -> bool
+    ensures { λ r. ⌜ r ≡ inRange n l ⌝ }
+{
+    if n < 1 {
+        return false;
+    }
+    if 8 < n {
+        return false;
+    }
+    if l < 1 {
+        return false;
+    }
+    l <= 256
+}
+
+// The lent memory has 64 bytes for each line.
+fn memory_fits(z: Size, l: u16) -> bool
+    ensures { λ r. ⌜ r ≡ fits l z ⌝ }
+{
+    if z.zero {
+        return true;
+    }
+    z.lent == 64 * (l as u64)
+}
+
+fn is_set_up(h: Head) -> bool
+    ensures { λ r. ⌜ r ≡ inRange (h .size .threads) (h .size .lines) ⌝ }
+{
+    let z = h.size;
+    in_range(z.threads, z.lines)
+}
+
+fn no_such_thread(h: Head, t: u8) -> bool
+    ensures { λ r. ⌜ r ≡ leb (h .size .threads) t ⌝ }
+{
+    let z = h.size;
+    z.threads <= t
+}
+
+fn no_such_line(h: Head, l: u8) -> bool
+    ensures { λ r. ⌜ r ≡ leb (h .size .lines) l ⌝ }
+{
+    let z = h.size;
+    z.lines <= l as u16
+}
+
+// Of a line that region o wrote last, for an access by region k: no search where o is k or no region.
+fn last_writer(regions: &[[u32; 16]; 32], o: u32, k: u32) -> Writer
+    ensures { λ r. ⌜ r ≡ writerOf o k (regionsOf (now (regions .entry))) ⌝ }
+{
+    rows::rows32(regions);
+    let none = Writer {
+        key: 0,
+        ended: true,
+    };
+    if o == 0 {
+        return none;
+    }
+    if o == k {
+        return none;
+    }
+    let i = rows::place_of(regions, o);
+    if 32 <= i {
+        return none;
+    }
+    Writer {
+        key: o,
+        ended: rows::ended_at(regions, i),
+    }
+}
+
+// The writer is an open region of another thread than t.
+fn is_foreign(x: Writer, t: u8) -> bool
+    ensures { λ r. ⌜ r ≡ (not (x .ended) && not (eqb (x .key / 65536) t)) ⌝ }
+{
+    if x.ended {
+        return false;
+    }
+    x.key / 65536 != t as u32
+}
+
+// A write that needs a log entry, on a line still locked.
+fn waits(logs: bool, locked: bool) -> bool
+    ensures { λ r. ⌜ r ≡ (logs && locked) ⌝ }
+{
+    logs && locked
+}
+
+fn region_of(regions: &[[u32; 16]; 32], k: u32) -> Region
+    ensures { λ r. ⌜ r ≡ regionAt k (regionsOf (now (regions .entry))) ⌝ }
+{
+    rows::get(regions, rows::place_of(regions, k))
+}
+
+// The dependence d is new, and the region has no place for it.
+fn lacks_dep(r: Region, d: u32) -> bool
+    ensures { λ b. ⌜ b ≡ noRoomForDep d (r .deps) ⌝ }
+{
+    let deps = r.deps;
+    if lookup::is_had(deps, d) {
+        return false;
+    }
+    !lookup::has_free_dep(deps)
+}
+
+fn is_full(f: Found) -> bool
+    ensures { λ r. ⌜ r ≡ isFull f ⌝ }
+{
+    match f {
+        Found::At(_) => false,
+        Found::Full => true,
+    }
+}
+
+// No slot of the region names line l, and none is empty.
+fn lacks_slot(r: Region, l: u8) -> bool
+    ensures { λ b. ⌜ b ≡ isFull (slotFor l (r .slots)) ⌝ }
+{
+    let slots = r.slots;
+    is_full(lookup::slot_for(slots, l))
+}
+
+fn count_words(s: &[u64]) -> usize
+    ensures { λ n. ⌜ n ≡ length (now (s .entry)) ⌝ }
+{
+    s.len()
+}
+
+// A thread's log has a free place. The count is there for the row's length, as a fact.
+fn has_free(row: &[u64; 34]) -> bool
+    ensures { λ r. ⌜ r ≡ any (isOf 0) (threadOf (now (row .entry)) .log) ⌝ }
+{
+    count_words(row);
+    rows::free_entry(row) < 32
+}
+
+// A write of thread t that needs a log entry, and no place for it.
+fn lacks_entry(threads: &[[u64; 34]; 8], t: u8, logs: bool) -> bool
+    ensures { λ r. ⌜ r ≡ (logs && not (any (isOf 0) (getD (threadsOf (now (threads .entry))) t noThread .log))) ⌝ }
+{
+    rows::threads8(threads);
+    if !logs {
+        return false;
+    }
+    let i = t as usize;
+    if i < 8 { !has_free(&threads[i]) } else { false }
+}
+
+// ---- tests that several events share: those of one event before a number
+
+// Setup, thread and cut: begin, end and fence.
+fn thread_refusal(h: Head, t: u8) -> u8
+    ensures { λ r. ⌜ ((threads regions : List (List ℕ)) (owner : List ℕ) (lock : List Bool) → r ≡ firstBad (before 12 (testsOf (tablesOf h threads regions owner lock) (End t)))) ⌝ }
+{
+    if !is_set_up(h) {
+        return 6;
+    }
+    if no_such_thread(h, t) {
+        return 3;
+    }
+    if h.cut { 11 } else { 0 }
+}
+
+// Setup, line and cut: the acknowledgements.
+fn ack_refusal(h: Head, l: u8) -> u8
+    ensures { λ r. ⌜ ((threads regions : List (List ℕ)) (owner : List ℕ) (lock : List Bool) → r ≡ firstBad (before 22 (testsOf (tablesOf h threads regions owner lock) (LogAck l)))) ⌝ }
+{
+    if !is_set_up(h) {
+        return 6;
+    }
+    if no_such_line(h, l) {
+        return 4;
+    }
+    if h.cut { 11 } else { 0 }
+}
+
+// The numbers of the record, cut and an open region: read and write.
+fn access_refusal(h: Head, threads: &[[u64; 34]; 8], t: u8, l: u8, w: u8) -> u8
+    ensures { λ r. ⌜ ((regions : List (List ℕ)) (owner : List ℕ) (lock : List Bool) → r ≡ firstBad (before 17 (testsOf (tablesOf h (now (threads .entry)) regions owner lock) (Read t l w)))) ⌝ }
+{
+    if !is_set_up(h) {
+        return 6;
+    }
+    if no_such_thread(h, t) {
+        return 3;
+    }
+    if no_such_line(h, l) {
+        return 4;
+    }
+    if 7 < w {
+        return 5;
+    }
+    if h.cut {
+        return 11;
+    }
+    if rows::depth_of(threads, t) == 0 {
+        12
+    } else {
+        0
+    }
+}
+
+// ---- the tests of each event
+
+// z: the numbers before the setup.
+pub fn setup_refusal(z: Size, n: u8, l: u16) -> u8
+    ensures { λ r. ⌜ ((ts : Tables) → ts .size ≡ z → r ≡ refusal ts (Setup n l)) ⌝ }
+{
+    if !in_range(n, l) {
+        return 6;
+    }
+    if !memory_fits(z, l) {
+        return 6;
+    }
+    if in_range(z.threads, z.lines) { 6 } else { 0 }
+}
+
+fn begin_refusal(h: Head, threads: &[[u64; 34]; 8], regions: &[[u32; 16]; 32], t: u8) -> u8
+    ensures { λ r. ⌜ ((owner : List ℕ) (lock : List Bool) → r ≡ refusal (tablesOf h (now (threads .entry)) (now (regions .entry)) owner lock) (Begin t)) ⌝ }
+{
+    let c = thread_refusal(h, t);
+    if c != 0 {
+        return c;
+    }
+    let depth = rows::depth_of(threads, t);
+    if 15 <= depth {
+        return 13;
+    }
+    if depth != 0 {
+        return 0;
+    }
+    if 65535 <= rows::last_of(threads, t) {
+        return 14;
+    }
+    if 4 <= rows::count_modified(regions, t) {
+        return 15;
+    }
+    if 32 <= rows::count_held(regions) {
+        16
+    } else {
+        0
+    }
+}
+
+fn end_refusal(h: Head, threads: &[[u64; 34]; 8], t: u8) -> u8
+    ensures { λ r. ⌜ ((regions : List (List ℕ)) (owner : List ℕ) (lock : List Bool) → r ≡ refusal (tablesOf h (now (threads .entry)) regions owner lock) (End t)) ⌝ }
+{
+    let c = thread_refusal(h, t);
+    if c != 0 {
+        return c;
+    }
+    if rows::depth_of(threads, t) == 0 {
+        12
+    } else {
+        0
+    }
+}
+
+fn read_refusal(
+    h: Head,
+    threads: &[[u64; 34]; 8],
+    regions: &[[u32; 16]; 32],
+    owner: &[u32; 256],
+    t: u8,
+    l: u8,
+    w: u8,
+) -> u8
+    ensures { λ r. ⌜ ((lock : List Bool) → r ≡ refusal (tablesOf h (now (threads .entry)) (now (regions .entry)) (now (owner .entry)) lock) (Read t l w)) ⌝ }
+{
+    let c = access_refusal(h, threads, t, l, w);
+    if c != 0 {
+        return c;
+    }
+    let k = rows::current(threads, t);
+    let x = last_writer(regions, owner[l as usize], k);
+    if is_foreign(x, t) {
+        return 17;
+    }
+    if x.key == 0 {
+        return 0;
+    }
+    let r = region_of(regions, k);
+    if lacks_dep(r, x.key) { 19 } else { 0 }
+}
+
+fn write_refusal(
+    h: Head,
+    threads: &[[u64; 34]; 8],
+    regions: &[[u32; 16]; 32],
+    owner: &[u32; 256],
+    lock: &[bool; 256],
+    t: u8,
+    l: u8,
+    w: u8,
+) -> u8
+    ensures { λ r. ⌜ ((v : ℕ) → r ≡ refusal (tablesOf h (now (threads .entry)) (now (regions .entry)) (now (owner .entry)) (now (lock .entry))) (Write t l w v)) ⌝ }
+{
+    let c = access_refusal(h, threads, t, l, w);
+    if c != 0 {
+        return c;
+    }
+    let k = rows::current(threads, t);
+    let o = owner[l as usize];
+    let x = last_writer(regions, o, k);
+    if is_foreign(x, t) {
+        return 17;
+    }
+    let logs = o != k;
+    if waits(logs, lock[l as usize]) {
+        return 18;
+    }
+    let r = region_of(regions, k);
+    if lacks_dep(r, x.key) {
+        return 19;
+    }
+    if lacks_slot(r, l) {
+        return 20;
+    }
+    if lacks_entry(threads, t, logs) { 21 } else { 0 }
+}
+
+fn log_ack_refusal(h: Head, lock: &[bool; 256], l: u8) -> u8
+    ensures { λ r. ⌜ ((threads regions : List (List ℕ)) (owner : List ℕ) → r ≡ refusal (tablesOf h threads regions owner (now (lock .entry))) (LogAck l)) ⌝ }
+{
+    let c = ack_refusal(h, l);
+    if c != 0 {
+        return c;
+    }
+    if lock[l as usize] { 0 } else { 22 }
+}
+
+fn data_ack_refusal(h: Head, regions: &[[u32; 16]; 32], l: u8) -> u8
+    ensures { λ r. ⌜ ((threads : List (List ℕ)) (owner : List ℕ) (lock : List Bool) → r ≡ refusal (tablesOf h threads (now (regions .entry)) owner lock) (DataAck l)) ⌝ }
+{
+    let c = ack_refusal(h, l);
+    if c != 0 {
+        return c;
+    }
+    rows::rows32(regions);
+    if rows::flight_place(regions, l) < 32 {
+        0
+    } else {
+        22
+    }
+}
+
+fn fence_refusal(h: Head, threads: &[[u64; 34]; 8], t: u8) -> u8
+    ensures { λ r. ⌜ ((regions : List (List ℕ)) (owner : List ℕ) (lock : List Bool) → r ≡ refusal (tablesOf h (now (threads .entry)) regions owner lock) (Fence t)) ⌝ }
+{
+    let c = thread_refusal(h, t);
+    if c != 0 {
+        return c;
+    }
+    if rows::depth_of(threads, t) == 0 {
+        0
+    } else {
+        23
+    }
+}
+
+fn cut_refusal(h: Head) -> u8
+    ensures { λ r. ⌜ ((threads regions : List (List ℕ)) (owner : List ℕ) (lock : List Bool) → r ≡ refusal (tablesOf h threads regions owner lock) Cut) ⌝ }
+{
+    if !is_set_up(h) {
+        return 6;
+    }
+    if h.cut { 11 } else { 0 }
+}
+
+// The refusal of an event; 0 for accepted.
+pub fn refusal(
+    h: Head,
+    threads: &[[u64; 34]; 8],
+    regions: &[[u32; 16]; 32],
+    owner: &[u32; 256],
+    lock: &[bool; 256],
+    e: Event,
+) -> u8
     ensures { λ r. ⌜ r ≡ refusal (tablesOf h (now (threads .entry)) (now (regions .entry)) (now (owner .entry)) (now (lock .entry))) e ⌝ }
-{ 0 }
+{
+    match e {
+        Event::Setup(n, l) => {
+            let z = h.size;
+            setup_refusal(z, n, l)
+        }
+        Event::Begin(t) => begin_refusal(h, threads, regions, t),
+        Event::End(t) => end_refusal(h, threads, t),
+        Event::Read(t, l, w) => read_refusal(h, threads, regions, owner, t, l, w),
+        Event::Write(t, l, w, _) => write_refusal(h, threads, regions, owner, lock, t, l, w),
+        Event::LogAck(l) => log_ack_refusal(h, lock, l),
+        Event::DataAck(l) => data_ack_refusal(h, regions, l),
+        Event::Fence(t) => fence_refusal(h, threads, t),
+        Event::Cut => cut_refusal(h),
+    }
+}

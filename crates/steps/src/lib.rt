@@ -72,8 +72,8 @@ fn log_line(
         persistent: false,
     };
     rows::put_entry(&mut threads[ti], i, e);
-    let x = cur[li];
-    old[32 * ti + i] = x;
+    let before = cur[li];
+    old[32 * ti + i] = before;
     owner[li] = k;
     lock[li] = true;
 }

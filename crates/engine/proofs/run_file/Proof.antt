@@ -1,7 +1,7 @@
-use Rattle.engine.proofs.Walked.{walked-all}
 use native.Mathlib.Omega.{arith}
-use Rattle.rules.specs.Tables.{fresh}
-use Rattle.engine.proofs.Call.{call-accepted, call-refused}
+use mathlib.Core.Bool.{false}
+use lib.ListN.{replicate}
+use Rattle.engine.proofs.Call.{answered, call-refused, started}
 use borrow.Author.Needs.{needs}
 use Rattle.engine.proofs.run_file.Statement.{statement}
 use Rattle.engine.proofs.run_file.Tie as tie
@@ -9,7 +9,8 @@ use Rattle.engine.proofs.run_file.Reads as reads
 use Rattle.engine.proofs.run_file.Lts as lts
 use Rattle.engine.proofs.record_count.Reads as record-count-reads
 use Rattle.engine.proofs.run_records.Reads as run-records-reads
-use Rattle.starting.proofs.fresh_tables.Reads as fresh-tables-reads
+
+use Rattle.starting.proofs.fresh_head.Reads as fresh-head-reads
 use Rattle.starting.proofs.load.Reads as load-reads
 
 -- src/lib.rt:185:9
@@ -21,8 +22,8 @@ returns : tie.Need-returns
 returns c = let a = c .before .before .before .before .before .args in call-refused (a .file .now) (a .memory .now) (a .answers .now) (rw (← c .before .record-count .ensures) (c .if1 .taken))
 
 -- src/lib.rt:192:9
-fresh-tables-requires : tie.Need-fresh-tables-requires
-fresh-tables-requires c κs = search needs
+fresh-head-requires : tie.Need-fresh-head-requires
+fresh-head-requires c κs = search needs
 
 -- src/lib.rt:197:5
 load-requires : tie.Need-load-requires
@@ -42,16 +43,13 @@ same-length c = search needs
 
 -- src/lib.rt:182:1
 returns-2 : tie.Need-returns-2
-unfolding fresh
 returns-2 c =
-    let W = c .before .before in
-    let l = W .before .before .before .before .before .before in
-    let n = W .before .before .before .before .before .before .before .before .before .before .before .before in
-    let a = n .before .before .before .before .args in
-    let i = W .before .before .before .before .before .before .before .before .before .before .before .if1 .left in
-    let E = W .run-records .ensures .1 .1 (omega (arith, i)) in
-    rw (E, l .before .before .before .before .fresh-tables .ensures, l .before .before .load .ensures, l .load2 .ensures, n .record-count .ensures, walked-all)
-    (call-accepted (a .file .now) (a .memory .now) (a .answers .now) (rw (← n .record-count .ensures) i))
+    let R = c .before .before in
+    let N = c .before .before .before .before .before .before .before .before .before .before .before .before .before .before .before .before .before .before in
+    let a = c .before .before .before .before .before .before .before .before .before .before .before .before .before .before .before .before .before .before .before .before .before .before .args in
+    let i = c .before .before .before .before .before .before .before .before .before .before .before .before .before .before .before .before .before .if1 .left in
+    let b = started (a .memory .now) (c .before .before .before .before .before .before .before .before .before .before .before .before .before .before .before .before .fresh-head .result) (replicate 8 (replicate 34 0)) (replicate 32 (replicate 16 0)) (replicate 256 0) (replicate 256 false) _ _ (c .before .before .before .before .before .before .before .before .before .before .before .before .before .before .before .before .fresh-head .ensures) (c .before .before .before .before .before .before .before .before .before .before .before .before .before .before .load .ensures) (c .before .before .before .before .before .before .before .before .before .before .before .before .load2 .ensures) in
+    answered (a .file .now) (a .memory .now) (N .record-count .result) _ (N .record-count .ensures) b (a .answers .now) _ (R .run-records .ensures .1 (omega (arith, i))) (rw (← N .record-count .ensures) i)
 
 pub run-file-spec : {M : Type 1} → statement M
 run-file-spec =
@@ -59,7 +57,7 @@ run-file-spec =
     (tie.spec
     record-count-requires
     returns
-    fresh-tables-requires
+    fresh-head-requires
     load-requires
     load-requires-2
     run-records-requires

@@ -1,7 +1,6 @@
-use mathlib.Core.Path.{_∙_, ap}
-use Rattle.rules.specs.Image.{imageCall, save}
-use Rattle.rules.specs.Tables.{Board, fresh}
-use Rattle.engine.proofs.Walked.{walked-all}
+use mathlib.Core.Bool.{false}
+use lib.ListN.{replicate}
+use Rattle.engine.proofs.Call.{imaged, started}
 use borrow.Author.Needs.{needs}
 use Rattle.engine.proofs.run_image.Statement.{statement}
 use Rattle.engine.proofs.run_image.Tie as tie
@@ -10,12 +9,12 @@ use Rattle.engine.proofs.run_image.Lts as lts
 use Rattle.engine.proofs.record_count.Reads as record-count-reads
 use Rattle.engine.proofs.run_records.Reads as run-records-reads
 use Rattle.saving.proofs.save.Reads as save-reads
-use Rattle.starting.proofs.fresh_tables.Reads as fresh-tables-reads
+use Rattle.starting.proofs.fresh_head.Reads as fresh-head-reads
 use Rattle.starting.proofs.load.Reads as load-reads
 
 -- src/lib.rt:325:9
-fresh-tables-requires : tie.Need-fresh-tables-requires
-fresh-tables-requires c κs = search needs
+fresh-head-requires : tie.Need-fresh-head-requires
+fresh-head-requires c κs = search needs
 
 -- src/lib.rt:330:5
 load-requires : tie.Need-load-requires
@@ -47,22 +46,19 @@ same-length c = search needs
 
 -- src/lib.rt:322:1
 returns : tie.Need-returns
-unfolding imageCall fresh
 returns c =
     let S = c .before .before in
-    let R = S .before .before .before .before .before .before in
-    let N = R .before .before .before .before .before .before in
-    let l = N .before in
-    let a = l .before .before .before .before .before .before .before .before .args in
-    let E = R .run-records .ensures .0 in
-    let e = rw (l .before .before .before .before .fresh-tables .ensures, l .before .before .load .ensures, l .load2 .ensures, N .record-count .ensures, walked-all) at E in
-    S .save .ensures _ _ ∙ ap (λ (b : Board). save b (a .image .now)) e
+    let R = c .before .before .before .before .before .before .before .before .before in
+    let N = c .before .before .before .before .before .before .before .before .before .before .before .before .before .before .before .before .before .before .before in
+    let a = c .before .before .before .before .before .before .before .before .before .before .before .before .before .before .before .before .before .before .before .before .before .before .before .before .before .before .before .before .args in
+    let b = started (a .memory .now) (c .before .before .before .before .before .before .before .before .before .before .before .before .before .before .before .before .before .before .before .before .before .before .before .before .fresh-head .result) (replicate 8 (replicate 34 0)) (replicate 32 (replicate 16 0)) (replicate 256 0) (replicate 256 false) _ _ (c .before .before .before .before .before .before .before .before .before .before .before .before .before .before .before .before .before .before .before .before .before .before .before .before .fresh-head .ensures) (c .before .before .before .before .before .before .before .before .before .before .before .before .before .before .before .before .before .before .before .before .before .before .load .ensures) (c .before .before .before .before .before .before .before .before .before .before .before .before .before .before .before .before .before .before .before .before .load2 .ensures) in
+    imaged (a .file .now) (a .memory .now) (N .record-count .result) _ (N .record-count .ensures) b _ (a .image .now) _ (R .run-records .ensures .0) (S .save .ensures _ _ _ _)
 
 pub run-image-spec : {M : Type 1} → statement M
 run-image-spec =
     tie.close
     (tie.spec
-    fresh-tables-requires
+    fresh-head-requires
     load-requires
     load-requires-2
     record-count-requires

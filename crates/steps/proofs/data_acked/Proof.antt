@@ -17,7 +17,7 @@ data-ack-requires c κs = search needs
 
 -- src/lib.rt:429:5
 settle-requires : tie.Need-settle-requires
-settle-requires c κs = ?
+settle-requires c κs = search needs
 
 -- src/lib.rt:419:1
 returns : tie.Need-returns

@@ -30,7 +30,7 @@ end-region-requires c κs = search needs
 
 -- src/lib.rt:376:9
 settle-requires : tie.Need-settle-requires
-settle-requires c κs = ?
+settle-requires c κs = search needs
 
 -- src/lib.rt:360:1
 returns-2 : tie.Need-returns-2

@@ -17,7 +17,7 @@ log-ack-requires c κs = search needs
 
 -- src/lib.rt:415:5
 settle-requires : tie.Need-settle-requires
-settle-requires c κs = ?
+settle-requires c κs = search needs
 
 -- src/lib.rt:403:1
 returns : tie.Need-returns

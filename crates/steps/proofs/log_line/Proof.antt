@@ -53,28 +53,28 @@ put-entry-requires : tie.Need-put-entry-requires
 put-entry-requires c κs = search needs
 
 -- src/lib.rt:68:13
-mul-x : tie.Need-mul-x
-mul-x c = search needs
+mul-before : tie.Need-mul-before
+mul-before c = search needs
 
 -- src/lib.rt:68:13
-element-copy-out-x : tie.Need-element-copy-out-x
-element-copy-out-x c = search needs
+element-copy-out-before : tie.Need-element-copy-out-before
+element-copy-out-before c = search needs
 
 -- src/lib.rt:69:9
-mul-x-2 : tie.Need-mul-x-2
-mul-x-2 c = search needs
+mul-before-2 : tie.Need-mul-before-2
+mul-before-2 c = search needs
 
 -- src/lib.rt:69:9
-add-x : tie.Need-add-x
-add-x c = let s = c .before .before .before .before .before .before .before .before .before in let h = free-below (s .args .threads .now) (s .args .t) (omega (arith, s .pre .0, c .before .before .before .before .before .before .before .threads8 .ensures)) (s .pre .1) in omega (arith, h, s .pre .0, c .before .before .before .before .before .free-entry .ensures)
+add-before : tie.Need-add-before
+add-before c = let s = c .before .before .before .before .before .before .before .before .before in let h = free-below (s .args .threads .now) (s .args .t) (omega (arith, s .pre .0, c .before .before .before .before .before .before .before .threads8 .ensures)) (s .pre .1) in omega (arith, h, s .pre .0, c .before .before .before .before .before .free-entry .ensures)
 
 -- src/lib.rt:69:5
-mul-x-3 : tie.Need-mul-x-3
-mul-x-3 c = let s = c .before .before .before .before .before .before .before .before .before in let h = free-below (s .args .threads .now) (s .args .t) (omega (arith, s .pre .0, c .before .before .before .before .before .before .before .threads8 .ensures)) (s .pre .1) in omega (arith, h, s .pre .0, c .before .before .before .before .before .free-entry .ensures)
+mul-before-3 : tie.Need-mul-before-3
+mul-before-3 c = let s = c .before .before .before .before .before .before .before .before .before in let h = free-below (s .args .threads .now) (s .args .t) (omega (arith, s .pre .0, c .before .before .before .before .before .before .before .threads8 .ensures)) (s .pre .1) in omega (arith, h, s .pre .0, c .before .before .before .before .before .free-entry .ensures)
 
 -- src/lib.rt:69:5
-element-set-from-x : tie.Need-element-set-from-x
-element-set-from-x c = let s = c .before .before .before .before .before .before .before .before .before in let h = free-below (s .args .threads .now) (s .args .t) (omega (arith, s .pre .0, c .before .before .before .before .before .before .before .threads8 .ensures)) (s .pre .1) in omega (arith, h, s .pre .0, c .before .before .before .before .before .free-entry .ensures)
+element-set-from-before : tie.Need-element-set-from-before
+element-set-from-before c = let s = c .before .before .before .before .before .before .before .before .before in let h = free-below (s .args .threads .now) (s .args .t) (omega (arith, s .pre .0, c .before .before .before .before .before .before .before .threads8 .ensures)) (s .pre .1) in omega (arith, h, s .pre .0, c .before .before .before .before .before .free-entry .ensures)
 
 -- src/lib.rt:70:5
 mul-owner : tie.Need-mul-owner
@@ -107,12 +107,12 @@ log-line-spec =
     mul-put-entry
     index-1-put-entry
     put-entry-requires
-    mul-x
-    element-copy-out-x
-    mul-x-2
-    add-x
-    mul-x-3
-    element-set-from-x
+    mul-before
+    element-copy-out-before
+    mul-before-2
+    add-before
+    mul-before-3
+    element-set-from-before
     mul-owner
     element-write-owner
     element-write-lock

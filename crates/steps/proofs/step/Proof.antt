@@ -11,7 +11,7 @@ use Rattle.steps.proofs.apply.Reads as apply-reads
 
 -- src/lib.rt:526:9
 refusal-requires : tie.Need-refusal-requires
-refusal-requires c κs = ?
+refusal-requires c κs = search needs
 
 -- src/lib.rt:528:9
 returns : tie.Need-returns

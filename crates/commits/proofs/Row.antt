@@ -1,0 +1,117 @@
+-- What the numbers of a row tell of its region, and what a store to them changes.
+use Prim.Native.Nat.{_+_, _/_, _<_, _≤_, ℕ}
+use mathlib.Core.Bool.{Bool, _&&_, _||_, cond, false, not, true}
+use mathlib.Core.List.{List, [], _∷_, map}
+use mathlib.Core.Path.{_∙_, _≡_, ap, refl, sym}
+use lib.Dec.{eqb}
+use lib.ListN.{drop, getD, length, length-drop, length-map, replicate, set}
+use lib.Seq.{getD-drop}
+use native.Mathlib.Omega.{arith}
+use borrow.Author.Tests.{eq-eqb, ne-eqb}
+use Rattle.undo.proofs.Laws.{or-right, test}
+use Rattle.undo.specs.Table.{any}
+use Rattle.rules.proofs.Places.{any-map, eqb-swap}
+use Rattle.rules.specs.Commit.{afterCommit, commits, doneRegion, withoutDep}
+use Rattle.rules.specs.Lists.{all}
+use Rattle.rules.specs.Slots.{hasSlot, isEmpty}
+use Rattle.rules.specs.Tables.{noRegion}
+use Rattle.rules.specs.declared.Region.{Region}
+use Rattle.rules.specs.declared.Slot.{Slot}
+use Rattle.slots.proofs.Walk.{map-end, map-more, mapped}
+use Rattle.rows.proofs.Laws.{eight, got, map-set, or-false}
+use Rattle.rows.specs.Row.{regionOf, regionsOf, slotOf, slotsOf, word}
+use Rattle.commits.specs.Ripe.{ripe}
+
+-- ---- slots
+
+abbrev isUsed : Slot → Bool
+isUsed s = not (isEmpty (s .state))
+
+-- a number that is no empty slot
+abbrev pub used : ℕ → Bool
+used n = isUsed (slotOf n)
+
+pub used-yes : (n : ℕ) → 255 < n → used n ≡ true
+used-yes n h = rw (ne-eqb (n / 256) 0 (λ e. omega arith)) (test (eqb (n / 256) 1) (λ e. rw e) (λ e. rw e))
+
+pub used-no : (n : ℕ) → n ≤ 255 → used n ≡ false
+used-no n h = rw (eq-eqb (n / 256) 0 (omega arith))
+
+slots-from : (w : List ℕ) → length w ≡ 16 → slotsOf w ≡ map slotOf (drop 8 w)
+slots-from w h = ap (map slotOf) (simp getD-drop at (eight 0 (drop 8 w) (rw (length-drop) (omega arith))))
+
+pub slots-behind : (w : List ℕ) → length w ≡ 16 → any used (drop 8 w) ≡ hasSlot (regionOf w)
+unfolding regionOf
+slots-behind w h = sym (ap (any isUsed) (slots-from w h) ∙ any-map isUsed used slotOf (drop 8 w) (λ n. refl))
+
+-- ---- dependences
+
+pub no-deps : (w : List ℕ) → (eqb (word w 4) 0 && (eqb (word w 5) 0 && (eqb (word w 6) 0 && eqb (word w 7) 0))) ≡ all (eqb 0) (regionOf w .deps)
+unfolding regionOf
+no-deps w =
+    rw (eqb-swap (word w 4) 0, eqb-swap (word w 5) 0, eqb-swap (word w 6) 0, eqb-swap (word w 7) 0)
+    (test (eqb 0 (word w 7)) (λ e. rw e) (λ e. rw e))
+
+-- ---- done
+
+-- of a done region only its commit is left
+pub ripe-done : (r : Region) → r .done ≡ true → ripe r ≡ commits r
+ripe-done r e = ap (λ d. cond d (commits r) (r .ended && not (hasSlot r))) e
+
+abbrev withDone : Bool → Region → Region
+withDone d r = record { key = r .key; ended = r .ended; done = d; stamp = r .stamp; deps = r .deps; slots = r .slots }
+
+done-stored : (w : List ℕ) → 2 < length w → regionOf (set w 2 1) ≡ withDone true (regionOf w)
+unfolding regionOf
+done-stored (a ∷ b ∷ d ∷ w) h = refl
+done-stored [] h = absurd (omega arith)
+done-stored (a ∷ []) h = absurd (omega arith)
+done-stored (a ∷ b ∷ []) h = absurd (omega arith)
+
+-- an ended region without slots
+pub done-yes : (w : List ℕ) → 2 < length w → regionOf w .ended ≡ true → hasSlot (regionOf w) ≡ false → regionOf (set w 2 1) ≡ doneRegion (regionOf w)
+unfolding doneRegion
+done-yes w h e f = done-stored w h ∙ ap (λ d. withDone d (regionOf w)) (sym (or-right (regionOf w .done) (rw (e, f))))
+
+-- any other region stays as it is
+pub done-same : (r : Region) → (r .done || (r .ended && not (hasSlot r))) ≡ r .done → doneRegion r ≡ r
+unfolding doneRegion
+done-same r e = ap (λ d. withDone d r) e
+
+pub done-open : (r : Region) → r .ended ≡ false → r ≡ doneRegion r
+done-open r e = sym (done-same r (rw e (or-false (r .done))))
+
+pub done-slot : (r : Region) → hasSlot r ≡ true → r ≡ doneRegion r
+done-slot r e = sym (done-same r (test (r .ended) (λ f. rw (f, e) (or-false (r .done))) (λ f. rw f (or-false (r .done)))))
+
+-- ---- a commit: nothing is left of the committed region, of another all but its dependence on that one
+
+pub after-gone : (k : ℕ) (w : List ℕ) → word w 0 ≡ k → regionOf (replicate 16 0) ≡ afterCommit k (regionOf w)
+unfolding afterCommit regionOf
+after-gone k w e = rw (eq-eqb (word w 0) k e)
+
+pub after-other : (k : ℕ) (w : List ℕ) (a b c d : ℕ) → 7 < length w → (word w 0 ≡ k → ⊥)
+    → a ≡ withoutDep k (word w 4)
+    → b ≡ withoutDep k (word (set w 4 a) 5)
+    → c ≡ withoutDep k (word (set (set w 4 a) 5 b) 6)
+    → d ≡ withoutDep k (word (set (set (set w 4 a) 5 b) 6 c) 7)
+    → regionOf (set (set (set (set w 4 a) 5 b) 6 c) 7 d) ≡ afterCommit k (regionOf w)
+unfolding afterCommit regionOf
+after-other k (x0 ∷ x1 ∷ x2 ∷ x3 ∷ x4 ∷ x5 ∷ x6 ∷ x7 ∷ w) a b c d h n ea eb ec ed = rw (ne-eqb x0 k n, ea, eb, ec, ed)
+after-other k [] a b c d h n ea eb ec ed = absurd (omega arith)
+after-other k (x0 ∷ []) a b c d h n ea eb ec ed = absurd (omega arith)
+after-other k (x0 ∷ x1 ∷ []) a b c d h n ea eb ec ed = absurd (omega arith)
+after-other k (x0 ∷ x1 ∷ x2 ∷ []) a b c d h n ea eb ec ed = absurd (omega arith)
+after-other k (x0 ∷ x1 ∷ x2 ∷ x3 ∷ []) a b c d h n ea eb ec ed = absurd (omega arith)
+after-other k (x0 ∷ x1 ∷ x2 ∷ x3 ∷ x4 ∷ []) a b c d h n ea eb ec ed = absurd (omega arith)
+after-other k (x0 ∷ x1 ∷ x2 ∷ x3 ∷ x4 ∷ x5 ∷ []) a b c d h n ea eb ec ed = absurd (omega arith)
+after-other k (x0 ∷ x1 ∷ x2 ∷ x3 ∷ x4 ∷ x5 ∷ x6 ∷ []) a b c d h n ea eb ec ed = absurd (omega arith)
+
+-- ---- a loop over the rows that makes of each what f makes of its region
+
+module _ (f : Region → Region) (ws : List (List ℕ)) (i : ℕ) where
+  pub rows-more : (w : List ℕ) → i < length ws → regionOf w ≡ f (regionOf (getD ws i [])) → mapped f (i + 1) (regionsOf (set ws i w)) ≡ mapped f i (regionsOf ws)
+  rows-more w h e = rw (map-set regionOf ws i w, e, ← got ws i) (sym (map-more f i (regionsOf ws) noRegion (rw (length-map ws regionOf) h)))
+
+  pub rows-end : length ws ≤ i → mapped f i (regionsOf ws) ≡ regionsOf ws
+  rows-end h = map-end f i (regionsOf ws) (rw (length-map ws regionOf) h)

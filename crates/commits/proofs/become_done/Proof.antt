@@ -1,0 +1,46 @@
+use mathlib.Core.Path.{_∙_, sym}
+use native.Mathlib.Omega.{arith}
+use borrow.Author.Needs.{needs}
+use borrow.Author.Tests.{eq-eqb, ne-eqb, not-false, not-true}
+use Rattle.rows.specs.Row.{regionOf}
+use Rattle.commits.proofs.Row.{done-open, done-slot, done-yes}
+use Rattle.commits.proofs.become_done.Statement.{statement}
+use Rattle.commits.proofs.become_done.Tie as tie
+
+words16-requires : tie.Need-words16-requires
+words16-requires c κs = search needs
+
+element-copy-out-if1 : tie.Need-element-copy-out-if1
+element-copy-out-if1 c = search needs
+
+has-slot-requires : tie.Need-has-slot-requires
+has-slot-requires c κs = search needs
+
+element-write-row : tie.Need-element-write-row
+element-write-row c = search needs
+
+returns : tie.Need-returns
+unfolding regionOf
+returns c =
+    let w = c .before .before .before .before .before in
+    done-yes (w .before .before .args .row .now) (omega (arith, w .words16 .ensures)) (eq-eqb _ _ (c .before .before .before .if1 .taken))
+    (sym (c .before .has-slot .ensures) ∙ not-true _ (c .if2 .taken))
+
+returns-2 : tie.Need-returns-2
+returns-2 c = done-slot _ (sym (c .before .has-slot .ensures) ∙ not-false _ (c .if2 .left))
+
+returns-3 : tie.Need-returns-3
+unfolding regionOf
+returns-3 c = done-open _ (ne-eqb _ _ (c .if1 .left))
+
+pub become-done-spec : {M : Type 1} → statement M
+become-done-spec =
+    tie.close
+    (tie.spec
+    words16-requires
+    element-copy-out-if1
+    has-slot-requires
+    element-write-row
+    returns
+    returns-2
+    returns-3)

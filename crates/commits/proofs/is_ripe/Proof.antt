@@ -1,0 +1,44 @@
+use mathlib.Core.Bool.{not}
+use mathlib.Core.Path.{_∙_, ap, sym}
+use borrow.Author.Needs.{needs}
+use borrow.Author.Tests.{eq-eqb, ne-eqb}
+use Rattle.rows.specs.Row.{regionOf}
+use Rattle.commits.proofs.Row.{ripe-done}
+use Rattle.commits.proofs.is_ripe.Statement.{statement}
+use Rattle.commits.proofs.is_ripe.Tie as tie
+
+element-copy-out-if1 : tie.Need-element-copy-out-if1
+element-copy-out-if1 c = search needs
+
+can-commit-requires : tie.Need-can-commit-requires
+can-commit-requires c κs = search needs
+
+returns : tie.Need-returns
+unfolding regionOf
+returns c = c .can-commit .ensures ∙ sym (ripe-done (regionOf (c .before .before .before .args .row .now)) (eq-eqb _ _ (c .before .if1 .taken)))
+
+element-copy-out-if2 : tie.Need-element-copy-out-if2
+element-copy-out-if2 c = search needs
+
+has-slot-requires : tie.Need-has-slot-requires
+has-slot-requires c κs = search needs
+
+returns-2 : tie.Need-returns-2
+unfolding regionOf
+returns-2 c = simp (ne-eqb _ _ (c .before .before .before .if1 .left), eq-eqb _ _ (c .before .if2 .taken)) (ap not (c .has-slot .ensures))
+
+returns-3 : tie.Need-returns-3
+unfolding regionOf
+returns-3 c = simp (ne-eqb _ _ (c .before .before .if1 .left), ne-eqb _ _ (c .if2 .left))
+
+pub is-ripe-spec : {M : Type 1} → statement M
+is-ripe-spec =
+    tie.close
+    (tie.spec
+    element-copy-out-if1
+    can-commit-requires
+    returns
+    element-copy-out-if2
+    has-slot-requires
+    returns-2
+    returns-3)

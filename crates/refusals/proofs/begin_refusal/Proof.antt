@@ -1,0 +1,92 @@
+use Prim.Native.Nat.{ℕ}
+use mathlib.Core.Bool.{Bool}
+use mathlib.Core.List.{List}
+use mathlib.Core.Path.{_∙_, refl, sym}
+use borrow.Author.Needs.{needs}
+use borrow.Author.Tests.{eq-eqb, le-leb, lt-leb, ne-eqb}
+use Rattle.rules.specs.Refusal.{Test, refusal, testsOf}
+use Rattle.rules.specs.declared.Event.the-variants.{Begin}
+use Rattle.rows.specs.Whole.{tablesOf}
+use Rattle.refusals.proofs.Order.{Passed, goes, stops}
+use Rattle.refusals.proofs.begin_refusal.Statement.{statement}
+use Rattle.refusals.proofs.begin_refusal.Tie as tie
+
+module _ (owner : List ℕ) (lock : List Bool) where
+  abbrev tests : tie.Start → List Test
+  tests s = testsOf (tablesOf (s .args .h) (s .args .threads .now) (s .args .regions .now) owner lock) (Begin (s .args .t))
+
+  passed-13 : (c : tie.Else1) → Passed 13 (tests (c .before .before))
+  unfolding testsOf
+  passed-13 c = goes 13 _ (tests (c .before .before)) (c .before .thread-refusal .ensures (c .before .before .args .threads .now) (c .before .before .args .regions .now) owner lock) refl (c .if1 .left)
+
+  passed-14 : (c : tie.Else2) → Passed 14 (tests (c .before .before .before .before))
+  unfolding testsOf
+  passed-14 c = passed-13 (c .before .before) ∙ rw (← c .before .depth-of .ensures, lt-leb 15 _ (c .if2 .left))
+
+  passed-15 : (c : tie.Else4) → Passed 15 (tests (c .before .before .before .before .before .before .before))
+  unfolding testsOf
+  passed-15 c = passed-14 (c .before .before .before) ∙ rw (← c .before .last-of .ensures, lt-leb 65535 _ (c .if4 .left), ← c .before .before .before .before .depth-of .ensures, eq-eqb _ _ (c .before .before .if3 .left))
+
+  passed-16 : (c : tie.Else5) → Passed 16 (tests (c .before .before .before .before .before .before .before .before .before))
+  unfolding testsOf
+  passed-16 c = passed-15 (c .before .before) ∙ rw (← c .before .count-modified .ensures, lt-leb 4 _ (c .if5 .left), ← c .before .before .before .before .before .before .depth-of .ensures, eq-eqb _ _ (c .before .before .before .before .if3 .left))
+
+thread-refusal-requires : tie.Need-thread-refusal-requires
+thread-refusal-requires c κs = search needs
+
+returns : tie.Need-returns
+unfolding refusal testsOf
+returns c = λ owner lock. stops 13 _ (tests owner lock (c .before .before)) (c .before .thread-refusal .ensures (c .before .before .args .threads .now) (c .before .before .args .regions .now) owner lock) (c .if1 .taken)
+
+depth-of-requires : tie.Need-depth-of-requires
+depth-of-requires c κs = search needs
+
+returns-2 : tie.Need-returns-2
+unfolding refusal testsOf
+returns-2 c = λ owner lock. sym (passed-13 owner lock (c .before .before) ∙ rw (← c .before .depth-of .ensures, le-leb 15 _ (c .if2 .taken)))
+
+returns-3 : tie.Need-returns-3
+unfolding refusal testsOf
+returns-3 c = λ owner lock. sym (passed-14 owner lock (c .before) ∙ rw (← c .before .before .depth-of .ensures, ne-eqb _ _ (c .if3 .taken)))
+
+last-of-requires : tie.Need-last-of-requires
+last-of-requires c κs = search needs
+
+returns-4 : tie.Need-returns-4
+unfolding refusal testsOf
+returns-4 c = λ owner lock. sym (passed-14 owner lock (c .before .before .before) ∙ rw (← c .before .last-of .ensures, le-leb 65535 _ (c .if4 .taken), ← c .before .before .before .before .depth-of .ensures, eq-eqb _ _ (c .before .before .if3 .left)))
+
+count-modified-requires : tie.Need-count-modified-requires
+count-modified-requires c κs = search needs
+
+returns-5 : tie.Need-returns-5
+unfolding refusal testsOf
+returns-5 c = λ owner lock. sym (passed-15 owner lock (c .before .before) ∙ rw (← c .before .count-modified .ensures, le-leb 4 _ (c .if5 .taken), ← c .before .before .before .before .before .before .depth-of .ensures, eq-eqb _ _ (c .before .before .before .before .if3 .left)))
+
+count-held-requires : tie.Need-count-held-requires
+count-held-requires c κs = search needs
+
+returns-6 : tie.Need-returns-6
+unfolding refusal testsOf
+returns-6 c = λ owner lock. sym (passed-16 owner lock (c .before .before) ∙ rw (← c .before .count-held .ensures, le-leb 32 _ (c .if6 .taken), ← c .before .before .before .before .before .before .before .before .depth-of .ensures, eq-eqb _ _ (c .before .before .before .before .before .before .if3 .left)))
+
+returns-7 : tie.Need-returns-7
+unfolding refusal testsOf
+returns-7 c = λ owner lock. sym (passed-16 owner lock (c .before .before) ∙ rw (← c .before .count-held .ensures, lt-leb 32 _ (c .if6 .left), ← c .before .before .before .before .before .before .before .before .depth-of .ensures, eq-eqb _ _ (c .before .before .before .before .before .before .if3 .left)))
+
+pub begin-refusal-spec : {M : Type 1} → statement M
+begin-refusal-spec =
+    tie.close
+    (tie.spec
+    thread-refusal-requires
+    returns
+    depth-of-requires
+    returns-2
+    returns-3
+    last-of-requires
+    returns-4
+    count-modified-requires
+    returns-5
+    count-held-requires
+    returns-6
+    returns-7)

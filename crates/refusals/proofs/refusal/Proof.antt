@@ -1,0 +1,117 @@
+use mathlib.Core.Path.{refl}
+use borrow.Author.Needs.{needs}
+use Rattle.refusals.proofs.refusal.Statement.{statement}
+use Rattle.refusals.proofs.refusal.Tie as tie
+
+enum-known-e : tie.Need-enum-known-e
+enum-known-e c = search needs
+
+setup-refusal-requires : tie.Need-setup-refusal-requires
+setup-refusal-requires c κs = search needs
+
+enum-known-e-2 : tie.Need-enum-known-e-2
+enum-known-e-2 c = search needs
+
+begin-refusal-requires : tie.Need-begin-refusal-requires
+begin-refusal-requires c κs = search needs
+
+enum-known-e-3 : tie.Need-enum-known-e-3
+enum-known-e-3 c = search needs
+
+end-refusal-requires : tie.Need-end-refusal-requires
+end-refusal-requires c κs = search needs
+
+enum-known-e-4 : tie.Need-enum-known-e-4
+enum-known-e-4 c = search needs
+
+read-refusal-requires : tie.Need-read-refusal-requires
+read-refusal-requires c κs = search needs
+
+enum-known-e-5 : tie.Need-enum-known-e-5
+enum-known-e-5 c = search needs
+
+write-refusal-requires : tie.Need-write-refusal-requires
+write-refusal-requires c κs = search needs
+
+enum-known-e-6 : tie.Need-enum-known-e-6
+enum-known-e-6 c = search needs
+
+log-ack-refusal-requires : tie.Need-log-ack-refusal-requires
+log-ack-refusal-requires c κs = search needs
+
+enum-known-e-7 : tie.Need-enum-known-e-7
+enum-known-e-7 c = search needs
+
+data-ack-refusal-requires : tie.Need-data-ack-refusal-requires
+data-ack-refusal-requires c κs = search needs
+
+enum-known-e-8 : tie.Need-enum-known-e-8
+enum-known-e-8 c = search needs
+
+fence-refusal-requires : tie.Need-fence-refusal-requires
+fence-refusal-requires c κs = search needs
+
+enum-told : tie.Need-enum-told
+enum-told c = search needs
+
+cut-refusal-requires : tie.Need-cut-refusal-requires
+cut-refusal-requires c κs = search needs
+
+returns : tie.Need-returns
+returns c = rw (c .before .before .before .e .given .1) (c .setup-refusal .ensures _ refl)
+
+returns-2 : tie.Need-returns-2
+returns-2 c = rw (c .before .before .e2 .given .1) (c .begin-refusal .ensures _ _)
+
+returns-3 : tie.Need-returns-3
+returns-3 c = let s = c .before .before .before .before .args in rw (c .before .before .e3 .given .1) (c .end-refusal .ensures (s .regions .now) (s .owner .now) (s .lock .now))
+
+returns-4 : tie.Need-returns-4
+returns-4 c = rw (c .before .before .e4 .given .1) (c .read-refusal .ensures _)
+
+returns-5 : tie.Need-returns-5
+returns-5 c = rw (c .before .before .e5 .given .1) (c .write-refusal .ensures _)
+
+returns-6 : tie.Need-returns-6
+returns-6 c = let s = c .before .before .before .before .args in rw (c .before .before .e6 .given .1) (c .log-ack-refusal .ensures (s .threads .now) (s .regions .now) (s .owner .now))
+
+returns-7 : tie.Need-returns-7
+returns-7 c = let s = c .before .before .before .before .args in rw (c .before .before .e7 .given .1) (c .data-ack-refusal .ensures (s .threads .now) (s .owner .now) (s .lock .now))
+
+returns-8 : tie.Need-returns-8
+returns-8 c = let s = c .before .before .before .before .args in rw (c .before .before .e8 .given .1) (c .fence-refusal .ensures (s .regions .now) (s .owner .now) (s .lock .now))
+
+returns-9 : tie.Need-returns-9
+returns-9 c = let s = c .before .before .before .args in rw (c .before .enum-told .given .1) (c .cut-refusal .ensures (s .threads .now) (s .regions .now) (s .owner .now) (s .lock .now))
+
+pub refusal-spec : {M : Type 1} → statement M
+refusal-spec =
+    tie.close
+    (tie.spec
+    enum-known-e
+    setup-refusal-requires
+    enum-known-e-2
+    begin-refusal-requires
+    enum-known-e-3
+    end-refusal-requires
+    enum-known-e-4
+    read-refusal-requires
+    enum-known-e-5
+    write-refusal-requires
+    enum-known-e-6
+    log-ack-refusal-requires
+    enum-known-e-7
+    data-ack-refusal-requires
+    enum-known-e-8
+    fence-refusal-requires
+    enum-told
+    cut-refusal-requires
+    returns
+    returns-2
+    returns-3
+    returns-4
+    returns-5
+    returns-6
+    returns-7
+    returns-8
+    returns-9)

@@ -1,0 +1,176 @@
+use Prim.Native.Nat.{ℕ}
+use mathlib.Core.List.{List}
+use mathlib.Core.Path.{_∙_, _≡_, refl, sym}
+use borrow.Author.Needs.{needs}
+use Rattle.rules.specs.Refusal.{Test, refusal, testsOf}
+use Rattle.rules.specs.Tables.{current}
+use Rattle.rules.specs.declared.Event.the-variants.{Write}
+use Rattle.rules.specs.declared.Tables.{Tables}
+use Rattle.rows.specs.Whole.{tablesOf}
+use Rattle.refusals.proofs.Laws.{foreign, last-below, logs, no-dep, no-slot}
+use Rattle.refusals.proofs.Order.{Passed, bad, from, goes, stops}
+use Rattle.refusals.proofs.write_refusal.Statement.{statement}
+use Rattle.refusals.proofs.write_refusal.Tie as tie
+
+-- back from where a test stands in the code to where the one before it stands
+abbrev start : tie.Else1 → tie.Start
+start c = c .before .before
+
+abbrev to-17 : tie.Else2 → tie.Else1
+to-17 c = c .before .before .before .before .before
+
+abbrev to-18 : tie.Else3 → tie.Else2
+to-18 c = c .before .before .before
+
+abbrev to-19 : tie.Else4 → tie.Else3
+to-19 c = c .before .before .before
+
+abbrev to-20 : tie.Else5 → tie.Else4
+to-20 c = c .before .before
+
+abbrev tables : tie.Start → Tables
+tables s = tablesOf (s .args .h) (s .args .threads .now) (s .args .regions .now) (s .args .owner .now) (s .args .lock .now)
+
+is-current : (c : tie.Else2) → c .before .before .before .before .current .result ≡ current (start (to-17 c) .args .t) (tables (start (to-17 c)))
+is-current c = c .before .before .before .before .current .ensures
+
+module _ (v : ℕ) where
+  abbrev tests : tie.Start → List Test
+  tests s = testsOf (tables s) (Write (s .args .t) (s .args .l) (s .args .w) v)
+
+  -- what each test says is what the code found
+  says-17 : (c : tie.After-is-foreign) → bad 17 (tests (start (c .before .before .before .before))) ≡ c .is-foreign .result
+  unfolding testsOf
+  says-17 c =
+      let s = start (c .before .before .before .before) in
+      foreign _ _ _ (tables s) (c .before .before .before .current .ensures) _ (c .before .last-writer .ensures) (last-below (s .args .threads .now) (s .args .t)) ∙ sym (c .is-foreign .ensures)
+
+  says-18 : (c : tie.After-waits) → bad 18 (tests (start (to-17 (c .before .before)))) ≡ c .waits .result
+  unfolding testsOf
+  says-18 c = let e = c .before .before in logs _ _ _ (tables (start (to-17 e))) (is-current e) _ ∙ sym (c .waits .ensures)
+
+  says-19 : (c : tie.After-lacks-dep) → bad 19 (tests (start (to-17 (to-18 (c .before .before))))) ≡ c .lacks-dep .result
+  unfolding testsOf
+  says-19 c =
+      let e = to-18 (c .before .before) in
+      no-dep _ _ _ (tables (start (to-17 e))) (is-current e) _ (e .before .before .last-writer .ensures) _ (c .before .region-of .ensures) ∙ sym (c .lacks-dep .ensures)
+
+  says-20 : (c : tie.After-lacks-slot) → bad 20 (tests (start (to-17 (to-18 (to-19 (c .before)))))) ≡ c .lacks-slot .result
+  unfolding testsOf
+  says-20 c =
+      let e = to-18 (to-19 (c .before)) in
+      no-slot _ _ _ (tables (start (to-17 e))) (is-current e) _ (c .before .before .before .region-of .ensures) ∙ sym (c .lacks-slot .ensures)
+
+  says-21 : (c : tie.After-lacks-entry) → bad 21 (tests (start (to-17 (to-18 (to-19 (to-20 (c .before))))))) ≡ c .lacks-entry .result
+  unfolding testsOf
+  says-21 c = let e = to-18 (to-19 (to-20 (c .before))) in logs _ _ _ (tables (start (to-17 e))) (is-current e) _ ∙ sym (c .lacks-entry .ensures)
+
+  passed-17 : (c : tie.Else1) → Passed 17 (tests (start c))
+  unfolding testsOf
+  passed-17 c =
+      let s = start c .args in
+      goes 17 _ (tests (start c)) (c .before .access-refusal .ensures (s .regions .now) (s .owner .now) (s .lock .now)) refl (c .if1 .left)
+
+  passed-18 : (c : tie.Else2) → Passed 18 (tests (start (to-17 c)))
+  unfolding testsOf
+  passed-18 c = passed-17 (to-17 c) ∙ rw (says-17 (c .before) ∙ c .if2 .left)
+
+  passed-19 : (c : tie.Else3) → Passed 19 (tests (start (to-17 (to-18 c))))
+  unfolding testsOf
+  passed-19 c = passed-18 (to-18 c) ∙ rw (says-18 (c .before) ∙ c .if3 .left)
+
+  passed-20 : (c : tie.Else4) → Passed 20 (tests (start (to-17 (to-18 (to-19 c)))))
+  unfolding testsOf
+  passed-20 c = passed-19 (to-19 c) ∙ rw (says-19 (c .before) ∙ c .if4 .left)
+
+  passed-21 : (c : tie.Else5) → Passed 21 (tests (start (to-17 (to-18 (to-19 (to-20 c))))))
+  unfolding testsOf
+  passed-21 c = passed-20 (to-20 c) ∙ rw (says-20 (c .before) ∙ c .if5 .left)
+
+access-refusal-requires : tie.Need-access-refusal-requires
+access-refusal-requires c κs = search needs
+
+returns : tie.Need-returns
+unfolding refusal testsOf
+returns c = λ v. let s = c .before .before in stops 17 _ (tests v s) (c .before .access-refusal .ensures (s .args .regions .now) (s .args .owner .now) (s .args .lock .now)) (c .if1 .taken)
+
+current-requires : tie.Need-current-requires
+current-requires c κs = search needs
+
+mul-o : tie.Need-mul-o
+mul-o c = search needs
+
+element-copy-out-o : tie.Need-element-copy-out-o
+element-copy-out-o c = search needs
+
+last-writer-requires : tie.Need-last-writer-requires
+last-writer-requires c κs = search needs
+
+is-foreign-requires : tie.Need-is-foreign-requires
+is-foreign-requires c κs = search needs
+
+returns-2 : tie.Need-returns-2
+unfolding refusal testsOf
+returns-2 c = λ v. sym (passed-17 v (c .before .before .before .before .before) ∙ rw (says-17 v (c .before) ∙ c .if2 .taken))
+
+element-copy-out-waits : tie.Need-element-copy-out-waits
+element-copy-out-waits c = search needs
+
+waits-requires : tie.Need-waits-requires
+waits-requires c κs = search needs
+
+returns-3 : tie.Need-returns-3
+unfolding refusal testsOf
+returns-3 c = λ v. sym (passed-18 v (c .before .before .before) ∙ rw (says-18 v (c .before) ∙ c .if3 .taken))
+
+region-of-requires : tie.Need-region-of-requires
+region-of-requires c κs = search needs
+
+lacks-dep-requires : tie.Need-lacks-dep-requires
+lacks-dep-requires c κs = search needs
+
+returns-4 : tie.Need-returns-4
+unfolding refusal testsOf
+returns-4 c = λ v. sym (passed-19 v (c .before .before .before) ∙ rw (says-19 v (c .before) ∙ c .if4 .taken))
+
+lacks-slot-requires : tie.Need-lacks-slot-requires
+lacks-slot-requires c κs = search needs
+
+returns-5 : tie.Need-returns-5
+unfolding refusal testsOf
+returns-5 c = λ v. sym (passed-20 v (c .before .before) ∙ rw (says-20 v (c .before) ∙ c .if5 .taken))
+
+lacks-entry-requires : tie.Need-lacks-entry-requires
+lacks-entry-requires c κs = search needs
+
+returns-6 : tie.Need-returns-6
+unfolding refusal testsOf
+returns-6 c = λ v. sym (passed-21 v (c .before .before) ∙ rw (says-21 v (c .before) ∙ c .if6 .taken))
+
+returns-7 : tie.Need-returns-7
+unfolding refusal testsOf
+returns-7 c = λ v. sym (passed-21 v (c .before .before) ∙ rw (says-21 v (c .before) ∙ c .if6 .left))
+
+pub write-refusal-spec : {M : Type 1} → statement M
+write-refusal-spec =
+    tie.close
+    (tie.spec
+    access-refusal-requires
+    returns
+    current-requires
+    mul-o
+    element-copy-out-o
+    last-writer-requires
+    is-foreign-requires
+    returns-2
+    element-copy-out-waits
+    waits-requires
+    returns-3
+    region-of-requires
+    lacks-dep-requires
+    returns-4
+    lacks-slot-requires
+    returns-5
+    lacks-entry-requires
+    returns-6
+    returns-7)
