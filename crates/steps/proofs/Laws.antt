@@ -1,28 +1,80 @@
 -- A step of document 01 from its parts, each part by a name of its own.
-use Prim.Native.Nat.{suc, zero, ℕ}
-use mathlib.Core.Path.{_≡_, refl}
+use Prim.Native.Nat.{_<_, _≤_, suc, zero, ℕ}
+use mathlib.Core.Path.{_≡_, ap, refl}
 use mathlib.Core.Bool.{cond, false}
 use mathlib.Core.List.{List, [], _∷_, map}
-use lib.ListN.{getD}
-use borrow.Author.Tests.{eq-eqb, ne-eqb}
+use lib.ListN.{List·getD-eq-default, getD, length, set}
+use lib.Seq.{getD-set-same, set-getD, set-out, set-set}
+use native.Mathlib.Omega.{arith}
+use borrow.Author.Tests.{eq-eqb, eqb-true, ne-eqb}
 use Rattle.undo.proofs.Laws.{never, test}
 use Rattle.undo.specs.Table.{any}
+use Rattle.rules.proofs.Places.{any-place, place-true}
 use Rattle.rules.specs.Access.{dependence, joined, loggedOnce, read, stored, write, wrote}
 use Rattle.rules.specs.Acknowledge.{dropped, droppedSlot, logAck, unlocked}
 use Rattle.rules.specs.Begin.{begin}
 use Rattle.rules.specs.Commit.{settled}
 use Rattle.rules.specs.End.{closed, endRegion, shallower}
 use Rattle.rules.specs.Flight.{flown}
-use Rattle.rules.specs.Lists.{count}
+use Rattle.rules.specs.Lists.{count, place}
 use Rattle.rules.specs.Refusal.{depthOf, isOfThread, refusal}
-use Rattle.rules.specs.Slots.{carries, written}
+use Rattle.rules.specs.Slots.{carried, carries, flownSlots, written}
 use Rattle.rules.specs.Step.{Stepped, apply, did, fence, settledBoard, stepBy, stepEvent, withCut}
-use Rattle.rules.specs.Tables.{Board, current, isHeld, isKey, lineOf, regionAt, withDeps, withSlots, withTables}
+use Rattle.rules.specs.Tables.{Board, current, isHeld, isKey, lineOf, noRegion, placeOf, regionAt, withDeps, withRegions, withSlots, withTables}
+use Rattle.steps.specs.Placed.{placed}
 use Rattle.rules.specs.declared.Event.{Event}
 use Rattle.rules.specs.declared.Event.the-variants.{Begin, Cut, End, Fence, Read}
 use Rattle.rules.specs.declared.Region.{Region}
 use Rattle.rules.specs.declared.Slot.{Slot}
 use Rattle.rules.specs.declared.Tables.{Tables}
+
+-- ---- a region's record replaced in its place, and its flight from there
+
+module _ (k : ℕ) where
+  -- the place of region k stays where another record of region k is put there
+  place-kept : (rs : List Region) (r : Region) → r .key ≡ k → placeOf k (set rs (placeOf k rs) r) ≡ placeOf k rs
+  unfolding place
+  place-kept [] r e = refl
+  place-kept (x ∷ rs) r e =
+      test (isKey k x) (λ a. rw (a, eq-eqb (r .key) k e)) (λ a. rw (a, a) (ap suc (place-kept rs r e)))
+
+  module _ (rs : List Region) (h : placeOf k rs < length rs) where
+    -- the record there is that of region k
+    pub key-at : regionAt k rs .key ≡ k
+    key-at = eqb-true (regionAt k rs .key) k (place-true (isKey k) rs noRegion (any-place (isKey k) rs h))
+
+    at-kept : (r : Region) → r .key ≡ k → regionAt k (set rs (placeOf k rs) r) ≡ r
+    at-kept r e = rw (place-kept rs r e) (getD-set-same rs (placeOf k rs) r noRegion h)
+
+  -- a region at its place has its key
+  pub key-of : (rs : List Region) (i : ℕ) (r : Region) → i ≡ placeOf k rs → r ≡ getD rs i noRegion → length rs ≡ 32 → i < 32 → r .key ≡ k
+  key-of rs i r ei er n h = rw (er, ei) (key-at rs (omega arith))
+
+  module _ (b : Board) (i : ℕ) (ei : i ≡ placeOf k (b .tables .regions)) where
+    -- of a region that is not listed nothing changes
+    pub flown-none : (r : Region) → length (b .tables .regions) ≤ i → b ≡ flown k (placed i r b)
+    unfolding flown carried
+    flown-none r h =
+        rw (set-out (b .tables .regions) i r h, ← ei, set-out (b .tables .regions) i _ h, List·getD-eq-default (b .tables .regions) noRegion {n = i} h)
+
+    -- the flight of a listed region from its new record
+    pub flown-kept : (r q : Region) (b₁ : Board) → i < length (b .tables .regions) → r .key ≡ k
+        → q ≡ withSlots (flownSlots (b .tables .lock) (r .ended) (r .slots)) r
+        → b₁ ≡ record {
+          tables = withRegions (set (b .tables .regions) i q) (b .tables);
+          cur = b .cur;
+          med = b .med;
+          old = b .old;
+          car = carried (b .tables .lock) (r .ended) (r .slots) (b .cur) (b .car);
+        }
+        → b₁ ≡ flown k (placed i r b)
+    unfolding flown
+    flown-kept r q b₁ h e eq e₁ =
+        rw (ei, at-kept (b .tables .regions) (rw ei at h) r e, place-kept (b .tables .regions) r e, set-set) (rw (e₁, ei, eq))
+
+    -- the region as it stands
+    pub flown-same : (r : Region) (b₁ : Board) → r ≡ getD (b .tables .regions) i noRegion → b₁ ≡ flown k (placed i r b) → b₁ ≡ flown k b
+    flown-same r b₁ er e = rw (er, set-getD (b .tables .regions) i noRegion) at e
 
 -- a write: the log entry, then the region and the word, then the flights
 pub write-law : (t l w v k d : ℕ) (q : Region) (b b₁ b₂ b₃ : Board)

@@ -21,10 +21,34 @@ ghost use Rattle.rules.specs.Refusal.{isOfThread, refusal};
 ghost use Rattle.rules.specs.Slots.{written};
 ghost use Rattle.rules.specs.Step.{apply, did, stepEvent};
 ghost use Rattle.rules.specs.declared.Event.the-variants.{DataAck, End, LogAck, Read, Setup};
+ghost use Rattle.steps.specs.Placed.{placed};
 ghost use Rattle.rows.specs.Row.{regionsOf, threadsOf};
 ghost use Rattle.rows.specs.Whole.{boardOf, stepped, tablesOf};
 
-// ---- "The slots fly where they can"
+// ---- flight
+
+// Region k gets the record r at its place i, and its slots fly where they can. A region that is not listed stays so.
+fn put_flown(
+    regions: &mut [[u32; 16]; 32],
+    lock: &[bool; 256],
+    cur: &[[u64; 8]; 256],
+    car: &mut [[u64; 8]; 256],
+    k: u32,
+    i: usize,
+    r: Region,
+)
+    requires { ⌜ (i ≡ placeOf k (regionsOf (now regions))) × (i < 32 → r .key ≡ k) ⌝ }
+    ensures { λ _. ⌜ ((h : Head) (threads : List (List ℕ)) (owner : List ℕ) (med old : List (List ℕ)) → boardOf h threads (now (regions .exit)) owner (now (lock .entry)) (now (cur .entry)) med old (now (car .exit)) ≡ flown k (placed i r (boardOf h threads (now (regions .entry)) owner (now (lock .entry)) (now (cur .entry)) med old (now (car .entry))))) ⌝ }
+{
+    rows::rows32(regions);
+    if i < 32 {
+        let slots = r.slots;
+        let now = slots::fly(slots, r.ended, lock, cur, car);
+        let mut q = r;
+        q.slots = now;
+        rows::put(regions, i, q);
+    }
+}
 
 // Region k's slots fly where they can.
 fn fly(
@@ -36,13 +60,10 @@ fn fly(
 )
     ensures { λ _. ⌜ ((h : Head) (threads : List (List ℕ)) (owner : List ℕ) (med old : List (List ℕ)) → boardOf h threads (now (regions .exit)) owner (now (lock .entry)) (now (cur .entry)) med old (now (car .exit)) ≡ flown k (boardOf h threads (now (regions .entry)) owner (now (lock .entry)) (now (cur .entry)) med old (now (car .entry)))) ⌝ }
 {
+    rows::rows32(regions);
     let i = rows::place_of(regions, k);
     let r = rows::get(regions, i);
-    let slots = r.slots;
-    let now = slots::fly(slots, r.ended, lock, cur, car);
-    let mut q = r;
-    q.slots = now;
-    rows::put(regions, i, q);
+    put_flown(regions, lock, cur, car, k, i, r);
 }
 
 // ---- write
@@ -152,12 +173,12 @@ fn write(
     let k = rows::current(threads, t);
     let d = rows::dependence(regions, owner[l as usize], k);
     log_once(threads, owner, lock, cur, old, t, k, l);
+    rows::rows32(regions);
     let i = rows::place_of(regions, k);
     let r = rows::get(regions, i);
     let q = wrote_region(r, d, l);
-    rows::put(regions, i, q);
     store(cur, l, w, v);
-    fly(regions, lock, cur, car, k);
+    put_flown(regions, lock, cur, car, k, i, q);
 }
 
 // ---- begin
@@ -229,16 +250,14 @@ fn shallower(threads: &mut [[u64; 34]; 8], t: u8)
     rows::set_thread(threads, t, one_less(d), n);
 }
 
-// Region k ends at the clock c.
-fn close(regions: &mut [[u32; 16]; 32], k: u32, c: u32)
-    ensures { λ _. ⌜ regionsOf (now (regions .exit)) ≡ set (regionsOf (now (regions .entry))) (placeOf k (regionsOf (now (regions .entry)))) (endedRegion c (regionAt k (regionsOf (now (regions .entry))))) ⌝ }
+// The region, ended at the clock c.
+fn ended_region(r: Region, c: u32) -> Region
+    ensures { λ q. ⌜ q ≡ endedRegion c r ⌝ }
 {
-    let i = rows::place_of(regions, k);
-    let r = rows::get(regions, i);
     let mut q = r;
     q.ended = true;
     q.stamp = c;
-    rows::put(regions, i, q);
+    q
 }
 
 // The region of thread t ends: it gets its stamp, and its slots fly.
@@ -256,8 +275,11 @@ fn end_region(
     let k = rows::current(threads, t);
     let c = tick(h.clock);
     shallower(threads, t);
-    close(regions, k, c);
-    fly(regions, lock, cur, car, k);
+    rows::rows32(regions);
+    let i = rows::place_of(regions, k);
+    let r = rows::get(regions, i);
+    let q = ended_region(r, c);
+    put_flown(regions, lock, cur, car, k, i, q);
     let size = h.size;
     Head {
         size: size,

@@ -1,5 +1,7 @@
-use Rattle.rules.specs.Refusal.{refusal, testsOf}
-use mathlib.Core.Path.{_∙_, sym}
+use mathlib.Core.Bool.{false}
+use lib.ListN.{length}
+use Rattle.rules.specs.Tables.{freshTables}
+use mathlib.Core.Path.{_∙_, refl, sym}
 use Rattle.board.proofs.Start.{many-lines, many-threads, start-answer, start-far}
 use borrow.Author.Needs.{needs}
 use Rattle.board.proofs.board_start.Statement.{statement}
@@ -42,10 +44,9 @@ answer-requires-3 c κs = search needs
 
 -- src/lib.rt:17:1
 returns-3 : tie.Need-returns-3
-unfolding refusal testsOf
 returns-3 c =
     let a = c .before .before .before .before .before .args in
-    rw (c .answer3 .ensures, c .before .setup-refusal .ensures) (sym (start-answer (a .threads) (a .lines) (a .memory .now)))
+    rw (c .answer3 .ensures, c .before .setup-refusal .ensures (freshTables false (length (a .memory .now))) refl) (sym (start-answer (a .threads) (a .lines) (a .memory .now)))
 
 pub board-start-spec : {M : Type 1} → statement M
 board-start-spec =

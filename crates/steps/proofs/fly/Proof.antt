@@ -1,4 +1,7 @@
-use Rattle.rules.specs.Flight.{flown}
+use Rattle.steps.proofs.Laws.{flown-same, key-of}
+use Rattle.rows.specs.Whole.{boardOf}
+use Rattle.rows.specs.Row.{regionsOf}
+use Rattle.rows.proofs.Laws.{rows-length}
 use borrow.Author.Needs.{needs}
 use Rattle.steps.proofs.fly.Statement.{statement}
 use Rattle.steps.proofs.fly.Tie as tie
@@ -6,29 +9,29 @@ use Rattle.steps.proofs.fly.Reads as reads
 use Rattle.steps.proofs.fly.Lts as lts
 use Rattle.rows.proofs.get.Reads as get-reads
 use Rattle.rows.proofs.place_of.Reads as place-of-reads
-use Rattle.rows.proofs.put.Reads as put-reads
-use Rattle.slots.proofs.fly.Reads as fly-reads
+use Rattle.rows.proofs.rows32.Reads as rows32-reads
+use Rattle.steps.proofs.put_flown.Reads as put-flown-reads
 
--- src/lib.rt:32:9
+-- src/lib.rt:63:5
+rows32-requires : tie.Need-rows32-requires
+rows32-requires c κs = search needs
+
+-- src/lib.rt:64:9
 place-of-requires : tie.Need-place-of-requires
 place-of-requires c κs = search needs
 
--- src/lib.rt:33:9
+-- src/lib.rt:65:9
 get-requires : tie.Need-get-requires
 get-requires c κs = search needs
 
--- src/lib.rt:35:9
-fly-requires : tie.Need-fly-requires
-fly-requires c κs = search needs
+-- src/lib.rt:66:5
+put-flown-requires : tie.Need-put-flown-requires
+put-flown-requires c κs = let s = c .before .before .before .before .before .before .before .before .args in (c .before .before .before .before .place-of .ensures, λ h. key-of (s .k) (regionsOf (s .regions .now)) (c .before .before .before .before .place-of .result) (c .before .before .get .result) (c .before .before .before .before .place-of .ensures) (c .before .before .get .ensures) (rows-length (s .regions .now) (c .before .before .before .before .before .before .rows32 .ensures)) h)
 
--- src/lib.rt:38:5
-put-requires : tie.Need-put-requires
-put-requires c κs = search needs
-
--- src/lib.rt:23:1
+-- src/lib.rt:54:1
 returns : tie.Need-returns
-unfolding flown
-returns c = λ h ths owner med old. rw (c .put .ensures, c .before .before .fly .ensures .0, c .before .before .fly .ensures .1, c .before .before .before .before .before .get .ensures, c .before .before .before .before .before .before .before .place-of .ensures)
+returns c = λ h threads owner med old. let s = c .before .before .before .before .before .before .before .before .before .args in flown-same (s .k) (boardOf h threads (s .regions .now) owner (s .lock .now) (s .cur .now) med old (s .car .now)) (c .before .before .before .before .before .place-of .result) (c .before .before .before .before .before .place-of .ensures) (c .before .before .before .get .result) (boardOf h threads (c .put-flown .last .0) owner (s .lock .now) (s .cur .now) med old (c .put-flown .last .1 .1 .1 .0)) (c .before .before .before .get .ensures) (c .put-flown .ensures h threads owner med old)
 
 pub fly-spec : {M : Type 1} → statement M
-fly-spec = tie.close (tie.spec place-of-requires get-requires fly-requires put-requires returns)
+fly-spec =
+    tie.close (tie.spec rows32-requires place-of-requires get-requires put-flown-requires returns)
