@@ -1,4 +1,4 @@
--- A test is asked for by its number: what comes before it, and what it says.
+-- A test is asked for by its number.
 use Prim.Native.Nat.{ℕ}
 use mathlib.Core.Bool.{cond}
 use mathlib.Core.List.{List, [], _∷_}

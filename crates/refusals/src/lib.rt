@@ -107,10 +107,8 @@ fn last_writer(regions: &[[u32; 16]; 32], o: u32, k: u32) -> Writer
 fn is_foreign(x: Writer, t: u8) -> bool
     ensures { λ r. ⌜ r ≡ (not (x .ended) && not (eqb (x .key / 65536) t)) ⌝ }
 {
-    if x.ended {
-        return false;
-    }
-    x.key / 65536 != t as u32
+    let other = x.key / 65536 != t as u32;
+    if x.ended { false } else { other }
 }
 
 // A write that needs a log entry, on a line still locked.
@@ -227,11 +225,8 @@ fn access_refusal(h: Head, threads: &[[u64; 34]; 8], t: u8, l: u8, w: u8) -> u8
     if h.cut {
         return 11;
     }
-    if rows::depth_of(threads, t) == 0 {
-        12
-    } else {
-        0
-    }
+    let depth = rows::depth_of(threads, t);
+    if depth == 0 { 12 } else { 0 }
 }
 
 // ---- the tests of each event
@@ -266,14 +261,12 @@ fn begin_refusal(h: Head, threads: &[[u64; 34]; 8], regions: &[[u32; 16]; 32], t
     if 65535 <= rows::last_of(threads, t) {
         return 14;
     }
-    if 4 <= rows::count_modified(regions, t) {
+    let modified = rows::count_modified(regions, t);
+    let held = rows::count_held(regions);
+    if 4 <= modified {
         return 15;
     }
-    if 32 <= rows::count_held(regions) {
-        16
-    } else {
-        0
-    }
+    if 32 <= held { 16 } else { 0 }
 }
 
 fn end_refusal(h: Head, threads: &[[u64; 34]; 8], t: u8) -> u8
@@ -283,11 +276,8 @@ fn end_refusal(h: Head, threads: &[[u64; 34]; 8], t: u8) -> u8
     if c != 0 {
         return c;
     }
-    if rows::depth_of(threads, t) == 0 {
-        12
-    } else {
-        0
-    }
+    let depth = rows::depth_of(threads, t);
+    if depth == 0 { 12 } else { 0 }
 }
 
 fn read_refusal(
@@ -371,11 +361,8 @@ fn data_ack_refusal(h: Head, regions: &[[u32; 16]; 32], l: u8) -> u8
         return c;
     }
     rows::rows32(regions);
-    if rows::flight_place(regions, l) < 32 {
-        0
-    } else {
-        22
-    }
+    let place = rows::flight_place(regions, l);
+    if place < 32 { 0 } else { 22 }
 }
 
 fn fence_refusal(h: Head, threads: &[[u64; 34]; 8], t: u8) -> u8
@@ -385,11 +372,8 @@ fn fence_refusal(h: Head, threads: &[[u64; 34]; 8], t: u8) -> u8
     if c != 0 {
         return c;
     }
-    if rows::depth_of(threads, t) == 0 {
-        0
-    } else {
-        23
-    }
+    let depth = rows::depth_of(threads, t);
+    if depth == 0 { 0 } else { 23 }
 }
 
 fn cut_refusal(h: Head) -> u8

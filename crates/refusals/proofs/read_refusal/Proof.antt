@@ -3,12 +3,11 @@ use mathlib.Core.List.{List}
 use mathlib.Core.Path.{_∙_, _≡_, refl, sym}
 use borrow.Author.Needs.{needs}
 use Rattle.rules.specs.Refusal.{Test, refusal, testsOf}
-use Rattle.rules.specs.Tables.{current}
 use Rattle.rules.specs.declared.Event.the-variants.{Read}
 use Rattle.rules.specs.declared.Tables.{Tables}
 use Rattle.rows.specs.Whole.{tablesOf}
 use Rattle.refusals.proofs.Laws.{depends, foreign, last-below, no-dep}
-use Rattle.refusals.proofs.Order.{Passed, bad, from, goes, stops}
+use Rattle.refusals.proofs.Order.{Passed, bad, goes, stops}
 use Rattle.refusals.proofs.read_refusal.Statement.{statement}
 use Rattle.refusals.proofs.read_refusal.Tie as tie
 

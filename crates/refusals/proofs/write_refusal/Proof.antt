@@ -8,7 +8,7 @@ use Rattle.rules.specs.declared.Event.the-variants.{Write}
 use Rattle.rules.specs.declared.Tables.{Tables}
 use Rattle.rows.specs.Whole.{tablesOf}
 use Rattle.refusals.proofs.Laws.{foreign, last-below, logs, no-dep, no-slot}
-use Rattle.refusals.proofs.Order.{Passed, bad, from, goes, stops}
+use Rattle.refusals.proofs.Order.{Passed, bad, goes, stops}
 use Rattle.refusals.proofs.write_refusal.Statement.{statement}
 use Rattle.refusals.proofs.write_refusal.Tie as tie
 
