@@ -107,7 +107,18 @@ fn run_records(
     let mut at: usize = 0;
     let mut p: usize = 0;
     while 0 < left {
-        let o = event(head, threads, regions, owner, lock, cur, med, old, car, &file[at..]);
+        let o = event(
+            head,
+            threads,
+            regions,
+            owner,
+            lock,
+            cur,
+            med,
+            old,
+            car,
+            &file[at..],
+        );
         let a = o.answer;
         p = put_next(answers, p, a.refusal, a.value);
         let after = o.head;
@@ -141,7 +152,20 @@ pub fn run_file(file: &[u8], memory: &[u8], answers: &mut [u8]) -> Answer
     let mut car = [[0u64; 8]; 256];
     starting::load(memory, &mut cur);
     starting::load(memory, &mut med);
-    run_records(head, &mut threads, &mut regions, &mut owner, &mut lock, &mut cur, &mut med, &mut old, &mut car, file, n, answers);
+    run_records(
+        head,
+        &mut threads,
+        &mut regions,
+        &mut owner,
+        &mut lock,
+        &mut cur,
+        &mut med,
+        &mut old,
+        &mut car,
+        file,
+        n,
+        answers,
+    );
     Answer {
         refusal: 0,
         value: n as u64,
@@ -165,6 +189,19 @@ pub fn run_image(file: &[u8], memory: &[u8], image: &mut [u8]) -> Answer
     starting::load(memory, &mut med);
     let n = record_count(file);
     let mut none = [0u8; 1];
-    let after = run_records(head, &mut threads, &mut regions, &mut owner, &mut lock, &mut cur, &mut med, &mut old, &mut car, file, n, &mut none);
+    let after = run_records(
+        head,
+        &mut threads,
+        &mut regions,
+        &mut owner,
+        &mut lock,
+        &mut cur,
+        &mut med,
+        &mut old,
+        &mut car,
+        file,
+        n,
+        &mut none,
+    );
     saving::save(after, &threads, &regions, &med, &old, image)
 }

@@ -152,17 +152,11 @@ fn lacks_slot(r: Region, l: u8) -> bool
     is_full(lookup::slot_for(slots, l))
 }
 
-fn count_words(s: &[u64]) -> usize
-    ensures { λ n. ⌜ n ≡ length (now (s .entry)) ⌝ }
-{
-    s.len()
-}
-
-// A thread's log has a free place. The count is there for the row's length, as a fact.
+// A thread's log has a free place.
 fn has_free(row: &[u64; 34]) -> bool
     ensures { λ r. ⌜ r ≡ any (isOf 0) (threadOf (now (row .entry)) .log) ⌝ }
 {
-    count_words(row);
+    rows::words34(row);
     rows::free_entry(row) < 32
 }
 

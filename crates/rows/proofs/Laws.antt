@@ -2,7 +2,7 @@
 use Prim.Native.Nat.{_%_, _*_, _+_, _/_, _<_, _≤_, suc, zero, ℕ}
 use mathlib.Core.Path.{_∙_, _≡_, refl, sym, ap}
 use mathlib.Core.List.{List, [], _∷_, map}
-use mathlib.Core.Bool.{Bool, _||_, false, true}
+use mathlib.Core.Bool.{Bool, _||_, cond, false, not, true}
 use lib.Arith.{digits-div, digits-mod}
 use lib.Dec.{eqb}
 use lib.ListN.{List·getD-eq-default, List·getD-map, getD, length, length-map, length-set, length-take, set, take}
@@ -119,10 +119,6 @@ pub whole : (r : Region) → length (r .deps) ≡ 4 → length (r .slots) ≡ 8
     r
 whole r h e = rw (four 0 (r .deps) h, eight noSlot (r .slots) e)
 
-pub or-false : (b : Bool) → (b || false) ≡ b
-or-false true = refl
-or-false false = refl
-
 -- a row whose numbers are those of the region r holds r
 pub packed : (r : Region) (w : List ℕ) → length (r .deps) ≡ 4 → length (r .slots) ≡ 8
     → word w 0 ≡ r .key
@@ -234,3 +230,43 @@ free-below ws t h e =
     let f : any (isOf 0) (logOf (getD ws t [])) ≡ true = rw (thread-at ws t h) at e in
     let g = place-lt (isOf 0) (logOf (getD ws t [])) f in
     omega (arith, g, length-map (take 32 (getD ws t [])) entryOf, length-take 32 (getD ws t []))
+
+-- ---- a search as a sum
+
+nonzero : (n : ℕ) → (n ≡ 0 → ⊥) → not (eqb n 0) ≡ true
+nonzero n h = rw (ne-eqb n 0 h)
+
+-- a sum is not 0 where one of its parts is 1
+pub sum-any : (x0 x1 x2 x3 x4 x5 x6 x7 : ℕ) (a0 a1 a2 a3 a4 a5 a6 a7 : Bool)
+    → x0 ≡ cond a0 1 0
+    → x1 ≡ cond a1 1 0
+    → x2 ≡ cond a2 1 0
+    → x3 ≡ cond a3 1 0
+    → x4 ≡ cond a4 1 0
+    → x5 ≡ cond a5 1 0
+    → x6 ≡ cond a6 1 0
+    → x7 ≡ cond a7 1 0
+    → not (eqb (((((((x0 + x1) + x2) + x3) + x4) + x5) + x6) + x7) 0) ≡ (a0 || (a1 || (a2 || (a3 || (a4 || (a5 || (a6 || (a7 || false))))))))
+sum-any x0 x1 x2 x3 x4 x5 x6 x7 a0 a1 a2 a3 a4 a5 a6 a7 e0 e1 e2 e3 e4 e5 e6 e7 =
+    test a0 (λ p. let f : x0 ≡ 1 = rw p at e0 in rw p (nonzero (((((((x0 + x1) + x2) + x3) + x4) + x5) + x6) + x7) (λ z. omega arith)))
+    (λ p0. rw p0 (
+    test a1 (λ p. let f : x1 ≡ 1 = rw p at e1 in rw p (nonzero (((((((x0 + x1) + x2) + x3) + x4) + x5) + x6) + x7) (λ z. omega arith)))
+    (λ p1. rw p1 (
+    test a2 (λ p. let f : x2 ≡ 1 = rw p at e2 in rw p (nonzero (((((((x0 + x1) + x2) + x3) + x4) + x5) + x6) + x7) (λ z. omega arith)))
+    (λ p2. rw p2 (
+    test a3 (λ p. let f : x3 ≡ 1 = rw p at e3 in rw p (nonzero (((((((x0 + x1) + x2) + x3) + x4) + x5) + x6) + x7) (λ z. omega arith)))
+    (λ p3. rw p3 (
+    test a4 (λ p. let f : x4 ≡ 1 = rw p at e4 in rw p (nonzero (((((((x0 + x1) + x2) + x3) + x4) + x5) + x6) + x7) (λ z. omega arith)))
+    (λ p4. rw p4 (
+    test a5 (λ p. let f : x5 ≡ 1 = rw p at e5 in rw p (nonzero (((((((x0 + x1) + x2) + x3) + x4) + x5) + x6) + x7) (λ z. omega arith)))
+    (λ p5. rw p5 (
+    test a6 (λ p. let f : x6 ≡ 1 = rw p at e6 in rw p (nonzero (((((((x0 + x1) + x2) + x3) + x4) + x5) + x6) + x7) (λ z. omega arith)))
+    (λ p6. rw p6 (
+    test a7 (λ p. let f : x7 ≡ 1 = rw p at e7 in rw p (nonzero (((((((x0 + x1) + x2) + x3) + x4) + x5) + x6) + x7) (λ z. omega arith)))
+    (λ p7. rw p7 (
+    let f0 : x0 ≡ 0 = rw p0 at e0 in let f1 : x1 ≡ 0 = rw p1 at e1 in let f2 : x2 ≡ 0 = rw p2 at e2 in let f3 : x3 ≡ 0 = rw p3 at e3 in let f4 : x4 ≡ 0 = rw p4 at e4 in let f5 : x5 ≡ 0 = rw p5 at e5 in let f6 : x6 ≡ 0 = rw p6 at e6 in let f7 : x7 ≡ 0 = rw p7 at e7 in rw (eq-eqb (((((((x0 + x1) + x2) + x3) + x4) + x5) + x6) + x7) 0 (omega arith))))))))))))))))))
+
+-- a region depends on no line of its own
+pub own-dependence : (b : Bool) (o k : ℕ) → o ≡ k → cond (eqb (cond b o 0) k) 0 (cond b o 0) ≡ 0
+own-dependence true o k e = rw (eq-eqb o k e)
+own-dependence false o k e = test (eqb 0 k) (λ p. rw p) (λ p. rw p)

@@ -4,9 +4,9 @@ use rules::Region;
 use rules::Size;
 use rules::Slot;
 use rules::SlotState;
-ghost use Prim.Native.Nat.{_%_, _*_, _+_, _/_, _<_};
+ghost use Prim.Native.Nat.{_/_, _<_, _≤_};
 ghost use mathlib.Core.Path.{_≡_};
-ghost use mathlib.Core.Bool.{_||_, cond, false};
+ghost use mathlib.Core.Bool.{cond};
 ghost use mathlib.Core.List.{[], map};
 ghost use lib.Dec.{eqb};
 ghost use lib.ListN.{getD, length, set};
@@ -324,31 +324,26 @@ pub fn count_modified(regions: &[[u32; 16]; 32], t: u8) -> u8
     c
 }
 
-// Whether the slot is in flight with the line l: one number is compared.
-fn word_carries(n: u32, l: u8) -> bool
-    ensures { λ r. ⌜ r ≡ carries l (slotOf n) ⌝ }
+// 1 for a slot in flight with the line l: one number is compared.
+fn carries_word(n: u32, l: u8) -> u32
+    ensures { λ r. ⌜ (r ≡ cond (carries l (slotOf n)) 1 0) × (r ≤ 1) ⌝ }
 {
-    n == 256 + (l as u32)
+    if n == 256 + (l as u32) { 1 } else { 0 }
 }
 
-fn or8(a: bool, b: bool, c: bool, d: bool, e: bool, f: bool, g: bool, h: bool) -> bool
-    ensures { λ r. ⌜ r ≡ (a || (b || (c || (d || (e || (f || (g || h))))))) ⌝ }
+// Whether a slot of a row is in flight with the line l: a sum, so that the eight are compared at once.
+fn row_carries(w: &[u32; 16], l: u8) -> bool
+    ensures { λ r. ⌜ r ≡ any (carries l) (regionOf (now (w .entry)) .slots) ⌝ }
 {
-    a || (b || (c || (d || (e || (f || (g || h))))))
-}
-
-fn row_carries(w: [u32; 16], l: u8) -> bool
-    ensures { λ r. ⌜ r ≡ any (carries l) (regionOf w .slots) ⌝ }
-{
-    let a = word_carries(w[8], l);
-    let b = word_carries(w[9], l);
-    let c = word_carries(w[10], l);
-    let d = word_carries(w[11], l);
-    let e = word_carries(w[12], l);
-    let f = word_carries(w[13], l);
-    let g = word_carries(w[14], l);
-    let h = word_carries(w[15], l);
-    or8(a, b, c, d, e, f, g, h)
+    let a = carries_word(w[8], l);
+    let b = carries_word(w[9], l);
+    let c = carries_word(w[10], l);
+    let d = carries_word(w[11], l);
+    let e = carries_word(w[12], l);
+    let f = carries_word(w[13], l);
+    let g = carries_word(w[14], l);
+    let h = carries_word(w[15], l);
+    a + b + c + d + e + f + g + h != 0
 }
 
 // Whether a slot of the region at place i is in flight with the line l.
@@ -359,8 +354,7 @@ pub fn carries_at(regions: &[[u32; 16]; 32], i: usize, l: u8) -> bool
     if 32 <= i {
         return false;
     }
-    let w = regions[i];
-    row_carries(w, l)
+    row_carries(&regions[i], l)
 }
 
 // The place of the region whose slot is in flight with the line l.
@@ -383,13 +377,15 @@ pub fn flight_place(regions: &[[u32; 16]; 32], l: u8) -> usize
 
 // ---- a log entry
 
-fn key_in(n: u64) -> u32
+// The region of a log entry.
+pub fn key_in(n: u64) -> u32
     ensures { λ r. ⌜ r ≡ entryOf n .key ⌝ }
 {
     (n % 4294967296) as u32
 }
 
-fn line_in(n: u64) -> u8
+// The line of a log entry.
+pub fn line_in(n: u64) -> u8
     ensures { λ r. ⌜ r ≡ entryOf n .line ⌝ }
 {
     (n / 4294967296 % 256) as u8
@@ -422,7 +418,7 @@ fn count_words(s: &[u64]) -> usize
 }
 
 // There are 34 numbers: no code, and the fact for the callers.
-fn words34(row: &[u64; 34])
+pub fn words34(row: &[u64; 34])
     ensures { λ _. ⌜ length (now (row .entry)) ≡ 34 ⌝ }
 {
     count_words(row);
@@ -579,6 +575,9 @@ pub fn current(threads: &[[u64; 34]; 8], t: u8) -> u32
 pub fn dependence(regions: &[[u32; 16]; 32], o: u32, k: u32) -> u32
     ensures { λ r. ⌜ r ≡ cond (eqb (cond (listed o (regionsOf (now (regions .entry)))) o 0) k) 0 (cond (listed o (regionsOf (now (regions .entry)))) o 0) ⌝ }
 {
+    if o == k {
+        return 0;
+    }
     let d = uncommitted(regions, o);
     if d == k { 0 } else { d }
 }

@@ -347,12 +347,7 @@ fn log_ack(
 }
 
 // The carried line is in the medium, and its slot is empty.
-fn data_ack(
-    regions: &mut [[u32; 16]; 32],
-    med: &mut [[u64; 8]; 256],
-    car: &[[u64; 8]; 256],
-    l: u8,
-)
+fn data_ack(regions: &mut [[u32; 16]; 32], med: &mut [[u64; 8]; 256], car: &[[u64; 8]; 256], l: u8)
     ensures { λ _. ⌜ ((h : Head) (threads : List (List ℕ)) (owner : List ℕ) (lock : List Bool) (cur old : List (List ℕ)) → boardOf h threads (now (regions .exit)) owner lock cur (now (med .exit)) old (now (car .entry)) ≡ dataAck l (boardOf h threads (now (regions .entry)) owner lock cur (now (med .entry)) old (now (car .entry)))) ⌝ }
 {
     let li = l as usize;
@@ -511,7 +506,10 @@ fn apply(
         Event::End(t) => end(h, threads, regions, lock, cur, car, t),
         Event::Read(t, l, w) => {
             let value = read_word(threads, regions, owner, cur, t, l, w);
-            Effect { head: h, value: value }
+            Effect {
+                head: h,
+                value: value,
+            }
         }
         Event::Write(t, l, w, v) => {
             write(threads, regions, owner, lock, cur, old, car, t, l, w, v);
@@ -519,14 +517,26 @@ fn apply(
         }
         Event::LogAck(l) => {
             let value = log_acked(threads, regions, owner, lock, cur, car, l);
-            Effect { head: h, value: value }
+            Effect {
+                head: h,
+                value: value,
+            }
         }
         Event::DataAck(l) => {
             let value = data_acked(threads, regions, med, car, l);
-            Effect { head: h, value: value }
+            Effect {
+                head: h,
+                value: value,
+            }
         }
-        Event::Fence(t) => Effect { head: h, value: fence(regions, t) },
-        Event::Cut => Effect { head: cut(h), value: rows::count_held(regions) as u64 },
+        Event::Fence(t) => Effect {
+            head: h,
+            value: fence(regions, t),
+        },
+        Event::Cut => Effect {
+            head: cut(h),
+            value: rows::count_held(regions) as u64,
+        },
     }
 }
 

@@ -9,7 +9,6 @@ use Rattle.engine.proofs.run_file.Reads as reads
 use Rattle.engine.proofs.run_file.Lts as lts
 use Rattle.engine.proofs.record_count.Reads as record-count-reads
 use Rattle.engine.proofs.run_records.Reads as run-records-reads
-
 use Rattle.starting.proofs.fresh_head.Reads as fresh-head-reads
 use Rattle.starting.proofs.load.Reads as load-reads
 
