@@ -119,6 +119,10 @@ pub whole : (r : Region) → length (r .deps) ≡ 4 → length (r .slots) ≡ 8
     r
 whole r h e = rw (four 0 (r .deps) h, eight noSlot (r .slots) e)
 
+pub or-false : (b : Bool) → (b || false) ≡ b
+or-false true = refl
+or-false false = refl
+
 -- a row whose numbers are those of the region r holds r
 pub packed : (r : Region) (w : List ℕ) → length (r .deps) ≡ 4 → length (r .slots) ≡ 8
     → word w 0 ≡ r .key
