@@ -6,15 +6,15 @@ use rules::Listed;
 use rules::Mark;
 ghost use Prim.Native.Nat.{_<_, _≤_, _+_, min};
 ghost use mathlib.Core.Path.{_≡_};
-ghost use mathlib.Core.Bool.{_||_, _&&_};
+ghost use mathlib.Core.Bool.{_||_, _&&_, true};
 ghost use mathlib.Core.List.{map};
 ghost use lib.Dec.{eqb};
-ghost use lib.ListN.{drop, getD, take};
+ghost use lib.ListN.{drop, getD, length, take};
 ghost use Rattle.undo.specs.Table.{any};
 ghost use Rattle.rules.specs.Lists.{all};
-ghost use Rattle.rules.specs.Contradiction.{anyBroken, brokenBefore, inOrder, isAstray, isBroken, isLeftOver, isListed, isUnknownState, isUnnumbered};
+ghost use Rattle.rules.specs.Contradiction.{anyBroken, brokenBefore, inOrder, isAstray, isBroken, isLeftOver, isListed};
 ghost use Rattle.judging.specs.Marks.{anyPair, contradictsIn, isFaulty, isUnlisted, noListed, stands};
-ghost use Rattle.judging.specs.Reach.{clashAt, isRound, isTangled, linkOf, linksOf, noSpot, placeIn, roundOf, roundsOf, rowOf, seesAt, spotOf, stepTo, tableOf};
+ghost use Rattle.judging.specs.Reach.{clashAt, isRound, keyed, linkOf, linksOf, placeIn, roundOf, roundsOf, rowOf, seesAt, spotOf, stepTo, tangledBy};
 
 // The places of a region's dependences; the number of regions for none.
 pub struct Link {
@@ -47,24 +47,31 @@ fn both(a: bool, b: bool) -> bool
 
 // ---- places
 
-fn is_key(r: Listed, key: u32) -> bool
-    ensures { λ b. ⌜ b ≡ eqb (r .key) key ⌝ }
+// The keys of the regions, in their places.
+fn keys_of(regions: [Listed; 32]) -> [u32; 32]
+    ensures { λ r. ⌜ r ≡ map (λ x. x .key) regions ⌝ }
 {
-    r.key == key
+    let mut ks = [0u32; 32];
+    let mut i: usize = 0;
+    while i < 32 {
+        let x = regions[i];
+        ks[i] = x.key;
+        i += 1;
+    }
+    ks
 }
 
 // The place of region `key`; n where it is not listed.
-fn place_in(n: usize, regions: [Listed; 32], key: u32) -> usize
-    requires { ⌜ n ≤ 32 ⌝ }
-    ensures { λ r. ⌜ r ≡ placeIn (take n regions) key ⌝ }
+fn place_in(n: usize, keys: &[u32], key: u32) -> usize
+    requires { ⌜ n ≤ length (now keys) ⌝ }
+    ensures { λ r. ⌜ r ≡ placeIn (keyed (take n (now (keys .entry)))) key ⌝ }
 {
     let mut i: usize = 0;
     let at = loop {
         if n <= i {
             break i;
         }
-        let x = regions[i];
-        if is_key(x, key) {
+        if keys[i] == key {
             break i;
         }
         i += 1;
@@ -72,11 +79,11 @@ fn place_in(n: usize, regions: [Listed; 32], key: u32) -> usize
     at
 }
 
-fn is_listed(n: usize, regions: [Listed; 32], key: u32) -> bool
-    requires { ⌜ n ≤ 32 ⌝ }
-    ensures { λ r. ⌜ r ≡ isListed key (take n regions) ⌝ }
+fn is_listed(n: usize, keys: &[u32], key: u32) -> bool
+    requires { ⌜ n ≤ length (now keys) ⌝ }
+    ensures { λ r. ⌜ r ≡ isListed key (keyed (take n (now (keys .entry)))) ⌝ }
 {
-    place_in(n, regions, key) < n
+    place_in(n, keys, key) < n
 }
 
 // ---- what is wrong with a region by itself
@@ -129,28 +136,28 @@ pub fn depends(deps: [u32; 4], key: u32) -> bool
 }
 
 // A dependence on a region that is not listed.
-fn is_astray(n: usize, regions: [Listed; 32], d: u32) -> bool
-    requires { ⌜ n ≤ 32 ⌝ }
-    ensures { λ r. ⌜ r ≡ isAstray (take n regions) d ⌝ }
+fn is_astray(n: usize, keys: &[u32], d: u32) -> bool
+    requires { ⌜ n ≤ length (now keys) ⌝ }
+    ensures { λ r. ⌜ r ≡ isAstray (keyed (take n (now (keys .entry)))) d ⌝ }
 {
     if d == 0 {
         return false;
     }
-    !is_listed(n, regions, d)
+    !is_listed(n, keys, d)
 }
 
-fn has_astray(n: usize, regions: [Listed; 32], deps: [u32; 4]) -> bool
-    requires { ⌜ n ≤ 32 ⌝ }
-    ensures { λ r. ⌜ r ≡ any (isAstray (take n regions)) deps ⌝ }
+fn has_astray(n: usize, keys: &[u32], deps: [u32; 4]) -> bool
+    requires { ⌜ n ≤ length (now keys) ⌝ }
+    ensures { λ r. ⌜ r ≡ any (isAstray (keyed (take n (now (keys .entry))))) deps ⌝ }
 {
     let d0 = deps[0];
     let d1 = deps[1];
     let d2 = deps[2];
     let d3 = deps[3];
-    let a0 = is_astray(n, regions, d0);
-    let a1 = is_astray(n, regions, d1);
-    let a2 = is_astray(n, regions, d2);
-    let a3 = is_astray(n, regions, d3);
+    let a0 = is_astray(n, keys, d0);
+    let a1 = is_astray(n, keys, d1);
+    let a2 = is_astray(n, keys, d2);
+    let a3 = is_astray(n, keys, d3);
     either(a0, either(a1, either(a2, a3)))
 }
 
@@ -162,13 +169,13 @@ fn is_left_over(r: Listed) -> bool
     both(r.state == 1, none)
 }
 
-fn is_faulty(n: usize, regions: [Listed; 32], r: Listed) -> bool
-    requires { ⌜ n ≤ 32 ⌝ }
-    ensures { λ b. ⌜ b ≡ isFaulty (take n regions) r ⌝ }
+fn is_faulty(n: usize, keys: &[u32], r: Listed) -> bool
+    requires { ⌜ n ≤ length (now keys) ⌝ }
+    ensures { λ b. ⌜ b ≡ isFaulty (keyed (take n (now (keys .entry)))) r ⌝ }
 {
     let deps = r.deps;
     let order = in_order(deps);
-    let astray = has_astray(n, regions, deps);
+    let astray = has_astray(n, keys, deps);
     let left = is_left_over(r);
     either(
         r.key % 65536 == 0,
@@ -176,14 +183,14 @@ fn is_faulty(n: usize, regions: [Listed; 32], r: Listed) -> bool
     )
 }
 
-fn any_faulty(n: usize, regions: [Listed; 32]) -> bool
-    requires { ⌜ n ≤ 32 ⌝ }
-    ensures { λ b. ⌜ b ≡ any (isFaulty (take n regions)) (take n regions) ⌝ }
+fn any_faulty(n: usize, keys: &[u32], regions: [Listed; 32]) -> bool
+    requires { ⌜ (n ≤ 32) × (n ≤ length (now keys)) ⌝ }
+    ensures { λ b. ⌜ b ≡ any (isFaulty (keyed (take n (now (keys .entry))))) (take n regions) ⌝ }
 {
     let mut i: usize = 0;
     while i < n {
         let x = regions[i];
-        if is_faulty(n, regions, x) {
+        if is_faulty(n, keys, x) {
             return true;
         }
         i += 1;
@@ -232,21 +239,21 @@ fn any_broken(n: usize, regions: [Listed; 32]) -> bool
 
 // ---- the log
 
-fn is_unlisted(n: usize, regions: [Listed; 32], m: Mark) -> bool
-    requires { ⌜ n ≤ 32 ⌝ }
-    ensures { λ b. ⌜ b ≡ isUnlisted (take n regions) m ⌝ }
+fn is_unlisted(n: usize, keys: &[u32], m: Mark) -> bool
+    requires { ⌜ n ≤ length (now keys) ⌝ }
+    ensures { λ b. ⌜ b ≡ isUnlisted (keyed (take n (now (keys .entry)))) m ⌝ }
 {
-    !is_listed(n, regions, m.key)
+    !is_listed(n, keys, m.key)
 }
 
-fn any_unlisted(n: usize, regions: [Listed; 32], logged: usize, log: [Mark; 256]) -> bool
-    requires { ⌜ (n ≤ 32) × (logged ≤ 256) ⌝ }
-    ensures { λ b. ⌜ b ≡ any (isUnlisted (take n regions)) (take logged log) ⌝ }
+fn any_unlisted(n: usize, keys: &[u32], logged: usize, log: [Mark; 256]) -> bool
+    requires { ⌜ (n ≤ length (now keys)) × (logged ≤ 256) ⌝ }
+    ensures { λ b. ⌜ b ≡ any (isUnlisted (keyed (take n (now (keys .entry))))) (take logged log) ⌝ }
 {
     let mut i: usize = 0;
     while i < logged {
         let x = log[i];
-        if is_unlisted(n, regions, x) {
+        if is_unlisted(n, keys, x) {
             return true;
         }
         i += 1;
@@ -256,59 +263,59 @@ fn any_unlisted(n: usize, regions: [Listed; 32], logged: usize, log: [Mark; 256]
 
 // ---- which region reaches which
 
-fn link_of(n: usize, regions: [Listed; 32], d: u32) -> usize
-    requires { ⌜ n ≤ 32 ⌝ }
-    ensures { λ r. ⌜ r ≡ linkOf (take n regions) d ⌝ }
+fn link_of(n: usize, keys: &[u32], d: u32) -> usize
+    requires { ⌜ n ≤ length (now keys) ⌝ }
+    ensures { λ r. ⌜ r ≡ linkOf (keyed (take n (now (keys .entry)))) d ⌝ }
 {
     if d == 0 {
         return n;
     }
-    place_in(n, regions, d)
+    place_in(n, keys, d)
 }
 
-fn link_four(n: usize, regions: [Listed; 32], deps: [u32; 4]) -> [usize; 4]
-    requires { ⌜ n ≤ 32 ⌝ }
-    ensures { λ r. ⌜ r ≡ map (linkOf (take n regions)) deps ⌝ }
+fn link_four(n: usize, keys: &[u32], deps: [u32; 4]) -> [usize; 4]
+    requires { ⌜ n ≤ length (now keys) ⌝ }
+    ensures { λ r. ⌜ r ≡ map (linkOf (keyed (take n (now (keys .entry))))) deps ⌝ }
 {
     let d0 = deps[0];
     let d1 = deps[1];
     let d2 = deps[2];
     let d3 = deps[3];
-    let a0 = link_of(n, regions, d0);
-    let a1 = link_of(n, regions, d1);
-    let a2 = link_of(n, regions, d2);
-    let a3 = link_of(n, regions, d3);
+    let a0 = link_of(n, keys, d0);
+    let a1 = link_of(n, keys, d1);
+    let a2 = link_of(n, keys, d2);
+    let a3 = link_of(n, keys, d3);
     [a0, a1, a2, a3]
 }
 
-fn links_of(n: usize, regions: [Listed; 32], r: Listed) -> Link
-    requires { ⌜ n ≤ 32 ⌝ }
-    ensures { λ l. ⌜ l ≡ linksOf (take n regions) r ⌝ }
+fn links_of(n: usize, keys: &[u32], r: Listed) -> Link
+    requires { ⌜ n ≤ length (now keys) ⌝ }
+    ensures { λ l. ⌜ l ≡ linksOf (keyed (take n (now (keys .entry)))) r ⌝ }
 {
     let deps = r.deps;
-    let at = link_four(n, regions, deps);
+    let at = link_four(n, keys, deps);
     Link { at }
 }
 
-fn all_links(n: usize, regions: [Listed; 32]) -> [Link; 32]
-    requires { ⌜ n ≤ 32 ⌝ }
-    ensures { λ r. ⌜ take n r ≡ map (linksOf (take n regions)) (take n regions) ⌝ }
+fn all_links(n: usize, keys: &[u32], regions: [Listed; 32]) -> [Link; 32]
+    requires { ⌜ (n ≤ 32) × (n ≤ length (now keys)) ⌝ }
+    ensures { λ r. ⌜ take n r ≡ map (linksOf (keyed (take n (now (keys .entry))))) (take n regions) ⌝ }
 {
     let none = Link { at: [0; 4] };
     let mut links = [none; 32];
     let mut i: usize = 0;
     while i < n {
         let x = regions[i];
-        links[i] = links_of(n, regions, x);
+        links[i] = links_of(n, keys, x);
         i += 1;
     }
     links
 }
 
 // What one dependence adds to a row: its own place, and what the row of that place has.
-fn step_to(n: usize, rows: [u32; 32], q: usize) -> u32
-    requires { ⌜ n ≤ 32 ⌝ }
-    ensures { λ r. ⌜ r ≡ stepTo (take n rows) q ⌝ }
+fn step_to(n: usize, rows: &[u32], q: usize) -> u32
+    requires { ⌜ (n ≤ 32) × (n ≤ length (now rows)) ⌝ }
+    ensures { λ r. ⌜ r ≡ stepTo (take n (now (rows .entry))) q ⌝ }
 {
     if q < n {
         let bit = 1u32 << q;
@@ -318,9 +325,9 @@ fn step_to(n: usize, rows: [u32; 32], q: usize) -> u32
     }
 }
 
-fn row_of(n: usize, rows: [u32; 32], l: Link) -> u32
-    requires { ⌜ n ≤ 32 ⌝ }
-    ensures { λ r. ⌜ r ≡ rowOf (take n rows) (l .at) ⌝ }
+fn row_of(n: usize, rows: &[u32], l: Link) -> u32
+    requires { ⌜ (n ≤ 32) × (n ≤ length (now rows)) ⌝ }
+    ensures { λ r. ⌜ r ≡ rowOf (take n (now (rows .entry))) (l .at) ⌝ }
 {
     let at = l.at;
     let r0 = step_to(n, rows, at[0]);
@@ -339,12 +346,28 @@ fn round(n: usize, links: [Link; 32], rows: [u32; 32]) -> [u32; 32]
     let mut i: usize = 0;
     while i < n {
         let l = links[i];
-        wider[i] = row_of(n, rows, l);
+        wider[i] = row_of(n, &rows, l);
         i += 1;
     }
     wider
 }
 
+// Whether the first n rows are the same.
+fn same_rows(n: usize, a: &[u32], b: &[u32]) -> bool
+    requires { ⌜ (n ≤ length (now a)) × (n ≤ length (now b)) ⌝ }
+    ensures { λ r. ⌜ (r ≡ true → take n (now (a .entry)) ≡ take n (now (b .entry))) ⌝ }
+{
+    let mut i: usize = 0;
+    while i < n {
+        if a[i] != b[i] {
+            return false;
+        }
+        i += 1;
+    }
+    true
+}
+
+// Rounds until one adds nothing.
 fn rounds(n: usize, links: [Link; 32]) -> [u32; 32]
     requires { ⌜ n ≤ 32 ⌝ }
     ensures { λ r. ⌜ take n r ≡ roundsOf n (take n links) ⌝ }
@@ -353,24 +376,27 @@ fn rounds(n: usize, links: [Link; 32]) -> [u32; 32]
     let mut k: usize = 0;
     while k < n {
         let wider = round(n, links, rows);
+        if same_rows(n, &wider, &rows) {
+            return rows;
+        }
         rows = wider;
         k += 1;
     }
     rows
 }
 
-fn reach_table(n: usize, regions: [Listed; 32]) -> [u32; 32]
-    requires { ⌜ n ≤ 32 ⌝ }
-    ensures { λ r. ⌜ take n r ≡ tableOf (take n regions) ⌝ }
+fn reach_table(n: usize, keys: &[u32], regions: [Listed; 32]) -> [u32; 32]
+    requires { ⌜ (n ≤ 32) × (n ≤ length (now keys)) ⌝ }
+    ensures { λ r. ⌜ take n r ≡ roundsOf n (map (linksOf (keyed (take n (now (keys .entry))))) (take n regions)) ⌝ }
 {
-    let links = all_links(n, regions);
+    let links = all_links(n, keys, regions);
     rounds(n, links)
 }
 
 // Whether the region at place p reaches the region at place q; false for a place behind the list.
-fn sees(n: usize, rows: [u32; 32], p: usize, q: usize) -> bool
-    requires { ⌜ n ≤ 32 ⌝ }
-    ensures { λ r. ⌜ r ≡ seesAt (take n rows) p q ⌝ }
+fn sees(n: usize, rows: &[u32], p: usize, q: usize) -> bool
+    requires { ⌜ (n ≤ 32) × (n ≤ length (now rows)) ⌝ }
+    ensures { λ r. ⌜ r ≡ seesAt (take n (now (rows .entry))) p q ⌝ }
 {
     if n <= p {
         return false;
@@ -384,22 +410,22 @@ fn sees(n: usize, rows: [u32; 32], p: usize, q: usize) -> bool
 
 // ---- circles
 
-fn is_round(n: usize, regions: [Listed; 32], rows: [u32; 32], r: Listed) -> bool
-    requires { ⌜ n ≤ 32 ⌝ }
-    ensures { λ b. ⌜ b ≡ isRound (take n regions) (take n rows) r ⌝ }
+fn is_round(n: usize, keys: &[u32], rows: &[u32], r: Listed) -> bool
+    requires { ⌜ (n ≤ 32) × ((n ≤ length (now keys)) × (n ≤ length (now rows))) ⌝ }
+    ensures { λ b. ⌜ b ≡ isRound (keyed (take n (now (keys .entry)))) (take n (now (rows .entry))) r ⌝ }
 {
-    let p = place_in(n, regions, r.key);
+    let p = place_in(n, keys, r.key);
     sees(n, rows, p, p)
 }
 
-fn any_round(n: usize, regions: [Listed; 32], rows: [u32; 32]) -> bool
-    requires { ⌜ n ≤ 32 ⌝ }
-    ensures { λ b. ⌜ b ≡ any (isRound (take n regions) (take n rows)) (take n regions) ⌝ }
+fn any_round(n: usize, keys: &[u32], regions: [Listed; 32], rows: [u32; 32]) -> bool
+    requires { ⌜ (n ≤ 32) × (n ≤ length (now keys)) ⌝ }
+    ensures { λ b. ⌜ b ≡ any (isRound (keyed (take n (now (keys .entry)))) (take n rows)) (take n regions) ⌝ }
 {
     let mut i: usize = 0;
     while i < n {
         let x = regions[i];
-        if is_round(n, regions, rows, x) {
+        if is_round(n, keys, &rows, x) {
             return true;
         }
         i += 1;
@@ -409,32 +435,32 @@ fn any_round(n: usize, regions: [Listed; 32], rows: [u32; 32]) -> bool
 
 // ---- lines logged twice
 
-fn spot_of(n: usize, regions: [Listed; 32], m: Mark) -> Spot
-    requires { ⌜ n ≤ 32 ⌝ }
-    ensures { λ r. ⌜ r ≡ spotOf (take n regions) m ⌝ }
+fn spot_of(n: usize, keys: &[u32], m: Mark) -> Spot
+    requires { ⌜ n ≤ length (now keys) ⌝ }
+    ensures { λ r. ⌜ r ≡ spotOf (keyed (take n (now (keys .entry)))) m ⌝ }
 {
-    let at = place_in(n, regions, m.key);
+    let at = place_in(n, keys, m.key);
     Spot { at, line: m.line }
 }
 
-fn all_spots(n: usize, regions: [Listed; 32], logged: usize, log: [Mark; 256]) -> [Spot; 256]
-    requires { ⌜ (n ≤ 32) × (logged ≤ 256) ⌝ }
-    ensures { λ r. ⌜ take logged r ≡ map (spotOf (take n regions)) (take logged log) ⌝ }
+fn all_spots(n: usize, keys: &[u32], logged: usize, log: [Mark; 256]) -> [Spot; 256]
+    requires { ⌜ (n ≤ length (now keys)) × (logged ≤ 256) ⌝ }
+    ensures { λ r. ⌜ take logged r ≡ map (spotOf (keyed (take n (now (keys .entry))))) (take logged log) ⌝ }
 {
     let none = Spot { at: 0, line: 0 };
     let mut spots = [none; 256];
     let mut i: usize = 0;
     while i < logged {
         let x = log[i];
-        spots[i] = spot_of(n, regions, x);
+        spots[i] = spot_of(n, keys, x);
         i += 1;
     }
     spots
 }
 
-fn clashes(n: usize, rows: [u32; 32], a: Spot, b: Spot) -> bool
-    requires { ⌜ n ≤ 32 ⌝ }
-    ensures { λ r. ⌜ r ≡ clashAt (take n rows) a b ⌝ }
+fn clashes(n: usize, rows: &[u32], a: Spot, b: Spot) -> bool
+    requires { ⌜ (n ≤ 32) × (n ≤ length (now rows)) ⌝ }
+    ensures { λ r. ⌜ r ≡ clashAt (take n (now (rows .entry))) a b ⌝ }
 {
     if a.line != b.line {
         return false;
@@ -449,31 +475,21 @@ fn clashes(n: usize, rows: [u32; 32], a: Spot, b: Spot) -> bool
     !either(there, back)
 }
 
-// Whether the log entry at i clashes with one behind it.
-fn clash_from(n: usize, rows: [u32; 32], logged: usize, spots: [Spot; 256], i: usize) -> bool
-    requires { ⌜ (n ≤ 32) × ((logged ≤ 256) × (i < logged)) ⌝ }
-    ensures { λ r. ⌜ r ≡ any (clashAt (take n rows) (getD spots i noSpot)) (drop (i + 1) (take logged spots)) ⌝ }
-{
-    let a = spots[i];
-    let mut j: usize = i + 1;
-    while j < logged {
-        let b = spots[j];
-        if clashes(n, rows, a, b) {
-            return true;
-        }
-        j += 1;
-    }
-    false
-}
-
+// Whether a log entry clashes with one behind it.
 fn any_clash(n: usize, rows: [u32; 32], logged: usize, spots: [Spot; 256]) -> bool
     requires { ⌜ (n ≤ 32) × (logged ≤ 256) ⌝ }
     ensures { λ r. ⌜ r ≡ anyPair (clashAt (take n rows)) (take logged spots) ⌝ }
 {
     let mut i: usize = 0;
     while i < logged {
-        if clash_from(n, rows, logged, spots, i) {
-            return true;
+        let a = spots[i];
+        let mut j: usize = i + 1;
+        while j < logged {
+            let b = spots[j];
+            if clashes(n, &rows, a, b) {
+                return true;
+            }
+            j += 1;
         }
         i += 1;
     }
@@ -483,13 +499,19 @@ fn any_clash(n: usize, rows: [u32; 32], logged: usize, spots: [Spot; 256]) -> bo
 // ---- the whole
 
 // A circle, or a line logged twice, where every dependence and every log entry is of a listed region.
-fn is_tangled(n: usize, regions: [Listed; 32], logged: usize, log: [Mark; 256]) -> bool
-    requires { ⌜ (n ≤ 32) × (logged ≤ 256) ⌝ }
-    ensures { λ r. ⌜ r ≡ isTangled (take n regions) (take logged log) ⌝ }
+fn is_tangled(
+    n: usize,
+    keys: &[u32],
+    regions: [Listed; 32],
+    logged: usize,
+    log: [Mark; 256],
+) -> bool
+    requires { ⌜ (n ≤ 32) × ((n ≤ length (now keys)) × (logged ≤ 256)) ⌝ }
+    ensures { λ r. ⌜ r ≡ tangledBy n (keyed (take n (now (keys .entry)))) (take n regions) (take logged log) ⌝ }
 {
-    let rows = reach_table(n, regions);
-    let spots = all_spots(n, regions, logged, log);
-    if any_round(n, regions, rows) {
+    let rows = reach_table(n, keys, regions);
+    let spots = all_spots(n, keys, logged, log);
+    if any_round(n, keys, regions, rows) {
         return true;
     }
     any_clash(n, rows, logged, spots)
@@ -499,16 +521,17 @@ fn contradicts_first(n: usize, regions: [Listed; 32], logged: usize, log: [Mark;
     requires { ⌜ (n ≤ 32) × (logged ≤ 256) ⌝ }
     ensures { λ r. ⌜ r ≡ contradictsIn (take n regions) (take logged log) ⌝ }
 {
-    if any_faulty(n, regions) {
+    let keys = keys_of(regions);
+    if any_faulty(n, &keys, regions) {
         return true;
     }
     if any_broken(n, regions) {
         return true;
     }
-    if any_unlisted(n, regions, logged, log) {
+    if any_unlisted(n, &keys, logged, log) {
         return true;
     }
-    is_tangled(n, regions, logged, log)
+    is_tangled(n, &keys, regions, logged, log)
 }
 
 // Whether the first `held` regions and the first `logged` log entries contradict themselves.
