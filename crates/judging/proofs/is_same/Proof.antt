@@ -1,18 +1,18 @@
-use Rattle.judging.proofs.same_rows.Statement.{statement}
-use Rattle.judging.proofs.same_rows.Tie as tie
 use Prim.Native.Nat.{_-_, _≤_}
-use mathlib.Core.Path.{_≡_, refl}
+use mathlib.Core.Path.{_≡_, refl, sym, _∙_}
 use mathlib.Core.Bool.{false≢true}
-use lib.ListN.{take}
+use lib.ListN.{length, take}
 use native.Mathlib.Numerals.{add-one}
+use lib.Seq.{take-all, take-suc}
 use borrow.Author.Needs.{needs}
-use lib.Seq.{take-suc}
+use Rattle.judging.proofs.is_same.Statement.{statement}
+use Rattle.judging.proofs.is_same.Tie as tie
 
 abbrev Inv-loop : tie.InvT-loop
-Inv-loop n a b i₀ i = (i ≤ n) × (take i a ≡ take i b)
+Inv-loop a b i₀ i = (i ≤ length a) × (take i a ≡ take i b)
 
 abbrev μ-loop : tie.MeasureT-loop
-μ-loop n a b i₀ i = n - i
+μ-loop a b i₀ i = length a - i
 
 loop-holds : tie.Need-loop-holds Inv-loop μ-loop
 loop-holds c = (search needs, refl)
@@ -45,10 +45,13 @@ loop-again c =
     (search needs, rw (add-one (l .loop .i), take-suc (s .a .now) (l .loop .i) 0 (search needs), take-suc (s .b .now) (l .loop .i) 0 (search needs), l .loop .inv .1, c .if1 .left))
 
 returns-2 : tie.Need-returns-2 Inv-loop μ-loop
-returns-2 c = let l = c .before in let e : l .before .args .n ≡ l .loop .i = search needs in λ q. rw e (l .loop .inv .1)
+returns-2 c =
+    let l = c .before in
+    let s = l .before .args in
+    λ q. sym (take-all (l .loop .i) (s .a .now) (search needs)) ∙ (l .loop .inv .1 ∙ take-all (l .loop .i) (s .b .now) (search needs))
 
-pub same-rows-spec : {M : Type 1} → statement M
-same-rows-spec =
+pub is-same-spec : {M : Type 1} → statement M
+is-same-spec =
     tie.close
     (tie.spec
     Inv-loop
