@@ -5,7 +5,7 @@ use mathlib.Core.List.{List, [], map}
 use lib.Dec.{eqb}
 use lib.ListN.{length, length-map}
 use Rattle.judging.specs.Marks.{isFaulty, isUnlisted}
-use Rattle.judging.specs.Reach.{clashBy, isRound, isRegion, keyed, linkOf, linksOf, placeIn, tableBy, tangledBy}
+use Rattle.judging.specs.Reach.{clashBy, isRegion, isRound, keyed, linkOf, linksOf, placeIn, tableBy, tangledBy}
 use Rattle.rules.proofs.Places.{any-map, place-map}
 use Rattle.rules.specs.Contradiction.{isAstray, isListed}
 use Rattle.rules.specs.Lists.{place}

@@ -9,11 +9,11 @@ ghost use mathlib.Core.Path.{_≡_};
 ghost use mathlib.Core.Bool.{_||_, _&&_, true};
 ghost use mathlib.Core.List.{map};
 ghost use lib.Dec.{eqb};
-ghost use lib.ListN.{drop, getD, length, take};
+ghost use lib.ListN.{getD, length, take};
 ghost use Rattle.undo.specs.Table.{any};
 ghost use Rattle.rules.specs.Lists.{all};
-ghost use Rattle.rules.specs.Contradiction.{anyBroken, brokenBefore, inOrder, isAstray, isBroken, isLeftOver, isListed};
-ghost use Rattle.judging.specs.Marks.{anyPair, contradictsIn, isFaulty, isUnlisted, noListed, stands};
+ghost use Rattle.rules.specs.Contradiction.{anyBroken, inOrder, isAstray, isBroken, isLeftOver, isListed};
+ghost use Rattle.judging.specs.Marks.{anyPair, contradictsIn, isFaulty, isUnlisted, stands};
 ghost use Rattle.judging.specs.Reach.{apartFrom, bitIf, clashBy, isApart, isRound, keyed, linkOf, linksOf, meet, placeIn, roundOf, roundsOf, rowOf, seesAt, stepTo, tableBy, tangledBy};
 
 pub fn least(a: usize, b: usize) -> usize
@@ -37,7 +37,7 @@ fn both(a: bool, b: bool) -> bool
 // ---- places
 
 // The keys of the first n regions, in their places.
-fn keys_of(n: usize, regions: [Listed; 32]) -> [u32; 32]
+pub fn keys_of(n: usize, regions: [Listed; 32]) -> [u32; 32]
     requires { ⌜ n ≤ 32 ⌝ }
     ensures { λ r. ⌜ take n r ≡ map (λ x. x .key) (take n regions) ⌝ }
 {
@@ -196,25 +196,15 @@ fn is_broken(a: Listed, b: Listed) -> bool
     both(a.key / 65536 == b.key / 65536, !both(follows, on))
 }
 
-fn broken_at(n: usize, regions: [Listed; 32], i: usize) -> bool
-    requires { ⌜ (n ≤ 32) × (i < n) ⌝ }
-    ensures { λ b. ⌜ b ≡ brokenBefore (getD regions i noListed) (drop (i + 1) (take n regions)) ⌝ }
-{
-    if n <= i + 1 {
-        return false;
-    }
-    let x = regions[i];
-    let y = regions[i + 1];
-    is_broken(x, y)
-}
-
 fn any_broken(n: usize, regions: [Listed; 32]) -> bool
     requires { ⌜ n ≤ 32 ⌝ }
     ensures { λ b. ⌜ b ≡ anyBroken (take n regions) ⌝ }
 {
     let mut i: usize = 0;
-    while i < n {
-        if broken_at(n, regions, i) {
+    while i + 1 < n {
+        let x = regions[i];
+        let y = regions[i + 1];
+        if is_broken(x, y) {
             return true;
         }
         i += 1;
@@ -300,6 +290,7 @@ fn round(links: &[[usize; 4]], rows: &[u32]) -> [u32; 32]
     wider
 }
 
+// Whether two tables of as many rows are the same; only a yes is relied on.
 fn is_same(a: &[u32], b: &[u32]) -> bool
     requires { ⌜ length (now a) ≡ length (now b) ⌝ }
     ensures { λ r. ⌜ (r ≡ true → now (a .entry) ≡ now (b .entry)) ⌝ }
@@ -441,8 +432,8 @@ fn meets(a: u32, b: u32) -> bool
     a & b != 0
 }
 
-// Whether a log entry is of a region that is not listed, or is apart from one behind it on its line. `seen` has for each line the places of the regions
-// that logged it behind entry i.
+// Whether a log entry is of a region that is not listed, or a line is logged by two regions that are apart. `seen` has for each line the places of the
+// regions that logged it behind entry i, as bits.
 fn any_clash(keys: &[u32], rows: &[u32], logged: usize, log: [Mark; 256]) -> bool
     requires { ⌜ (length (now keys) ≡ length (now rows)) × ((length (now rows) ≤ 32) × (logged ≤ 256)) ⌝ }
     ensures { λ r. ⌜ r ≡ (any (isUnlisted (keyed (now (keys .entry)))) (take logged log) || anyPair (clashBy (keyed (now (keys .entry))) (now (rows .entry))) (take logged log)) ⌝ }

@@ -1,14 +1,13 @@
-use lib.Seq.{getD-set-other, getD-set-same}
-use native.Mathlib.Omega.{arith}
-use mathlib.Core.Path.{_∙_}
-use borrow.Author.Count.{below-more}
-use Prim.Native.Nat.{_-_, _<_, _≤_, ℕ}
-use mathlib.Core.Path.{_≡_}
-use lib.ListN.{getD, length, length-set}
-use Rattle.judging.specs.Reach.{apartFrom}
-use borrow.Author.Needs.{needs}
 use Rattle.judging.proofs.all_apart.Statement.{statement}
 use Rattle.judging.proofs.all_apart.Tie as tie
+use Prim.Native.Nat.{_-_, _<_, _≤_, ℕ}
+use mathlib.Core.Path.{_∙_, _≡_}
+use lib.ListN.{getD, length, length-set}
+use lib.Seq.{getD-set-other, getD-set-same}
+use native.Mathlib.Omega.{arith}
+use borrow.Author.Count.{below-more}
+use borrow.Author.Needs.{needs}
+use Rattle.judging.specs.Reach.{apartFrom}
 
 abbrev Inv-loop : tie.InvT-loop
 Inv-loop rows apart₀ p₀ apart p = (p ≤ length rows) × ((length apart ≡ 32) × ((q : ℕ) → q < p → getD apart q 0 ≡ apartFrom rows q))

@@ -1,11 +1,11 @@
+use Rattle.judging.proofs.apart_from.Statement.{statement}
+use Rattle.judging.proofs.apart_from.Tie as tie
 use Prim.Native.Nat.{_-_, _≤_}
 use mathlib.Core.Path.{_≡_, refl}
 use lib.ListN.{length}
 use native.Mathlib.Numerals.{add-one}
-use Rattle.judging.specs.Reach.{bitsBelow, isApart}
 use borrow.Author.Needs.{needs}
-use Rattle.judging.proofs.apart_from.Statement.{statement}
-use Rattle.judging.proofs.apart_from.Tie as tie
+use Rattle.judging.specs.Reach.{bitsBelow, isApart}
 
 abbrev Inv-loop : tie.InvT-loop
 Inv-loop rows p bits₀ q₀ bits q = (q ≤ length rows) × (bits ≡ bitsBelow (isApart rows p) q)

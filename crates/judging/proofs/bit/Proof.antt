@@ -1,11 +1,11 @@
-use Prim.Native.Nat.{_^_}
-use native.Mathlib.Nat.{one-mul}
-use native.Mathlib.Omega.{arith}
-use mathlib.Core.Path.{_∙_}
-use lib.Pow.{shl-exact}
-use borrow.Author.Needs.{needs}
 use Rattle.judging.proofs.bit.Statement.{statement}
 use Rattle.judging.proofs.bit.Tie as tie
+use Prim.Native.Nat.{_^_}
+use mathlib.Core.Path.{_∙_}
+use lib.Pow.{shl-exact}
+use native.Mathlib.Nat.{one-mul}
+use native.Mathlib.Omega.{arith}
+use borrow.Author.Needs.{needs}
 
 cast-result : tie.Need-cast-result
 cast-result c = search needs

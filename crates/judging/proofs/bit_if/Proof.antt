@@ -1,6 +1,6 @@
-use borrow.Author.Needs.{needs}
 use Rattle.judging.proofs.bit_if.Statement.{statement}
 use Rattle.judging.proofs.bit_if.Tie as tie
+use borrow.Author.Needs.{needs}
 
 bit-requires : tie.Need-bit-requires
 bit-requires c κs = search needs

@@ -1,15 +1,15 @@
+use Rattle.judging.proofs.contradicts_first.Statement.{statement}
+use Rattle.judging.proofs.contradicts_first.Tie as tie
 use mathlib.Core.Path.{_∙_, _≡_, sym}
 use lib.ListN.{length, take}
 use lib.Seq.{length-take-le}
 use native.Mathlib.Omega.{arith}
+use borrow.Author.Needs.{needs}
 use Rattle.judging.proofs.Judged.{judged}
 use Rattle.judging.proofs.Keys.{faulty, tangled}
 use Rattle.judging.specs.Marks.{isFaulty}
 use Rattle.judging.specs.Reach.{tangledBy}
 use Rattle.undo.specs.Table.{any}
-use borrow.Author.Needs.{needs}
-use Rattle.judging.proofs.contradicts_first.Statement.{statement}
-use Rattle.judging.proofs.contradicts_first.Tie as tie
 
 -- as many keys as regions
 keys-long : (c : tie.After-keys-of) → let a = c .before .args in length (take (a .n) (c .keys-of .result)) ≡ a .n

@@ -1,6 +1,6 @@
-use borrow.Author.Needs.{needs}
 use Rattle.judging.proofs.is_apart.Statement.{statement}
 use Rattle.judging.proofs.is_apart.Tie as tie
+use borrow.Author.Needs.{needs}
 
 sees-requires : tie.Need-sees-requires
 sees-requires c κs = search needs

@@ -1,10 +1,10 @@
-use Rattle.lookup.proofs.Search.{found}
 use Rattle.judging.proofs.is_listed.Statement.{statement}
 use Rattle.judging.proofs.is_listed.Tie as tie
 use mathlib.Core.Path.{_∙_, refl, sym}
 use lib.Dec.{eqb}
-use Rattle.judging.proofs.Keys.{keyed-listed, keyed-place}
 use borrow.Author.Needs.{needs}
+use Rattle.judging.proofs.Keys.{keyed-listed, keyed-place}
+use Rattle.lookup.proofs.Search.{found}
 
 place-in-requires : tie.Need-place-in-requires
 place-in-requires c κs = search needs

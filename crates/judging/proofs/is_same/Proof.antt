@@ -1,12 +1,12 @@
-use Prim.Native.Nat.{_-_, _≤_}
-use mathlib.Core.Path.{_≡_, refl, sym, _∙_}
-use mathlib.Core.Bool.{false≢true}
-use lib.ListN.{length, take}
-use native.Mathlib.Numerals.{add-one}
-use lib.Seq.{take-all, take-suc}
-use borrow.Author.Needs.{needs}
 use Rattle.judging.proofs.is_same.Statement.{statement}
 use Rattle.judging.proofs.is_same.Tie as tie
+use Prim.Native.Nat.{_-_, _≤_}
+use mathlib.Core.Path.{_∙_, _≡_, refl, sym}
+use mathlib.Core.Bool.{false≢true}
+use lib.ListN.{length, take}
+use lib.Seq.{take-all, take-suc}
+use native.Mathlib.Numerals.{add-one}
+use borrow.Author.Needs.{needs}
 
 abbrev Inv-loop : tie.InvT-loop
 Inv-loop a b i₀ i = (i ≤ length a) × (take i a ≡ take i b)

@@ -1,18 +1,18 @@
+use Rattle.judging.proofs.rounds.Statement.{statement}
+use Rattle.judging.proofs.rounds.Tie as tie
 use Prim.Native.Nat.{_-_, _≤_, suc, zero, ℕ}
 use mathlib.Core.Path.{_∙_, _≡_, ap, sym}
 use mathlib.Core.List.{List}
-use lib.ListN.{length, take}
-use native.Mathlib.Omega.{arith}
-use native.Mathlib.Numerals.{add-one}
 use lib.Dec.{leb}
-use borrow.Author.Tests.{leb-false, leb-true}
+use lib.ListN.{length, take}
 use lib.Seq.{length-take-le}
-use Rattle.undo.proofs.Laws.{test}
+use native.Mathlib.Numerals.{add-one}
+use native.Mathlib.Omega.{arith}
+use borrow.Author.Needs.{needs}
+use borrow.Author.Tests.{leb-false, leb-true}
 use Rattle.judging.proofs.Search.{take-replicate}
 use Rattle.judging.specs.Reach.{roundOf, roundsOf}
-use borrow.Author.Needs.{needs}
-use Rattle.judging.proofs.rounds.Statement.{statement}
-use Rattle.judging.proofs.rounds.Tie as tie
+use Rattle.undo.proofs.Laws.{test}
 
 -- a round that adds nothing is the last to add anything
 still : (ls : List (List ℕ)) (k : ℕ) → roundOf ls (roundsOf k ls) ≡ roundsOf k ls → (n : ℕ) → k ≤ n → roundsOf n ls ≡ roundsOf k ls
