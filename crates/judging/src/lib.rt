@@ -1,31 +1,20 @@
 // Whether an image contradicts itself, by its regions and the marks of its log: the first `held` regions and the first `logged` marks count.
 //
-// What belongs to one region is tested region by region. Then every dependence and every log entry is known to be of a listed region, and a table of bits
-// tells which region reaches which: row p has bit q set where the region at place p reaches the region at place q.
+// What belongs to one region is tested region by region. Then every dependence is of a listed region, and a table of bits tells which region reaches which:
+// row p has bit q set where the region at place p reaches the region at place q. One pass over the log finds the lines that regions apart from each other logged.
 use rules::Listed;
 use rules::Mark;
-ghost use Prim.Native.Nat.{_<_, _≤_, _+_, min};
+ghost use Prim.Native.Nat.{_<_, _≤_, _+_, _^_, min, ℕ};
 ghost use mathlib.Core.Path.{_≡_};
-ghost use mathlib.Core.Bool.{_||_, _&&_};
+ghost use mathlib.Core.Bool.{_||_, _&&_, true};
 ghost use mathlib.Core.List.{map};
 ghost use lib.Dec.{eqb};
-ghost use lib.ListN.{drop, getD, take};
+ghost use lib.ListN.{getD, length, take};
 ghost use Rattle.undo.specs.Table.{any};
 ghost use Rattle.rules.specs.Lists.{all};
-ghost use Rattle.rules.specs.Contradiction.{anyBroken, brokenBefore, inOrder, isAstray, isBroken, isLeftOver, isListed, isUnknownState, isUnnumbered};
-ghost use Rattle.judging.specs.Marks.{anyPair, contradictsIn, isFaulty, isUnlisted, noListed, stands};
-ghost use Rattle.judging.specs.Reach.{clashAt, isRound, isTangled, linkOf, linksOf, noSpot, placeIn, roundOf, roundsOf, rowOf, seesAt, spotOf, stepTo, tableOf};
-
-// The places of a region's dependences; the number of regions for none.
-pub struct Link {
-    pub at: [usize; 4],
-}
-
-// A log entry by the place of its region, and its line.
-pub struct Spot {
-    pub at: usize,
-    pub line: u8,
-}
+ghost use Rattle.rules.specs.Contradiction.{anyBroken, inOrder, isAstray, isBroken, isLeftOver, isListed};
+ghost use Rattle.judging.specs.Marks.{anyPair, contradictsIn, isFaulty, isUnlisted, stands};
+ghost use Rattle.judging.specs.Reach.{apartFrom, bitIf, clashBy, isApart, isRound, keyed, linkOf, linksOf, meet, placeIn, roundOf, roundsOf, rowOf, seesAt, stepTo, tableBy, tangledBy};
 
 pub fn least(a: usize, b: usize) -> usize
     ensures { λ r. ⌜ r ≡ min a b ⌝ }
@@ -47,24 +36,31 @@ fn both(a: bool, b: bool) -> bool
 
 // ---- places
 
-fn is_key(r: Listed, key: u32) -> bool
-    ensures { λ b. ⌜ b ≡ eqb (r .key) key ⌝ }
+// The keys of the first n regions, in their places.
+pub fn keys_of(n: usize, regions: [Listed; 32]) -> [u32; 32]
+    requires { ⌜ n ≤ 32 ⌝ }
+    ensures { λ r. ⌜ take n r ≡ map (λ x. x .key) (take n regions) ⌝ }
 {
-    r.key == key
+    let mut keys = [0u32; 32];
+    let mut i: usize = 0;
+    while i < n {
+        let x = regions[i];
+        keys[i] = x.key;
+        i += 1;
+    }
+    keys
 }
 
-// The place of region `key`; n where it is not listed.
-fn place_in(n: usize, regions: [Listed; 32], key: u32) -> usize
-    requires { ⌜ n ≤ 32 ⌝ }
-    ensures { λ r. ⌜ r ≡ placeIn (take n regions) key ⌝ }
+// The place of region `key`; the number of regions where it is not listed.
+fn place_in(keys: &[u32], key: u32) -> usize
+    ensures { λ r. ⌜ r ≡ placeIn (keyed (now (keys .entry))) key ⌝ }
 {
     let mut i: usize = 0;
     let at = loop {
-        if n <= i {
+        if keys.len() <= i {
             break i;
         }
-        let x = regions[i];
-        if is_key(x, key) {
+        if keys[i] == key {
             break i;
         }
         i += 1;
@@ -72,11 +68,10 @@ fn place_in(n: usize, regions: [Listed; 32], key: u32) -> usize
     at
 }
 
-fn is_listed(n: usize, regions: [Listed; 32], key: u32) -> bool
-    requires { ⌜ n ≤ 32 ⌝ }
-    ensures { λ r. ⌜ r ≡ isListed key (take n regions) ⌝ }
+fn is_listed(keys: &[u32], key: u32) -> bool
+    ensures { λ r. ⌜ r ≡ isListed key (keyed (now (keys .entry))) ⌝ }
 {
-    place_in(n, regions, key) < n
+    place_in(keys, key) < keys.len()
 }
 
 // ---- what is wrong with a region by itself
@@ -129,28 +124,26 @@ pub fn depends(deps: [u32; 4], key: u32) -> bool
 }
 
 // A dependence on a region that is not listed.
-fn is_astray(n: usize, regions: [Listed; 32], d: u32) -> bool
-    requires { ⌜ n ≤ 32 ⌝ }
-    ensures { λ r. ⌜ r ≡ isAstray (take n regions) d ⌝ }
+fn is_astray(keys: &[u32], d: u32) -> bool
+    ensures { λ r. ⌜ r ≡ isAstray (keyed (now (keys .entry))) d ⌝ }
 {
     if d == 0 {
         return false;
     }
-    !is_listed(n, regions, d)
+    !is_listed(keys, d)
 }
 
-fn has_astray(n: usize, regions: [Listed; 32], deps: [u32; 4]) -> bool
-    requires { ⌜ n ≤ 32 ⌝ }
-    ensures { λ r. ⌜ r ≡ any (isAstray (take n regions)) deps ⌝ }
+fn has_astray(keys: &[u32], deps: [u32; 4]) -> bool
+    ensures { λ r. ⌜ r ≡ any (isAstray (keyed (now (keys .entry)))) deps ⌝ }
 {
     let d0 = deps[0];
     let d1 = deps[1];
     let d2 = deps[2];
     let d3 = deps[3];
-    let a0 = is_astray(n, regions, d0);
-    let a1 = is_astray(n, regions, d1);
-    let a2 = is_astray(n, regions, d2);
-    let a3 = is_astray(n, regions, d3);
+    let a0 = is_astray(keys, d0);
+    let a1 = is_astray(keys, d1);
+    let a2 = is_astray(keys, d2);
+    let a3 = is_astray(keys, d3);
     either(a0, either(a1, either(a2, a3)))
 }
 
@@ -162,13 +155,12 @@ fn is_left_over(r: Listed) -> bool
     both(r.state == 1, none)
 }
 
-fn is_faulty(n: usize, regions: [Listed; 32], r: Listed) -> bool
-    requires { ⌜ n ≤ 32 ⌝ }
-    ensures { λ b. ⌜ b ≡ isFaulty (take n regions) r ⌝ }
+fn is_faulty(keys: &[u32], r: Listed) -> bool
+    ensures { λ b. ⌜ b ≡ isFaulty (keyed (now (keys .entry))) r ⌝ }
 {
     let deps = r.deps;
     let order = in_order(deps);
-    let astray = has_astray(n, regions, deps);
+    let astray = has_astray(keys, deps);
     let left = is_left_over(r);
     either(
         r.key % 65536 == 0,
@@ -176,14 +168,14 @@ fn is_faulty(n: usize, regions: [Listed; 32], r: Listed) -> bool
     )
 }
 
-fn any_faulty(n: usize, regions: [Listed; 32]) -> bool
-    requires { ⌜ n ≤ 32 ⌝ }
-    ensures { λ b. ⌜ b ≡ any (isFaulty (take n regions)) (take n regions) ⌝ }
+fn any_faulty(keys: &[u32], regions: [Listed; 32]) -> bool
+    requires { ⌜ length (now keys) ≤ 32 ⌝ }
+    ensures { λ b. ⌜ b ≡ any (isFaulty (keyed (now (keys .entry)))) (take (length (now (keys .entry))) regions) ⌝ }
 {
     let mut i: usize = 0;
-    while i < n {
+    while i < keys.len() {
         let x = regions[i];
-        if is_faulty(n, regions, x) {
+        if is_faulty(keys, x) {
             return true;
         }
         i += 1;
@@ -204,49 +196,15 @@ fn is_broken(a: Listed, b: Listed) -> bool
     both(a.key / 65536 == b.key / 65536, !both(follows, on))
 }
 
-fn broken_at(n: usize, regions: [Listed; 32], i: usize) -> bool
-    requires { ⌜ (n ≤ 32) × (i < n) ⌝ }
-    ensures { λ b. ⌜ b ≡ brokenBefore (getD regions i noListed) (drop (i + 1) (take n regions)) ⌝ }
-{
-    if n <= i + 1 {
-        return false;
-    }
-    let x = regions[i];
-    let y = regions[i + 1];
-    is_broken(x, y)
-}
-
 fn any_broken(n: usize, regions: [Listed; 32]) -> bool
     requires { ⌜ n ≤ 32 ⌝ }
     ensures { λ b. ⌜ b ≡ anyBroken (take n regions) ⌝ }
 {
     let mut i: usize = 0;
-    while i < n {
-        if broken_at(n, regions, i) {
-            return true;
-        }
-        i += 1;
-    }
-    false
-}
-
-// ---- the log
-
-fn is_unlisted(n: usize, regions: [Listed; 32], m: Mark) -> bool
-    requires { ⌜ n ≤ 32 ⌝ }
-    ensures { λ b. ⌜ b ≡ isUnlisted (take n regions) m ⌝ }
-{
-    !is_listed(n, regions, m.key)
-}
-
-fn any_unlisted(n: usize, regions: [Listed; 32], logged: usize, log: [Mark; 256]) -> bool
-    requires { ⌜ (n ≤ 32) × (logged ≤ 256) ⌝ }
-    ensures { λ b. ⌜ b ≡ any (isUnlisted (take n regions)) (take logged log) ⌝ }
-{
-    let mut i: usize = 0;
-    while i < logged {
-        let x = log[i];
-        if is_unlisted(n, regions, x) {
+    while i + 1 < n {
+        let x = regions[i];
+        let y = regions[i + 1];
+        if is_broken(x, y) {
             return true;
         }
         i += 1;
@@ -256,126 +214,134 @@ fn any_unlisted(n: usize, regions: [Listed; 32], logged: usize, log: [Mark; 256]
 
 // ---- which region reaches which
 
-fn link_of(n: usize, regions: [Listed; 32], d: u32) -> usize
-    requires { ⌜ n ≤ 32 ⌝ }
-    ensures { λ r. ⌜ r ≡ linkOf (take n regions) d ⌝ }
+fn link_of(keys: &[u32], d: u32) -> usize
+    ensures { λ r. ⌜ r ≡ linkOf (keyed (now (keys .entry))) d ⌝ }
 {
     if d == 0 {
-        return n;
+        return keys.len();
     }
-    place_in(n, regions, d)
+    place_in(keys, d)
 }
 
-fn link_four(n: usize, regions: [Listed; 32], deps: [u32; 4]) -> [usize; 4]
-    requires { ⌜ n ≤ 32 ⌝ }
-    ensures { λ r. ⌜ r ≡ map (linkOf (take n regions)) deps ⌝ }
+// The places of a region's dependences; the number of regions for none.
+fn links_of(keys: &[u32], r: Listed) -> [usize; 4]
+    ensures { λ l. ⌜ l ≡ linksOf (keyed (now (keys .entry))) r ⌝ }
 {
-    let d0 = deps[0];
-    let d1 = deps[1];
-    let d2 = deps[2];
-    let d3 = deps[3];
-    let a0 = link_of(n, regions, d0);
-    let a1 = link_of(n, regions, d1);
-    let a2 = link_of(n, regions, d2);
-    let a3 = link_of(n, regions, d3);
+    let deps = r.deps;
+    let a0 = link_of(keys, deps[0]);
+    let a1 = link_of(keys, deps[1]);
+    let a2 = link_of(keys, deps[2]);
+    let a3 = link_of(keys, deps[3]);
     [a0, a1, a2, a3]
 }
 
-fn links_of(n: usize, regions: [Listed; 32], r: Listed) -> Link
-    requires { ⌜ n ≤ 32 ⌝ }
-    ensures { λ l. ⌜ l ≡ linksOf (take n regions) r ⌝ }
+fn all_links(keys: &[u32], regions: [Listed; 32]) -> [[usize; 4]; 32]
+    requires { ⌜ length (now keys) ≤ 32 ⌝ }
+    ensures { λ r. ⌜ take (length (now (keys .entry))) r ≡ map (linksOf (keyed (now (keys .entry)))) (take (length (now (keys .entry))) regions) ⌝ }
 {
-    let deps = r.deps;
-    let at = link_four(n, regions, deps);
-    Link { at }
-}
-
-fn all_links(n: usize, regions: [Listed; 32]) -> [Link; 32]
-    requires { ⌜ n ≤ 32 ⌝ }
-    ensures { λ r. ⌜ take n r ≡ map (linksOf (take n regions)) (take n regions) ⌝ }
-{
-    let none = Link { at: [0; 4] };
-    let mut links = [none; 32];
+    let mut links = [[0; 4]; 32];
     let mut i: usize = 0;
-    while i < n {
+    while i < keys.len() {
         let x = regions[i];
-        links[i] = links_of(n, regions, x);
+        links[i] = links_of(keys, x);
         i += 1;
     }
     links
 }
 
-// What one dependence adds to a row: its own place, and what the row of that place has.
-fn step_to(n: usize, rows: [u32; 32], q: usize) -> u32
-    requires { ⌜ n ≤ 32 ⌝ }
-    ensures { λ r. ⌜ r ≡ stepTo (take n rows) q ⌝ }
+fn bit(p: usize) -> u32
+    requires { ⌜ p < 32 ⌝ }
+    ensures { λ r. ⌜ r ≡ 2 ^ p ⌝ }
 {
-    if q < n {
-        let bit = 1u32 << q;
-        bit | rows[q]
-    } else {
-        0
-    }
+    1u32 << p
 }
 
-fn row_of(n: usize, rows: [u32; 32], l: Link) -> u32
-    requires { ⌜ n ≤ 32 ⌝ }
-    ensures { λ r. ⌜ r ≡ rowOf (take n rows) (l .at) ⌝ }
+// What one dependence adds to a row: its own place, and what the row of that place has.
+fn step_to(rows: &[u32], q: usize) -> u32
+    requires { ⌜ length (now rows) ≤ 32 ⌝ }
+    ensures { λ r. ⌜ r ≡ stepTo (now (rows .entry)) q ⌝ }
 {
-    let at = l.at;
-    let r0 = step_to(n, rows, at[0]);
-    let r1 = step_to(n, rows, at[1]);
-    let r2 = step_to(n, rows, at[2]);
-    let r3 = step_to(n, rows, at[3]);
+    if q < rows.len() { bit(q) | rows[q] } else { 0 }
+}
+
+fn row_of(rows: &[u32], at: [usize; 4]) -> u32
+    requires { ⌜ length (now rows) ≤ 32 ⌝ }
+    ensures { λ r. ⌜ r ≡ rowOf (now (rows .entry)) at ⌝ }
+{
+    let r0 = step_to(rows, at[0]);
+    let r1 = step_to(rows, at[1]);
+    let r2 = step_to(rows, at[2]);
+    let r3 = step_to(rows, at[3]);
     r0 | (r1 | (r2 | r3))
 }
 
 // The rows for one dependence more.
-fn round(n: usize, links: [Link; 32], rows: [u32; 32]) -> [u32; 32]
-    requires { ⌜ n ≤ 32 ⌝ }
-    ensures { λ r. ⌜ take n r ≡ roundOf (take n links) (take n rows) ⌝ }
+fn round(links: &[[usize; 4]], rows: &[u32]) -> [u32; 32]
+    requires { ⌜ (length (now links) ≡ length (now rows)) × (length (now rows) ≤ 32) ⌝ }
+    ensures { λ r. ⌜ take (length (now (rows .entry))) r ≡ roundOf (now (links .entry)) (now (rows .entry)) ⌝ }
 {
     let mut wider = [0u32; 32];
     let mut i: usize = 0;
-    while i < n {
-        let l = links[i];
-        wider[i] = row_of(n, rows, l);
+    while i < rows.len() {
+        let at = links[i];
+        wider[i] = row_of(rows, at);
         i += 1;
     }
     wider
 }
 
-fn rounds(n: usize, links: [Link; 32]) -> [u32; 32]
-    requires { ⌜ n ≤ 32 ⌝ }
-    ensures { λ r. ⌜ take n r ≡ roundsOf n (take n links) ⌝ }
+// Whether two tables of as many rows are the same; only a yes is relied on.
+fn is_same(a: &[u32], b: &[u32]) -> bool
+    requires { ⌜ length (now a) ≡ length (now b) ⌝ }
+    ensures { λ r. ⌜ (r ≡ true → now (a .entry) ≡ now (b .entry)) ⌝ }
 {
+    let mut i: usize = 0;
+    while i < a.len() {
+        if a[i] != b[i] {
+            return false;
+        }
+        i += 1;
+    }
+    true
+}
+
+// Rounds until one adds nothing.
+fn rounds(links: &[[usize; 4]]) -> [u32; 32]
+    requires { ⌜ length (now links) ≤ 32 ⌝ }
+    ensures { λ r. ⌜ take (length (now (links .entry))) r ≡ roundsOf (length (now (links .entry))) (now (links .entry)) ⌝ }
+{
+    let n = links.len();
     let mut rows = [0u32; 32];
     let mut k: usize = 0;
     while k < n {
-        let wider = round(n, links, rows);
+        let wider = round(links, &rows[..n]);
+        if is_same(&wider[..n], &rows[..n]) {
+            return rows;
+        }
         rows = wider;
         k += 1;
     }
     rows
 }
 
-fn reach_table(n: usize, regions: [Listed; 32]) -> [u32; 32]
-    requires { ⌜ n ≤ 32 ⌝ }
-    ensures { λ r. ⌜ take n r ≡ tableOf (take n regions) ⌝ }
+fn reach_table(keys: &[u32], regions: [Listed; 32]) -> [u32; 32]
+    requires { ⌜ length (now keys) ≤ 32 ⌝ }
+    ensures { λ r. ⌜ take (length (now (keys .entry))) r ≡ tableBy (keyed (now (keys .entry))) (take (length (now (keys .entry))) regions) ⌝ }
 {
-    let links = all_links(n, regions);
-    rounds(n, links)
+    let n = keys.len();
+    let links = all_links(keys, regions);
+    rounds(&links[..n])
 }
 
 // Whether the region at place p reaches the region at place q; false for a place behind the list.
-fn sees(n: usize, rows: [u32; 32], p: usize, q: usize) -> bool
-    requires { ⌜ n ≤ 32 ⌝ }
-    ensures { λ r. ⌜ r ≡ seesAt (take n rows) p q ⌝ }
+fn sees(rows: &[u32], p: usize, q: usize) -> bool
+    requires { ⌜ length (now rows) ≤ 32 ⌝ }
+    ensures { λ r. ⌜ r ≡ seesAt (now (rows .entry)) p q ⌝ }
 {
-    if n <= p {
+    if rows.len() <= p {
         return false;
     }
-    if n <= q {
+    if rows.len() <= q {
         return false;
     }
     let row = rows[p];
@@ -384,22 +350,22 @@ fn sees(n: usize, rows: [u32; 32], p: usize, q: usize) -> bool
 
 // ---- circles
 
-fn is_round(n: usize, regions: [Listed; 32], rows: [u32; 32], r: Listed) -> bool
-    requires { ⌜ n ≤ 32 ⌝ }
-    ensures { λ b. ⌜ b ≡ isRound (take n regions) (take n rows) r ⌝ }
+fn is_round(keys: &[u32], rows: &[u32], r: Listed) -> bool
+    requires { ⌜ length (now rows) ≤ 32 ⌝ }
+    ensures { λ b. ⌜ b ≡ isRound (keyed (now (keys .entry))) (now (rows .entry)) r ⌝ }
 {
-    let p = place_in(n, regions, r.key);
-    sees(n, rows, p, p)
+    let p = place_in(keys, r.key);
+    sees(rows, p, p)
 }
 
-fn any_round(n: usize, regions: [Listed; 32], rows: [u32; 32]) -> bool
-    requires { ⌜ n ≤ 32 ⌝ }
-    ensures { λ b. ⌜ b ≡ any (isRound (take n regions) (take n rows)) (take n regions) ⌝ }
+fn any_round(keys: &[u32], rows: &[u32], regions: [Listed; 32]) -> bool
+    requires { ⌜ length (now rows) ≤ 32 ⌝ }
+    ensures { λ b. ⌜ b ≡ any (isRound (keyed (now (keys .entry))) (now (rows .entry))) (take (length (now (rows .entry))) regions) ⌝ }
 {
     let mut i: usize = 0;
-    while i < n {
+    while i < rows.len() {
         let x = regions[i];
-        if is_round(n, regions, rows, x) {
+        if is_round(keys, rows, x) {
             return true;
         }
         i += 1;
@@ -409,106 +375,117 @@ fn any_round(n: usize, regions: [Listed; 32], rows: [u32; 32]) -> bool
 
 // ---- lines logged twice
 
-fn spot_of(n: usize, regions: [Listed; 32], m: Mark) -> Spot
-    requires { ⌜ n ≤ 32 ⌝ }
-    ensures { λ r. ⌜ r ≡ spotOf (take n regions) m ⌝ }
+// Whether the regions at two places may not log one line both: they are one, or neither reaches the other.
+fn is_apart(rows: &[u32], p: usize, q: usize) -> bool
+    requires { ⌜ length (now rows) ≤ 32 ⌝ }
+    ensures { λ r. ⌜ r ≡ isApart (now (rows .entry)) p q ⌝ }
 {
-    let at = place_in(n, regions, m.key);
-    Spot { at, line: m.line }
+    let there = sees(rows, p, q);
+    let back = sees(rows, q, p);
+    either(p == q, !either(there, back))
 }
 
-fn all_spots(n: usize, regions: [Listed; 32], logged: usize, log: [Mark; 256]) -> [Spot; 256]
-    requires { ⌜ (n ≤ 32) × (logged ≤ 256) ⌝ }
-    ensures { λ r. ⌜ take logged r ≡ map (spotOf (take n regions)) (take logged log) ⌝ }
+fn bit_if(b: bool, p: usize) -> u32
+    requires { ⌜ p < 32 ⌝ }
+    ensures { λ r. ⌜ r ≡ bitIf b p ⌝ }
 {
-    let none = Spot { at: 0, line: 0 };
-    let mut spots = [none; 256];
-    let mut i: usize = 0;
-    while i < logged {
-        let x = log[i];
-        spots[i] = spot_of(n, regions, x);
-        i += 1;
-    }
-    spots
+    if b { bit(p) } else { 0 }
 }
 
-fn clashes(n: usize, rows: [u32; 32], a: Spot, b: Spot) -> bool
-    requires { ⌜ n ≤ 32 ⌝ }
-    ensures { λ r. ⌜ r ≡ clashAt (take n rows) a b ⌝ }
+// The places that are apart from place p, as bits.
+fn apart_from(rows: &[u32], p: usize) -> u32
+    requires { ⌜ length (now rows) ≤ 32 ⌝ }
+    ensures { λ r. ⌜ r ≡ apartFrom (now (rows .entry)) p ⌝ }
 {
-    if a.line != b.line {
-        return false;
+    let mut bits: u32 = 0;
+    let mut q: usize = 0;
+    while q < rows.len() {
+        let apart = is_apart(rows, p, q);
+        bits = bit_if(apart, q) | bits;
+        q += 1;
     }
-    let p = a.at;
-    let q = b.at;
-    if p == q {
-        return true;
-    }
-    let there = sees(n, rows, p, q);
-    let back = sees(n, rows, q, p);
-    !either(there, back)
+    bits
 }
 
-// Whether the log entry at i clashes with one behind it.
-fn clash_from(n: usize, rows: [u32; 32], logged: usize, spots: [Spot; 256], i: usize) -> bool
-    requires { ⌜ (n ≤ 32) × ((logged ≤ 256) × (i < logged)) ⌝ }
-    ensures { λ r. ⌜ r ≡ any (clashAt (take n rows) (getD spots i noSpot)) (drop (i + 1) (take logged spots)) ⌝ }
+fn all_apart(rows: &[u32]) -> [u32; 32]
+    requires { ⌜ length (now rows) ≤ 32 ⌝ }
+    ensures { λ r. ⌜ ((p : ℕ) → p < length (now (rows .entry)) → getD r p 0 ≡ apartFrom (now (rows .entry)) p) ⌝ }
 {
-    let a = spots[i];
-    let mut j: usize = i + 1;
-    while j < logged {
-        let b = spots[j];
-        if clashes(n, rows, a, b) {
+    let mut apart = [0u32; 32];
+    let mut p: usize = 0;
+    while p < rows.len() {
+        apart[p] = apart_from(rows, p);
+        p += 1;
+    }
+    apart
+}
+
+fn line_of(m: Mark) -> usize
+    ensures { λ r. ⌜ (r ≡ m .line) × (r < 256) ⌝ }
+{
+    m.line as usize
+}
+
+fn meets(a: u32, b: u32) -> bool
+    ensures { λ r. ⌜ r ≡ meet a b ⌝ }
+{
+    a & b != 0
+}
+
+// Whether a log entry is of a region that is not listed, or a line is logged by two regions that are apart. `seen` has for each line the places of the
+// regions that logged it behind entry i, as bits.
+fn any_clash(keys: &[u32], rows: &[u32], logged: usize, log: [Mark; 256]) -> bool
+    requires { ⌜ (length (now keys) ≡ length (now rows)) × ((length (now rows) ≤ 32) × (logged ≤ 256)) ⌝ }
+    ensures { λ r. ⌜ r ≡ (any (isUnlisted (keyed (now (keys .entry)))) (take logged log) || anyPair (clashBy (keyed (now (keys .entry))) (now (rows .entry))) (take logged log)) ⌝ }
+{
+    let apart = all_apart(rows);
+    let mut seen = [0u32; 256];
+    let mut i = logged;
+    while 0 < i {
+        i -= 1;
+        let m = log[i];
+        let p = place_in(keys, m.key);
+        if keys.len() <= p {
             return true;
         }
-        j += 1;
-    }
-    false
-}
-
-fn any_clash(n: usize, rows: [u32; 32], logged: usize, spots: [Spot; 256]) -> bool
-    requires { ⌜ (n ≤ 32) × (logged ≤ 256) ⌝ }
-    ensures { λ r. ⌜ r ≡ anyPair (clashAt (take n rows)) (take logged spots) ⌝ }
-{
-    let mut i: usize = 0;
-    while i < logged {
-        if clash_from(n, rows, logged, spots, i) {
+        let l = line_of(m);
+        if meets(apart[p], seen[l]) {
             return true;
         }
-        i += 1;
+        seen[l] = bit(p) | seen[l];
     }
     false
 }
 
 // ---- the whole
 
-// A circle, or a line logged twice, where every dependence and every log entry is of a listed region.
-fn is_tangled(n: usize, regions: [Listed; 32], logged: usize, log: [Mark; 256]) -> bool
-    requires { ⌜ (n ≤ 32) × (logged ≤ 256) ⌝ }
-    ensures { λ r. ⌜ r ≡ isTangled (take n regions) (take logged log) ⌝ }
+// A circle, a log entry of a region that is not listed, or a line logged twice, where every dependence is of a listed region.
+fn is_tangled(keys: &[u32], regions: [Listed; 32], logged: usize, log: [Mark; 256]) -> bool
+    requires { ⌜ (length (now keys) ≤ 32) × (logged ≤ 256) ⌝ }
+    ensures { λ r. ⌜ r ≡ tangledBy (keyed (now (keys .entry))) (take (length (now (keys .entry))) regions) (take logged log) ⌝ }
 {
-    let rows = reach_table(n, regions);
-    let spots = all_spots(n, regions, logged, log);
-    if any_round(n, regions, rows) {
+    let n = keys.len();
+    let table = reach_table(keys, regions);
+    let rows = &table[..n];
+    if any_round(keys, rows, regions) {
         return true;
     }
-    any_clash(n, rows, logged, spots)
+    any_clash(keys, rows, logged, log)
 }
 
 fn contradicts_first(n: usize, regions: [Listed; 32], logged: usize, log: [Mark; 256]) -> bool
     requires { ⌜ (n ≤ 32) × (logged ≤ 256) ⌝ }
     ensures { λ r. ⌜ r ≡ contradictsIn (take n regions) (take logged log) ⌝ }
 {
-    if any_faulty(n, regions) {
+    let table = keys_of(n, regions);
+    let keys = &table[..n];
+    if any_faulty(keys, regions) {
         return true;
     }
     if any_broken(n, regions) {
         return true;
     }
-    if any_unlisted(n, regions, logged, log) {
-        return true;
-    }
-    is_tangled(n, regions, logged, log)
+    is_tangled(keys, regions, logged, log)
 }
 
 // Whether the first `held` regions and the first `logged` log entries contradict themselves.

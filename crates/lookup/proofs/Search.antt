@@ -49,6 +49,9 @@ module _ {A : Type 0} (p : A → Bool) where
   unfolding place
   place-end i xs h = rw (drop-of-length-le xs h) (omega arith)
 
+  pub any-end : (i : ℕ) (xs : List A) → length xs ≤ i → any p (drop i xs) ≡ false
+  any-end i xs h = rw (drop-of-length-le xs h)
+
   pub count-end : (c i : ℕ) (xs : List A) → length xs ≤ i → c + count p (drop i xs) ≡ c
   unfolding count
   count-end c i xs h = rw (drop-of-length-le xs h) (omega arith)
@@ -61,6 +64,12 @@ module _ {A : Type 0} (p : A → Bool) where
     pub place-on : p (getD xs i d) ≡ false → (i + 1) + place p (drop (i + 1) xs) ≡ i + place p (drop i xs)
     unfolding place
     place-on e = rw (add-one i, drop-cons xs i d h, e) (omega arith)
+
+    pub any-hit : p (getD xs i d) ≡ true → any p (drop i xs) ≡ true
+    any-hit e = rw (drop-cons xs i d h, e)
+
+    pub any-on : p (getD xs i d) ≡ false → any p (drop (i + 1) xs) ≡ any p (drop i xs)
+    any-on e = rw (add-one i, drop-cons xs i d h, e)
 
     pub count-on : (c : ℕ) → (c + cond (p (getD xs i d)) 1 0) + count p (drop (i + 1) xs) ≡ c + count p (drop i xs)
     unfolding count

@@ -1,18 +1,17 @@
 -- The entry that a step puts back, by its place in the log, and what the step then leaves.
-use Rattle.reading.specs.declared.Read.{Read}
-use Rattle.walking.specs.Indices.{entryAt}
 use Prim.Native.Nat.{_*_, _+_, _<_, _≤_, suc, zero, ℕ}
 use mathlib.Core.Path.{_∙_, _≡_, ap, refl, sym}
 use mathlib.Core.Bool.{Bool, cond, false, true}
-use mathlib.Core.List.{List, [], _∷_, map}
+use mathlib.Core.List.{List, [], _∷_, map, map-map}
 use lib.Dec.{eqb, ltb}
 use lib.ListN.{drop, getD, length, length-append, length-drop, length-map}
-use native.Mathlib.Omega.{arith}
-use native.Mathlib.Numerals.{add-one}
-use borrow.Author.Tests.{ne-eqb}
 use lib.Seq.{getD-take}
+use native.Mathlib.Numerals.{add-one}
+use native.Mathlib.Omega.{arith}
+use borrow.Author.Tests.{ne-eqb}
 use Rattle.reading.proofs.Walk.{read-few}
-use Rattle.reading.specs.Scan.{markOf, noMark, readOf, scanOf}
+use Rattle.reading.specs.Scan.{markOf, readOf, scanOf}
+use Rattle.reading.specs.declared.Read.{Read}
 use Rattle.reading.specs.declared.Scan.{Scan}
 use Rattle.recovery.proofs.Accepted.{held-few, log-front, logged-few, reads-plain, refuses-plain, regions-front, scan-read}
 use Rattle.recovery.proofs.Numbers.{image-said}
@@ -29,13 +28,13 @@ use Rattle.rules.specs.Lists.{all}
 use Rattle.rules.specs.Reader.{Reads, readImage}
 use Rattle.rules.specs.Recovery.{answered, lineStart, restore}
 use Rattle.rules.specs.Walk.{nextPlace, walk, walkEntries, walkFrom, without}
-use Rattle.rules.specs.declared.Found.{Found}
 use Rattle.rules.specs.declared.Found.the-variants.{At, Full}
+use Rattle.rules.specs.declared.Found.{Found}
 use Rattle.rules.specs.declared.Listed.{Listed}
 use Rattle.rules.specs.declared.Mark.{Mark}
 use Rattle.undo.proofs.Laws.{test}
-use Rattle.walking.proofs.Walked.{entry-found, entry-none, found-below, noLogged, walk-entries}
-use Rattle.walking.specs.Indices.{indicesOf, isMark, lastFirst, walkIndices}
+use Rattle.walking.proofs.Walked.{entry-found, entry-none, found-below, indicesIn, keysOf, noLogged, walk-entries}
+use Rattle.walking.specs.Indices.{indicesOf, lastFirst, nth, walkIndices}
 
 map-at : {A B : Type 0} (f : A → B) (l : List A) (i : ℕ) (d : B) (z : A) → i < length l → getD (map f l) i d ≡ f (getD l i z)
 map-at f [] i d z h = absurd (omega arith)
@@ -44,19 +43,19 @@ map-at f (x ∷ l) (suc i) d z h = map-at f l i d z (omega arith)
 
 -- ---- the walk has at most 8192 entries
 
-last-long : (k n : ℕ) (ms : List Mark) → length (lastFirst k n ms) ≤ n
+last-long : (k n : ℕ) (ks : List ℕ) → length (lastFirst k n ks) ≤ n
 unfolding lastFirst
-last-long k zero ms = omega arith
-last-long k (suc n) ms =
-    let ih = last-long k n ms in
-    test (isMark k (getD ms n noMark)) (λ e. rw e (omega arith)) (λ e. rw e (omega arith))
+last-long k zero ks = omega arith
+last-long k (suc n) ks =
+    let ih = last-long k n ks in
+    test (eqb (getD ks n 0) k) (λ e. rw e (omega arith)) (λ e. rw e (omega arith))
 
-indices-long : (ks : List ℕ) (ms : List Mark) → length ms ≤ 256 → length (walkIndices ks ms) ≤ 256 * length ks
+indices-long : (rs ks : List ℕ) → length ks ≤ 256 → length (walkIndices rs ks) ≤ 256 * length rs
 unfolding walkIndices
-indices-long [] ms h = omega arith
-indices-long (k ∷ ks) ms h =
-    let ih = indices-long ks ms h in
-    rw (length-append (indicesOf ms k) (walkIndices ks ms)) (omega (arith, last-long k (length ms) ms))
+indices-long [] ks h = omega arith
+indices-long (k ∷ rs) ks h =
+    let ih = indices-long rs ks h in
+    rw (length-append (indicesOf ks k) (walkIndices rs ks)) (omega (arith, last-long k (length ks) ks))
 
 walk-short : (n : ℕ) (rs : List Listed) → length (walkFrom n rs) ≤ n
 unfolding walkFrom
@@ -71,10 +70,9 @@ walk-short (suc n) rs = go (ltb (nextPlace rs) (length rs)) (walk-short n (witho
 walk-few : (p : Persistent) → (length (p .regions) ≤ 32) × (length (p .log) ≤ 256) → length (walkEntries p) ≤ 8192
 unfolding walk
 walk-few p few =
-    let m : length (map markOf (p .log)) ≡ length (p .log) = length-map (p .log) markOf in
-    let n : length (walkEntries p) ≡ length (walkIndices (walk p) (map markOf (p .log))) =
-    rw (walk-entries p) (length-map (walkIndices (walk p) (map markOf (p .log))) (λ i. getD (p .log) i noLogged)) in
-    omega (arith, indices-long (walk p) (map markOf (p .log)) (omega (arith, few .1)), walk-short (length (p .regions)) (p .regions), few .0)
+    let m : length (keysOf p) ≡ length (p .log) = length-map (p .log) (λ e. e .key) in
+    let n : length (walkEntries p) ≡ length (indicesIn p) = rw (walk-entries p) (length-map (indicesIn p) (λ i. getD (p .log) i noLogged)) in
+    omega (arith, indices-long (walk p) (keysOf p) (omega (arith, few .1)), walk-short (length (p .regions)) (p .regions), few .0)
 
 -- ---- the entry at a place of the walk
 
@@ -83,9 +81,9 @@ module _ (s : Scan) (p : Persistent) (e : s ≡ scanOf p) (few : (length (p .reg
   unfolding scanOf
   logged-is = ap (λ x. x .logged) e
 
-  found-is : (at : ℕ) → foundAt s at ≡ entryAt (walk p) (map markOf (p .log)) at
+  found-is : (at : ℕ) → foundAt s at ≡ nth (indicesIn p) at
   unfolding walk
-  found-is at = rw (regions-front s p e few, log-front s p e few)
+  found-is at = rw (regions-front s p e few, log-front s p e few, map-map (λ m. m .key) markOf (p .log))
 
   pub none-found : (at : ℕ) → foundAt s at ≡ Full → drop at (walkEntries p) ≡ []
   none-found at f = entry-none p at (sym (found-is at) ∙ f)
@@ -95,8 +93,8 @@ module _ (s : Scan) (p : Persistent) (e : s ≡ scanOf p) (few : (length (p .reg
 
   pub inside-found : (at i : ℕ) → foundAt s at ≡ At i → i < s .logged
   inside-found at i f =
-      let m : length (map markOf (p .log)) ≡ length (p .log) = length-map (p .log) markOf in
-      rw (logged-is, ← m) (found-below (walk p) (map markOf (p .log)) at i (sym (found-is at) ∙ f))
+      let m : length (keysOf p) ≡ length (p .log) = length-map (p .log) (λ e. e .key) in
+      rw (logged-is, ← m) (found-below (walk p) (keysOf p) at i (sym (found-is at) ∙ f))
 
   pub soon-found : (at i : ℕ) → foundAt s at ≡ At i → at < 8192
   soon-found at i f = omega (arith, length-drop at (walkEntries p), ap length (one-found at i f), walk-few p few)

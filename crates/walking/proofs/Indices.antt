@@ -1,60 +1,76 @@
 -- The log entry at a place of the walk.
-use Prim.Native.Nat.{_+_, _<_, _≤_, suc, zero, ℕ}
-use mathlib.Core.Path.{_≡_, ap, refl, sym}
-use mathlib.Core.Bool.{false, false≢true, true, true≢false}
+use Prim.Native.Nat.{_+_, _-_, _<_, _≤_, suc, zero, ℕ}
+use mathlib.Core.Path.{_∙_, _≡_, ap, refl}
+use mathlib.Core.Bool.{false, true}
 use mathlib.Core.List.{List, [], _++_, _∷_}
-use lib.ListN.{drop, getD, length, take}
-use Rattle.judging.proofs.Search.{left-cons, left-nil}
-use Rattle.judging.specs.Reach.{noMark}
-use Rattle.rules.specs.declared.Found.the-variants.{Full}
-use Rattle.rules.specs.declared.Mark.{Mark}
-use Rattle.walking.specs.Indices.{entryAt, foundOf, indicesOf, isHere, isMark, lastFirst, leftOf, seek, walkIndices}
-use Rattle.walking.specs.declared.Sought.{Sought}
-use Rattle.walking.specs.declared.Sought.the-variants.{Here}
+use lib.Dec.{eqb}
+use lib.ListN.{drop, drop-of-length-le, getD, length, take}
+use lib.Seq.{drop-cons, take-length, take-suc}
+use native.Mathlib.Numerals.{add-one}
+use native.Mathlib.Omega.{arith}
+use Rattle.rules.proofs.CodecValid.{count-append}
+use Rattle.rules.specs.Lists.{count}
+use Rattle.rules.specs.declared.Found.the-variants.{At, Full}
+use Rattle.undo.proofs.Laws.{test}
+use Rattle.walking.specs.Indices.{indicesOf, lastFirst, nth, walkIndices}
 
 -- ---- one region's entries, from the last down
 
-module _ (k : ℕ) (ms : List Mark) (i j : ℕ) (e : i ≡ suc j) where
-  pub seek-skip : (n : ℕ) → isMark k (getD ms j noMark) ≡ false → seek (lastFirst k j ms) n ≡ seek (lastFirst k i ms) n
+module _ (k : ℕ) (ks : List ℕ) (i j : ℕ) (e : i ≡ suc j) where
+  pub nth-skip : (n : ℕ) → eqb (getD ks j 0) k ≡ false → nth (lastFirst k j ks) n ≡ nth (lastFirst k i ks) n
   unfolding lastFirst
-  seek-skip n f = rw (e, f)
+  nth-skip n f = rw (e, f)
 
-  pub seek-here : isMark k (getD ms j noMark) ≡ true → seek (lastFirst k i ms) 0 ≡ Here j
-  unfolding lastFirst seek
-  seek-here f = rw (e, f)
+  pub nth-here : eqb (getD ks j 0) k ≡ true → nth (lastFirst k i ks) 0 ≡ At j
+  unfolding lastFirst nth
+  nth-here f = rw (e, f)
 
-  pub seek-less : (n m : ℕ) → n ≡ suc m → isMark k (getD ms j noMark) ≡ true → seek (lastFirst k j ms) m ≡ seek (lastFirst k i ms) n
-  unfolding lastFirst seek
-  seek-less n m g f = rw (e, f, g)
+  pub nth-less : (n m : ℕ) → n ≡ suc m → eqb (getD ks j 0) k ≡ true → nth (lastFirst k j ks) m ≡ nth (lastFirst k i ks) n
+  unfolding lastFirst nth
+  nth-less n m g f = rw (e, f, g)
 
 -- ---- region by region
 
-pub seek-past : (xs ys : List ℕ) (n : ℕ) → isHere (seek xs n) ≡ false → seek (xs ++ ys) n ≡ seek ys (leftOf (seek xs n))
-unfolding seek
-seek-past [] ys n e = refl
-seek-past (x ∷ xs) ys zero e = absurd (true≢false e)
-seek-past (x ∷ xs) ys (suc n) e = seek-past xs ys n e
+pub nth-front : (xs ys : List ℕ) (n : ℕ) → n < length xs → nth (xs ++ ys) n ≡ nth xs n
+unfolding nth
+nth-front [] ys n h = absurd (omega arith)
+nth-front (x ∷ xs) ys zero h = refl
+nth-front (x ∷ xs) ys (suc n) h = nth-front xs ys n (omega arith)
 
-pub seek-found : (xs ys : List ℕ) (n : ℕ) → isHere (seek xs n) ≡ true → seek (xs ++ ys) n ≡ seek xs n
-unfolding seek
-seek-found [] ys n e = absurd (false≢true e)
-seek-found (x ∷ xs) ys zero e = refl
-seek-found (x ∷ xs) ys (suc n) e = seek-found xs ys n e
+pub nth-behind : (xs ys : List ℕ) (n : ℕ) → length xs ≤ n → nth (xs ++ ys) n ≡ nth ys (n - length xs)
+unfolding nth
+nth-behind [] ys n h = let e : n - 0 ≡ n = omega arith in rw e
+nth-behind (x ∷ xs) ys zero h = absurd (omega arith)
+nth-behind (x ∷ xs) ys (suc n) h =
+    let e : suc n - suc (length xs) ≡ n - length xs = omega arith in
+    rw e (nth-behind xs ys n (omega arith))
 
-module _ (keys : List ℕ) (n : ℕ) (l : n ≤ length keys) (ms : List Mark) (j left : ℕ) where
-  pub entry-on : (h : j < n) (s : Sought) → s ≡ seek (indicesOf ms (getD keys j 0)) left → isHere s ≡ false
-      → entryAt (drop (j + 1) (take n keys)) ms (leftOf s) ≡ entryAt (drop j (take n keys)) ms left
-  unfolding walkIndices
-  entry-on h s e f =
-      rw (left-cons n keys l j h 0, e)
-      (ap foundOf (sym (seek-past (indicesOf ms (getD keys j 0)) (walkIndices (drop (j + 1) (take n keys)) ms) left (rw e at f))))
+-- a region has as many indices as entries
+last-count : (k : ℕ) (ks : List ℕ) (n : ℕ) → n ≤ length ks → length (lastFirst k n ks) ≡ count (λ x. eqb x k) (take n ks)
+unfolding lastFirst count
+last-count k ks zero h = refl
+last-count k ks (suc n) h =
+    rw (take-suc ks n 0 (omega arith), count-append (λ x. eqb x k) (take n ks) (getD ks n 0 ∷ []), ← last-count k ks n (omega arith))
+    (test (eqb (getD ks n 0) k) (λ e. rw e (omega arith)) (λ e. rw e (omega arith)))
 
-  pub entry-hit : (h : j < n) (s : Sought) → s ≡ seek (indicesOf ms (getD keys j 0)) left → isHere s ≡ true → foundOf s ≡ entryAt (drop j (take n keys)) ms left
-  unfolding walkIndices
-  entry-hit h s e f =
-      rw (left-cons n keys l j h 0, e)
-      (ap foundOf (sym (seek-found (indicesOf ms (getD keys j 0)) (walkIndices (drop (j + 1) (take n keys)) ms) left (rw e at f))))
+pub indices-count : (k : ℕ) (ks : List ℕ) → length (indicesOf ks k) ≡ count (λ x. eqb x k) ks
+indices-count k ks = last-count k ks (length ks) (omega arith) ∙ ap (count (λ x. eqb x k)) (take-length ks)
 
-  pub entry-end : n ≤ j → Full ≡ entryAt (drop j (take n keys)) ms left
-  unfolding walkIndices seek
-  entry-end h = rw (left-nil n keys j h)
+-- one turn and the end of the loop over the regions
+module _ (rs ks : List ℕ) (j left : ℕ) where
+  module _ (h : j < length rs) (c : ℕ) (e : c ≡ count (λ x. eqb x (getD rs j 0)) ks) where
+    pub walk-hit : left < c → nth (indicesOf ks (getD rs j 0)) left ≡ nth (walkIndices (drop j rs) ks) left
+    unfolding walkIndices
+    walk-hit l =
+        let s : left < length (indicesOf ks (getD rs j 0)) = rw (indices-count (getD rs j 0) ks, ← e) l in
+        rw (drop-cons rs j 0 h, nth-front (indicesOf ks (getD rs j 0)) (walkIndices (drop (suc j) rs) ks) left s)
+
+    pub walk-on : c ≤ left → nth (walkIndices (drop (j + 1) rs) ks) (left - c) ≡ nth (walkIndices (drop j rs) ks) left
+    unfolding walkIndices
+    walk-on l =
+        let s : length (indicesOf ks (getD rs j 0)) ≤ left = rw (indices-count (getD rs j 0) ks, ← e) l in
+        rw (add-one j, drop-cons rs j 0 h, nth-behind (indicesOf ks (getD rs j 0)) (walkIndices (drop (suc j) rs) ks) left s, indices-count (getD rs j 0) ks, e)
+
+  pub walk-end : length rs ≤ j → Full ≡ nth (walkIndices (drop j rs) ks) left
+  unfolding walkIndices nth
+  walk-end h = rw (drop-of-length-le rs h)

@@ -1,20 +1,22 @@
 -- The order of the regions: a region taken out of an array, and one turn and the end of the walk.
-use mathlib.Core.List.{append-nil}
 use Prim.Native.Nat.{_+_, _-_, _<_, _≤_, min, suc, zero, ℕ}
-use mathlib.Core.Path.{_≡_, ap, refl}
-use mathlib.Core.Bool.{false, true}
-use mathlib.Core.List.{List, [], _++_, _∷_}
-use lib.ListN.{getD, length, length-take, set, take}
-use native.Mathlib.Omega.{arith}
-use native.Mathlib.Numerals.{add-one}
-use borrow.Author.Tests.{le-ltb, lt-ltb}
+use mathlib.Core.Path.{_∙_, _≡_, ap, refl, sym}
+use mathlib.Core.Bool.{false, not, true}
+use mathlib.Core.List.{List, [], _++_, _∷_, append-nil, map}
+use lib.Dec.{eqb}
+use lib.ListN.{List·getD-map, getD, length, length-map, length-take, set, take}
 use lib.Seq.{append-snoc, drop-cons, drop-set-lt, getD-take, length-take-le, take-set-lt, take-suc-set, take-take}
+use native.Mathlib.Numerals.{add-one}
+use native.Mathlib.Omega.{arith}
+use borrow.Author.Tests.{le-ltb, lt-ltb}
 use Rattle.judging.proofs.Search.{left-nil, take-least}
 use Rattle.judging.specs.Marks.{noListed}
-use Rattle.rules.specs.Lists.{count}
+use Rattle.rules.proofs.Places.{any-map, place-map}
+use Rattle.rules.specs.Lists.{place}
 use Rattle.rules.specs.Walk.{nextPlace, walkFrom, without}
 use Rattle.rules.specs.declared.Listed.{Listed}
-use Rattle.undo.proofs.Shape.{rest}
+use Rattle.undo.specs.Table.{any}
+use Rattle.walking.specs.Rest.{Removed}
 
 module _ {A : Type 0} where
   without-moved : (xs : List A) (i : ℕ) (d : A) → suc i < length xs → without (suc i) (set xs i (getD xs (suc i) d)) ≡ without i xs
@@ -57,32 +59,79 @@ unfolding walkFrom
 walk-takes n m rs e h =
     rw e (ap (λ b. elim b [ false ↦ [] | true ↦ getD rs (nextPlace rs) noListed .key ∷ walkFrom m (without (nextPlace rs) rs) ]) (lt-ltb (nextPlace rs) (length rs) h))
 
-module _ (keys : List ℕ) (count : ℕ) (left : ℕ) (rest : List Listed) (at : ℕ) (a : at ≡ nextPlace (take left rest)) (l : left ≤ length rest) where
+-- ---- the regions that remain, by their keys and dependences
+
+-- the first n keys and dependences are those of the regions rs
+pub record Listing (n : ℕ) (keys : List ℕ) (deps : List (List ℕ)) (rs : List Listed) : Type 0 where
+  pub its-keys : take n keys ≡ map (λ r. r .key) rs
+  pub its-deps : take n deps ≡ map (λ r. r .deps) rs
+
+map-without : {A B : Type 0} (f : A → B) (i : ℕ) (xs : List A) → without i (map f xs) ≡ map f (without i xs)
+unfolding without
+map-without f zero [] = refl
+map-without f zero (x ∷ xs) = refl
+map-without f (suc i) [] = refl
+map-without f (suc i) (x ∷ xs) = ap (λ l. f x ∷ l) (map-without f i xs)
+
+module _ (n : ℕ) (keys : List ℕ) (deps : List (List ℕ)) (rs : List Listed) (l : Listing n keys deps rs) where
+  pub next-is : place (λ k. not (any (any (eqb k)) (take n deps))) (take n keys) ≡ nextPlace rs
+  unfolding nextPlace
+  next-is =
+      rw (l .its-keys, l .its-deps)
+      (place-map _ _ (λ r. r .key) rs (λ r. ap not (any-map (any (eqb (r .key))) (λ x. any (eqb (r .key)) (x .deps)) (λ x. x .deps) rs (λ x. refl))))
+
+  pub as-many : n ≤ length keys → length rs ≡ n
+  as-many h = sym (length-map rs (λ r. r .key)) ∙ (ap length (sym (l .its-keys)) ∙ length-take-le n keys h)
+
+  pub key-at : (at : ℕ) → at < n → getD keys at 0 ≡ getD rs at noListed .key
+  key-at at h = sym (getD-take n keys at 0 h) ∙ (ap (λ xs. getD xs at 0) (l .its-keys) ∙ List·getD-map (λ r. r .key) rs at noListed)
+
+  pub listing-on : (at : ℕ) (keys′ : List ℕ) (deps′ : List (List ℕ)) → Removed n at keys keys′ → Removed n at deps deps′ → Listing (n - 1) keys′ deps′ (without at rs)
+  listing-on at keys′ deps′ k d =
+      record {
+        its-keys = k .front ∙ (ap (without at) (l .its-keys) ∙ map-without (λ r. r .key) at rs);
+        its-deps = d .front ∙ (ap (without at) (l .its-deps) ∙ map-without (λ r. r .deps) at rs);
+      }
+
+-- ---- the walk so far, and the regions that are left of it
+
+pub record Walks (walk : List ℕ) (left : ℕ) (keys : List ℕ) (deps : List (List ℕ)) (order : List ℕ) (count : ℕ) : Type 0 where
+  pub rest : List Listed
+  pub listing : Listing left keys deps rest
+  pub whole : take count order ++ walkFrom left rest ≡ walk
+
+module _ (walk : List ℕ) (left : ℕ) (keys : List ℕ) (deps : List (List ℕ)) (order : List ℕ) (count : ℕ) (w : Walks walk left keys deps order count)
+    (h : left ≤ length keys) (at : ℕ) (a : at ≡ place (λ k. not (any (any (eqb k)) (take left deps))) (take left keys)) where
+  next-at : nextPlace (w .rest) ≡ at
+  next-at = sym (next-is left keys deps (w .rest) (w .listing)) ∙ sym a
+
+  many : length (w .rest) ≡ left
+  many = as-many left keys deps (w .rest) (w .listing) h
+
   -- the region at the next place is entered, and the walk goes on without it
-  pub order-on : (others : List Listed) → count < length keys → at < left → take (left - 1) others ≡ without at (take left rest)
-      → take (count + 1) (set keys count (getD rest at noListed .key)) ++ walkFrom (left - 1) (take (left - 1) others)
-      ≡ take count keys ++ walkFrom left (take left rest)
-  order-on others h k e =
+  pub walks-on : at < left → count < length order → (keys′ : List ℕ) (deps′ : List (List ℕ)) → Removed left at keys keys′ → Removed left at deps deps′
+      → Walks walk (left - 1) keys′ deps′ (set order count (getD keys at 0)) (count + 1)
+  walks-on k c keys′ deps′ p q =
       let s : left ≡ suc (left - 1) = omega arith in
-      let g : nextPlace (take left rest) < length (take left rest) = rw (← a, length-take-le left rest l) k in
-      rw (
-        add-one count,
-        take-suc-set keys count (getD rest at noListed .key) h,
-        append-snoc,
-        e,
-        walk-takes left (left - 1) (take left rest) s g,
-        ← a,
-        getD-take left rest at noListed k,
-      )
+      record {
+        rest = without at (w .rest);
+        listing = listing-on left keys deps (w .rest) (w .listing) at keys′ deps′ p q;
+        whole =
+            rw (
+              add-one count,
+              take-suc-set order count (getD keys at 0) c,
+              append-snoc,
+              key-at left keys deps (w .rest) (w .listing) at k,
+            )
+            (rw (walk-takes left (left - 1) (w .rest) s (rw (next-at, many) k), next-at) at (w .whole));
+      }
 
-  pub order-stops : left ≤ at → take count keys ≡ take count keys ++ walkFrom left (take left rest)
-  order-stops k =
-      let g : length (take left rest) ≤ nextPlace (take left rest) = rw (← a, length-take-le left rest l) k in
-      rw (walk-stops left (take left rest) g, append-nil)
+  pub walks-stop : left ≤ at → take count order ≡ walk
+  walks-stop k = rw (walk-stops left (w .rest) (rw (next-at, many) k), append-nil) at (w .whole)
 
-pub order-end : (keys : List ℕ) (count left : ℕ) (rest : List Listed) → left ≤ 0 → take count keys ≡ take count keys ++ walkFrom left (take left rest)
+pub walks-end : (walk : List ℕ) (left : ℕ) (keys : List ℕ) (deps : List (List ℕ)) (order : List ℕ) (count : ℕ) → Walks walk left keys deps order count → left ≤ 0 → take count order ≡ walk
 unfolding walkFrom
-order-end keys count left rest k = let e : left ≡ 0 = omega arith in rw (e, append-nil)
+walks-end walk left keys deps order count w h = let e : left ≡ 0 = omega arith in rw (e, append-nil) at (w .whole)
 
 -- as many regions as there are
 pub order-all : (n m r : ℕ) (rs : List Listed) → length rs ≡ m → r ≡ min n m → walkFrom r (take r rs) ≡ walkFrom (length (take n rs)) (take n rs)

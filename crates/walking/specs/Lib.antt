@@ -1,1 +1,2 @@
 pub mod Indices
+pub mod Rest

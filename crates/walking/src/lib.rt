@@ -1,17 +1,21 @@
 // The recovery walk: the order of the regions, and the log entry at a place of the walk. The first `held` regions and the first `logged` marks count.
 use judging::depends;
+use judging::keys_of;
 use judging::least;
 use rules::Found;
 use rules::Listed;
 use rules::Mark;
-ghost use Prim.Native.Nat.{_<_, _≤_, _-_, ℕ};
+ghost use Prim.Native.Nat.{_<_, _≤_};
 ghost use mathlib.Core.Path.{_≡_};
-ghost use mathlib.Core.Bool.{_&&_, cond, not};
+ghost use mathlib.Core.Bool.{not};
+ghost use mathlib.Core.List.{map};
 ghost use lib.Dec.{eqb};
 ghost use lib.ListN.{length, take};
 ghost use Rattle.undo.specs.Table.{any};
-ghost use Rattle.rules.specs.Walk.{isNeeded, nextPlace, walkFrom, without};
-ghost use Rattle.walking.specs.Indices.{entryAt, foundOf, isHere, isMark, leftOf, orderOf, indicesOf, seek};
+ghost use Rattle.rules.specs.Lists.{count, place};
+ghost use Rattle.rules.specs.Walk.{walkFrom};
+ghost use Rattle.walking.specs.Indices.{entryAt, indicesOf, nth, orderOf, walkIndices};
+ghost use Rattle.walking.specs.Rest.{Removed};
 
 // The keys of the regions in the order of the walk: the first `count` of them.
 pub struct Order {
@@ -19,30 +23,32 @@ pub struct Order {
     pub keys: [u32; 32],
 }
 
-// Number n of a list: the index there, or how many of n are left behind the list's end.
-pub enum Sought {
-    Here(usize),
-    Past(usize),
-}
-
 // ---- the order of the regions
 
-fn depends_on(r: Listed, key: u32) -> bool
-    ensures { λ b. ⌜ b ≡ any (eqb key) (r .deps) ⌝ }
-{
-    let deps = r.deps;
-    depends(deps, key)
-}
-
-// Whether one of the first n regions depends on region `key`.
-fn is_needed(n: usize, rest: [Listed; 32], key: u32) -> bool
+// The dependences of the first n regions.
+fn deps_of(n: usize, regions: [Listed; 32]) -> [[u32; 4]; 32]
     requires { ⌜ n ≤ 32 ⌝ }
-    ensures { λ b. ⌜ b ≡ isNeeded (take n rest) key ⌝ }
+    ensures { λ r. ⌜ take n r ≡ map (λ x. x .deps) (take n regions) ⌝ }
 {
+    let mut deps = [[0u32; 4]; 32];
     let mut i: usize = 0;
     while i < n {
-        let x = rest[i];
-        if depends_on(x, key) {
+        let x = regions[i];
+        let d = x.deps;
+        deps[i] = d;
+        i += 1;
+    }
+    deps
+}
+
+// Whether some region depends on region `key`.
+fn is_needed(deps: &[[u32; 4]], key: u32) -> bool
+    ensures { λ b. ⌜ b ≡ any (any (eqb key)) (now (deps .entry)) ⌝ }
+{
+    let mut i: usize = 0;
+    while i < deps.len() {
+        let d = deps[i];
+        if depends(d, key) {
             return true;
         }
         i += 1;
@@ -50,25 +56,17 @@ fn is_needed(n: usize, rest: [Listed; 32], key: u32) -> bool
     false
 }
 
-fn is_free(n: usize, rest: [Listed; 32], r: Listed) -> bool
-    requires { ⌜ n ≤ 32 ⌝ }
-    ensures { λ b. ⌜ b ≡ not (isNeeded (take n rest) (r .key)) ⌝ }
-{
-    !is_needed(n, rest, r.key)
-}
-
-// The place of the first region on which none depends; n where there is none.
-fn next_place(n: usize, rest: [Listed; 32]) -> usize
-    requires { ⌜ n ≤ 32 ⌝ }
-    ensures { λ r. ⌜ r ≡ nextPlace (take n rest) ⌝ }
+// The place of the first region on which none depends; the number of regions where there is none.
+fn next_place(keys: &[u32], deps: &[[u32; 4]]) -> usize
+    ensures { λ r. ⌜ r ≡ place (λ k. not (any (any (eqb k)) (now (deps .entry)))) (now (keys .entry)) ⌝ }
 {
     let mut first: usize = 0;
     let at = loop {
-        if n <= first {
+        if keys.len() <= first {
             break first;
         }
-        let x = rest[first];
-        if is_free(n, rest, x) {
+        let key = keys[first];
+        if !is_needed(deps, key) {
             break first;
         }
         first += 1;
@@ -76,127 +74,118 @@ fn next_place(n: usize, rest: [Listed; 32]) -> usize
     at
 }
 
-// The first n regions without the one at `at`: those behind it move up.
-fn removed(n: usize, rest: [Listed; 32], at: usize) -> [Listed; 32]
-    requires { ⌜ (n ≤ 32) × (at < n) ⌝ }
-    ensures { λ r. ⌜ take (n - 1) r ≡ without at (take n rest) ⌝ }
+// The region at `at` taken out of the first n: those behind it move up.
+fn remove(keys: &mut [u32; 32], deps: &mut [[u32; 4]; 32], n: usize, at: usize)
+    requires { ⌜ (at < n) × ((n ≤ 32) × ((length (now keys) ≡ 32) × (length (now deps) ≡ 32))) ⌝ }
+    ensures { λ _. ⌜ Removed n at (now (keys .entry)) (now (keys .exit)) × Removed n at (now (deps .entry)) (now (deps .exit)) ⌝ }
 {
-    let mut q = rest;
     let mut i = at;
     while i + 1 < n {
-        let x = q[i + 1];
-        q[i] = x;
+        let k = keys[i + 1];
+        keys[i] = k;
+        let d = deps[i + 1];
+        deps[i] = d;
         i += 1;
     }
-    q
 }
 
 // The regions in the order of the walk: always the first on which no remaining region depends.
 pub fn walk_order(held: usize, regions: [Listed; 32]) -> Order
     ensures { λ r. ⌜ orderOf r ≡ walkFrom (length (take held regions)) (take held regions) ⌝ }
 {
-    let mut keys = [0u32; 32];
-    let mut rest = regions;
     let mut left = least(held, 32);
+    let mut keys = keys_of(left, regions);
+    let mut deps = deps_of(left, regions);
+    let mut order = [0u32; 32];
     let mut count: usize = 0;
     while 0 < left {
-        let at = next_place(left, rest);
+        let at = next_place(&keys[..left], &deps[..left]);
         if left <= at {
-            return Order { count, keys };
+            return Order { count, keys: order };
         }
-        let x = rest[at];
-        keys[count] = x.key;
-        let others = removed(left, rest, at);
-        rest = others;
+        order[count] = keys[at];
+        remove(&mut keys, &mut deps, left, at);
         left -= 1;
         count += 1;
     }
-    Order { count, keys }
+    Order { count, keys: order }
 }
 
 // ---- the log entry at a place of the walk
 
-fn is_of(m: Mark, key: u32) -> bool
-    ensures { λ b. ⌜ b ≡ isMark key m ⌝ }
+// The keys of the first n log entries.
+fn log_keys(n: usize, log: [Mark; 256]) -> [u32; 256]
+    requires { ⌜ n ≤ 256 ⌝ }
+    ensures { λ r. ⌜ take n r ≡ map (λ m. m .key) (take n log) ⌝ }
 {
-    m.key == key
+    let mut keys = [0u32; 256];
+    let mut i: usize = 0;
+    while i < n {
+        let m = log[i];
+        keys[i] = m.key;
+        i += 1;
+    }
+    keys
 }
 
-// Number n of the entries of region `key`, last entry first; or how many of n are left behind them.
-fn entry_in(logged: usize, log: [Mark; 256], key: u32, n: usize) -> Sought
-    requires { ⌜ logged ≤ 256 ⌝ }
-    ensures { λ r. ⌜ r ≡ seek (indicesOf (take logged log) key) n ⌝ }
+// How many log entries region `key` has.
+fn count_of(log: &[u32], key: u32) -> usize
+    ensures { λ r. ⌜ r ≡ count (λ k. eqb k key) (now (log .entry)) ⌝ }
+{
+    let mut c: usize = 0;
+    let mut i: usize = 0;
+    while i < log.len() {
+        if log[i] == key {
+            c += 1;
+        }
+        i += 1;
+    }
+    c
+}
+
+// The index of number n of the entries of region `key`, last entry first.
+fn entry_in(log: &[u32], key: u32, n: usize) -> Found
+    ensures { λ r. ⌜ r ≡ nth (indicesOf (now (log .entry)) key) n ⌝ }
 {
     let mut left = n;
-    let mut i = logged;
-    let at = loop {
-        if i == 0 {
-            break Sought::Past(left);
-        }
+    let mut i = log.len();
+    while 0 < i {
         i -= 1;
-        let m = log[i];
-        if is_of(m, key) {
+        if log[i] == key {
             if left == 0 {
-                break Sought::Here(i);
+                return Found::At(i);
             }
             left -= 1;
         }
-    };
-    at
-}
-
-fn is_here(s: Sought) -> bool
-    ensures { λ b. ⌜ b ≡ isHere s ⌝ }
-{
-    match s {
-        Sought::Here(_) => true,
-        Sought::Past(_) => false,
     }
+    Found::Full
 }
 
-fn found_of(s: Sought) -> Found
-    ensures { λ r. ⌜ r ≡ foundOf s ⌝ }
+// The same over all entries, region by region in the order given.
+fn entry_among(order: &[u32], log: &[u32], n: usize) -> Found
+    ensures { λ r. ⌜ r ≡ nth (walkIndices (now (order .entry)) (now (log .entry))) n ⌝ }
 {
-    match s {
-        Sought::Here(i) => Found::At(i),
-        Sought::Past(_) => Found::Full,
-    }
-}
-
-fn left_of(s: Sought) -> usize
-    ensures { λ r. ⌜ r ≡ leftOf s ⌝ }
-{
-    match s {
-        Sought::Here(_) => 0,
-        Sought::Past(n) => n,
-    }
-}
-
-// The same over the first n keys, in their order.
-fn entry_among(n: usize, keys: [u32; 32], logged: usize, log: [Mark; 256], place: usize) -> Found
-    requires { ⌜ (n ≤ 32) × (logged ≤ 256) ⌝ }
-    ensures { λ r. ⌜ r ≡ entryAt (take n keys) (take logged log) place ⌝ }
-{
-    let mut left = place;
+    let mut left = n;
     let mut j: usize = 0;
-    while j < n {
-        let key = keys[j];
-        let s = entry_in(logged, log, key, left);
-        if is_here(s) {
-            return found_of(s);
+    while j < order.len() {
+        let key = order[j];
+        let c = count_of(log, key);
+        if left < c {
+            return entry_in(log, key, left);
         }
-        left = left_of(s);
+        left -= c;
         j += 1;
     }
     Found::Full
 }
 
-// The index of log entry number `place` of the walk: region by region in the order given, in a region last entry first.
+// The index of log entry number `place` of the walk.
 pub fn entry_at(order: Order, logged: usize, log: [Mark; 256], place: usize) -> Found
     ensures { λ r. ⌜ r ≡ entryAt (orderOf order) (take logged log) place ⌝ }
 {
     let n = least(order.count, 32);
     let m = least(logged, 256);
-    let keys = order.keys;
-    entry_among(n, keys, m, log, place)
+    let regions = order.keys;
+    let entries = log_keys(m, log);
+    entry_among(&regions[..n], &entries[..m], place)
 }

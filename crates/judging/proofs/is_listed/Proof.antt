@@ -1,14 +1,18 @@
 use Rattle.judging.proofs.is_listed.Statement.{statement}
 use Rattle.judging.proofs.is_listed.Tie as tie
+use mathlib.Core.Path.{_∙_, refl, sym}
+use lib.Dec.{eqb}
 use borrow.Author.Needs.{needs}
-use Rattle.judging.proofs.Search.{found}
-use Rattle.judging.specs.Reach.{isRegion}
+use Rattle.judging.proofs.Keys.{keyed-listed, keyed-place}
+use Rattle.lookup.proofs.Search.{found}
 
 place-in-requires : tie.Need-place-in-requires
 place-in-requires c κs = search needs
 
 returns : tie.Need-returns
-returns c = let a = c .before .args in found (isRegion (a .key)) (a .n) (a .regions) (c .place-in .result) (search needs) (c .place-in .ensures)
+returns c =
+    let a = c .before .before .args in
+    found (λ x. eqb x (a .key)) (a .keys .now) (c .place-in .result) _ refl (c .place-in .ensures ∙ keyed-place (a .keys .now) (a .key)) ∙ sym (keyed-listed (a .keys .now) (a .key))
 
 pub is-listed-spec : {M : Type 1} → statement M
 is-listed-spec = tie.close (tie.spec place-in-requires returns)

@@ -2,35 +2,36 @@ use Rattle.walking.proofs.is_needed.Statement.{statement}
 use Rattle.walking.proofs.is_needed.Tie as tie
 use Prim.Native.Nat.{_-_, _≤_}
 use mathlib.Core.Path.{_∙_, _≡_, refl, sym}
+use mathlib.Core.List.{[]}
 use lib.Dec.{eqb}
-use lib.ListN.{drop, take}
+use lib.ListN.{drop, length}
 use borrow.Author.Needs.{needs}
-use Rattle.judging.proofs.Search.{any-end, any-hit, any-on}
-use Rattle.judging.specs.Marks.{noListed}
-use Rattle.rules.specs.Walk.{isNeeded}
-use Rattle.rules.specs.declared.Listed.{Listed}
+use Rattle.lookup.proofs.Search.{any-end, any-hit, any-on}
 use Rattle.undo.specs.Table.{any}
 
 abbrev Inv-loop : tie.InvT-loop
-Inv-loop n key rest i₀ i = (i ≤ n) × (any (λ r. any (eqb key) (r .deps)) (drop i (take n rest)) ≡ isNeeded (take n rest) key)
+Inv-loop deps key i₀ i = (i ≤ length deps) × (any (any (eqb key)) (drop i deps) ≡ any (any (eqb key)) deps)
 
 abbrev μ-loop : tie.MeasureT-loop
-μ-loop n key rest i₀ i = n - i
+μ-loop deps key i₀ i = length deps - i
 
 loop-holds : tie.Need-loop-holds Inv-loop μ-loop
 loop-holds c = (search needs, refl)
 
-mul-x : tie.Need-mul-x Inv-loop μ-loop
-mul-x c = search needs
+mul-d : tie.Need-mul-d Inv-loop μ-loop
+mul-d c = search needs
 
-array-copy-out-x : tie.Need-array-copy-out-x Inv-loop μ-loop
-array-copy-out-x c = search needs
+shared-slice-copy-out-d : tie.Need-shared-slice-copy-out-d Inv-loop μ-loop
+shared-slice-copy-out-d c = search needs
 
-depends-on-requires : tie.Need-depends-on-requires Inv-loop μ-loop
-depends-on-requires c κs = search needs
+depends-requires : tie.Need-depends-requires Inv-loop μ-loop
+depends-requires c κs = search needs
 
 returns : tie.Need-returns Inv-loop μ-loop
-returns c = let l = c .before .before .before .before in let a = l .before .args in sym (any-hit (λ (r : Listed). any (eqb (a .key)) (r .deps)) (a .n) (a .t2) (l .loop .i) (search needs) (search needs) noListed (sym (c .before .depends-on .ensures) ∙ c .if1 .taken)) ∙ l .loop .inv .1
+returns c =
+    let l = c .before .before .before .before in
+    let a = l .before .args in
+    sym (any-hit (any (eqb (a .key))) (l .loop .i) (a .deps .now) [] (search needs) (sym (c .before .depends .ensures) ∙ c .if1 .taken)) ∙ l .loop .inv .1
 
 add-i : tie.Need-add-i Inv-loop μ-loop
 add-i c = search needs
@@ -39,10 +40,16 @@ loop-less : tie.Need-loop-less Inv-loop μ-loop
 loop-less c = search needs
 
 loop-again : tie.Need-loop-again Inv-loop μ-loop
-loop-again c = let l = c .before .before .before .before in let a = l .before .args in (search needs, any-on (λ (r : Listed). any (eqb (a .key)) (r .deps)) (a .n) (a .t2) (l .loop .i) (search needs) (search needs) noListed (sym (c .before .depends-on .ensures) ∙ c .if1 .left) ∙ l .loop .inv .1)
+loop-again c =
+    let l = c .before .before .before .before in
+    let a = l .before .args in
+    (search needs, any-on (any (eqb (a .key))) (l .loop .i) (a .deps .now) [] (search needs) (sym (c .before .depends .ensures) ∙ c .if1 .left) ∙ l .loop .inv .1)
 
 returns-2 : tie.Need-returns-2 Inv-loop μ-loop
-returns-2 c = let a = c .before .before .args in sym (any-end (λ (r : Listed). any (eqb (a .key)) (r .deps)) (a .n) (a .t2) (c .before .loop .i) (search needs)) ∙ c .before .loop .inv .1
+returns-2 c =
+    let l = c .before in
+    let a = l .before .args in
+    sym (any-end (any (eqb (a .key))) (l .loop .i) (a .deps .now) (search needs)) ∙ l .loop .inv .1
 
 pub is-needed-spec : {M : Type 1} → statement M
 is-needed-spec =
@@ -51,9 +58,9 @@ is-needed-spec =
     Inv-loop
     μ-loop
     loop-holds
-    mul-x
-    array-copy-out-x
-    depends-on-requires
+    mul-d
+    shared-slice-copy-out-d
+    depends-requires
     returns
     add-i
     loop-less
