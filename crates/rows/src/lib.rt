@@ -203,7 +203,7 @@ pub fn ended_at(regions: &[[u32; 16]; 32], i: usize) -> bool
 }
 
 // Whether the region at place i is done.
-pub fn done_at(regions: &[[u32; 16]; 32], i: usize) -> bool
+fn done_at(regions: &[[u32; 16]; 32], i: usize) -> bool
     ensures { λ b. ⌜ b ≡ getD (regionsOf (now (regions .entry))) i noRegion .done ⌝ }
 {
     rows32(regions);
@@ -231,7 +231,7 @@ pub fn place_of(regions: &[[u32; 16]; 32], key: u32) -> usize
 }
 
 // Whether region `key` is uncommitted.
-pub fn is_listed(regions: &[[u32; 16]; 32], key: u32) -> bool
+fn is_listed(regions: &[[u32; 16]; 32], key: u32) -> bool
     ensures { λ r. ⌜ r ≡ listed key (regionsOf (now (regions .entry))) ⌝ }
 {
     rows32(regions);
@@ -424,20 +424,20 @@ pub fn words34(row: &[u64; 34])
     count_words(row);
 }
 
-pub fn depth_in(row: &[u64; 34]) -> u8
+fn depth_in(row: &[u64; 34]) -> u8
     ensures { λ r. ⌜ r ≡ threadOf (now (row .entry)) .depth ⌝ }
 {
     (row[32] % 256) as u8
 }
 
-pub fn last_in(row: &[u64; 34]) -> u16
+fn last_in(row: &[u64; 34]) -> u16
     ensures { λ r. ⌜ r ≡ threadOf (now (row .entry)) .last ⌝ }
 {
     (row[33] % 65536) as u16
 }
 
 // The depth becomes d, and the last number n.
-pub fn set_place(row: &mut [u64; 34], d: u8, n: u16)
+fn set_place(row: &mut [u64; 34], d: u8, n: u16)
     ensures { λ _. ⌜ _≡_ {A = Thread} (threadOf (now (row .exit))) (record { depth = d; last = n; log = threadOf (now (row .entry)) .log }) ⌝ }
 {
     words34(row);
@@ -502,7 +502,7 @@ fn kept_word(n: u64, k: u32, l: u8) -> u64
 }
 
 // The entry of region k for line l is persistent.
-pub fn keep_entry(row: &mut [u64; 34], k: u32, l: u8)
+fn keep_entry(row: &mut [u64; 34], k: u32, l: u8)
     ensures { λ _. ⌜ threadOf (now (row .exit)) ≡ kept k l (threadOf (now (row .entry))) ⌝ }
 {
     words34(row);

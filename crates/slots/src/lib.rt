@@ -7,10 +7,9 @@ ghost use mathlib.Core.Path.{_≡_};
 ghost use mathlib.Core.Bool.{_&&_, cond, not};
 ghost use mathlib.Core.List.{map};
 ghost use lib.ListN.{set};
-ghost use Rattle.undo.specs.Table.{any};
 ghost use Rattle.rules.specs.Lists.{place};
 ghost use Rattle.rules.specs.Tables.{lineOf, noSlot};
-ghost use Rattle.rules.specs.Slots.{carried, carries, countedSlot, flownSlots, hasSlot, isEmpty, isRipe, written};
+ghost use Rattle.rules.specs.Slots.{carried, carries, countedSlot, flownSlots, isRipe, written};
 ghost use Rattle.rules.specs.Acknowledge.{dropped, droppedSlot, landed};
 ghost use Rattle.rules.specs.declared.SlotState.the-variants.{InFlight};
 ghost use Rattle.rules.specs.declared.Slot.{Slot};
@@ -80,41 +79,6 @@ pub fn written(slots: [Slot; 8], l: u8) -> [Slot; 8]
         }
         Found::Full => slots,
     }
-}
-
-// ---- what a region has
-
-fn is_used(s: Slot) -> bool
-    ensures { λ r. ⌜ r ≡ not (isEmpty (s .state)) ⌝ }
-{
-    let st = s.state;
-    match st {
-        SlotState::Empty => false,
-        SlotState::Waiting(_) => true,
-        SlotState::InFlight => true,
-    }
-}
-
-// Whether one of the slots is in use.
-fn any_used(slots: [Slot; 8]) -> bool
-    ensures { λ r. ⌜ r ≡ any (λ s. not (isEmpty (s .state))) slots ⌝ }
-{
-    let mut i: usize = 0;
-    while i < 8 {
-        let s = slots[i];
-        if is_used(s) {
-            return true;
-        }
-        i += 1;
-    }
-    false
-}
-
-pub fn has_slot(r: Region) -> bool
-    ensures { λ b. ⌜ b ≡ hasSlot r ⌝ }
-{
-    let slots = r.slots;
-    any_used(slots)
 }
 
 // ---- the acknowledgements
