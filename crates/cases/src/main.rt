@@ -5,9 +5,9 @@
 //     (                       the lines from here ..
 //     ) 9                     .. to here stand ten times
 // Prints a line for each case, then how many there are and how many are right.
-use engine::Outcome;
+use rows::Head;
 use rules::Answer;
-use rules::Tables;
+use steps::Outcome;
 ghost use Prim.Native.Nat.{_≤_};
 ghost use lib.ListN.{length};
 
@@ -153,16 +153,16 @@ fn record_of(numbers: [u64; 16], n: usize) -> Record {
 
 // ---- a case
 
-// A case as far as it is tried: the tables, the number of its events, and whether every answer was right.
+// A case as far as it is tried: the numbers beside the rows, the number of its events, and whether every answer was right.
 struct Tried {
-    tables: Tables,
+    head: Head,
     events: u64,
     right: bool,
 }
 
 fn fresh() -> Tried {
     Tried {
-        tables: starting::fresh_tables(true, 0),
+        head: starting::fresh_head(true, 0),
         events: 0,
         right: true,
     }
@@ -185,14 +185,14 @@ fn print_wrong(event: u64, a: Answer, refusal: u64, value: u64) {
 }
 
 // The first wrong answer of a case is printed.
-fn judge(s: Tried, t: Tables, a: Answer, refusal: u64, value: u64) -> Tried {
+fn judge(s: Tried, h: Head, a: Answer, refusal: u64, value: u64) -> Tried {
     let events = std::num::wrapping_add_u64(s.events, 1);
     let right = a.refusal as u64 == refusal && a.value == value;
     if s.right && !right {
         print_wrong(events, a, refusal, value);
     }
     Tried {
-        tables: t,
+        head: h,
         events: events,
         right: s.right && right,
     }
@@ -200,7 +200,11 @@ fn judge(s: Tried, t: Tables, a: Answer, refusal: u64, value: u64) -> Tried {
 
 // The event of a record's first n bytes.
 fn run_record(
-    t: Tables,
+    h: Head,
+    threads: &mut [[u64; 34]; 8],
+    regions: &mut [[u32; 16]; 32],
+    owner: &mut [u32; 256],
+    lock: &mut [bool; 256],
     cur: &mut [[u64; 8]; 256],
     med: &mut [[u64; 8]; 256],
     old: &mut [[u64; 8]; 256],
@@ -209,9 +213,20 @@ fn run_record(
     n: usize,
 ) -> Outcome {
     if n <= 16 {
-        return engine::event(t, cur, med, old, car, &bytes[..n]);
+        return engine::event(
+            h,
+            threads,
+            regions,
+            owner,
+            lock,
+            cur,
+            med,
+            old,
+            car,
+            &bytes[..n],
+        );
     }
-    engine::event(t, cur, med, old, car, &bytes)
+    engine::event(h, threads, regions, owner, lock, cur, med, old, car, &bytes)
 }
 
 fn number_at(numbers: [u64; 16], i: usize) -> u64 {
@@ -223,6 +238,10 @@ fn number_at(numbers: [u64; 16], i: usize) -> u64 {
 
 fn try_event(
     s: Tried,
+    threads: &mut [[u64; 34]; 8],
+    regions: &mut [[u32; 16]; 32],
+    owner: &mut [u32; 256],
+    lock: &mut [bool; 256],
     cur: &mut [[u64; 8]; 256],
     med: &mut [[u64; 8]; 256],
     old: &mut [[u64; 8]; 256],
@@ -236,13 +255,25 @@ fn try_event(
     }
     let r = record_of(numbers, split);
     let bytes = r.bytes;
-    let t = s.tables;
-    let o = run_record(t, cur, med, old, car, bytes, r.n);
-    let u = o.tables;
+    let h = s.head;
+    let o = run_record(
+        h,
+        threads,
+        regions,
+        owner,
+        lock,
+        cur,
+        med,
+        old,
+        car,
+        bytes,
+        r.n,
+    );
+    let g = o.head;
     let a = o.answer;
     judge(
         s,
-        u,
+        g,
         a,
         number_at(numbers, split),
         number_at(numbers, split + 1),
@@ -272,8 +303,25 @@ fn count_right(s: State) -> u64 {
     std::num::wrapping_add_u64(s.right, 1)
 }
 
+// Rows of zeros are the tables of a fresh board.
+fn clear_rows(
+    threads: &mut [[u64; 34]; 8],
+    regions: &mut [[u32; 16]; 32],
+    owner: &mut [u32; 256],
+    lock: &mut [bool; 256],
+) {
+    *threads = [[0; 34]; 8];
+    *regions = [[0; 16]; 32];
+    *owner = [0; 256];
+    *lock = [false; 256];
+}
+
 fn start_case(
     s: State,
+    threads: &mut [[u64; 34]; 8],
+    regions: &mut [[u32; 16]; 32],
+    owner: &mut [u32; 256],
+    lock: &mut [bool; 256],
     cur: &mut [[u64; 8]; 256],
     med: &mut [[u64; 8]; 256],
     old: &mut [[u64; 8]; 256],
@@ -281,6 +329,7 @@ fn start_case(
     name: &[u8],
 ) -> State {
     let right = count_right(s);
+    clear_rows(threads, regions, owner, lock);
     starting::clear(cur);
     starting::clear(med);
     starting::clear(old);
@@ -334,6 +383,10 @@ fn is_event(first: u8) -> bool {
 
 fn run_line(
     s: State,
+    threads: &mut [[u64; 34]; 8],
+    regions: &mut [[u32; 16]; 32],
+    owner: &mut [u32; 256],
+    lock: &mut [bool; 256],
     cur: &mut [[u64; 8]; 256],
     med: &mut [[u64; 8]; 256],
     old: &mut [[u64; 8]; 256],
@@ -357,9 +410,12 @@ fn run_line(
     }
     if is_event(first) {
         let t = s.tried;
-        return with_tried(s, try_event(t, cur, med, old, car, row));
+        return with_tried(
+            s,
+            try_event(t, threads, regions, owner, lock, cur, med, old, car, row),
+        );
     }
-    start_case(s, cur, med, old, car, line)
+    start_case(s, threads, regions, owner, lock, cur, med, old, car, line)
 }
 
 // Behind a line, or the text.
@@ -372,6 +428,10 @@ fn behind(text: &[u8], e: usize) -> usize {
 
 // The lines one by one; no run uses up the count of lines.
 fn run_text(text: &[u8]) -> State {
+    let mut threads = [[0u64; 34]; 8];
+    let mut regions = [[0u32; 16]; 32];
+    let mut owner = [0u32; 256];
+    let mut lock = [false; 256];
     let mut cur = [[0u64; 8]; 256];
     let mut med = [[0u64; 8]; 256];
     let mut old = [[0u64; 8]; 256];
@@ -389,7 +449,18 @@ fn run_text(text: &[u8]) -> State {
         let at = s.at;
         let e = line_end(text, at);
         let next = going_to(s, behind(text, e), s.mark, s.turns);
-        s = run_line(next, &mut cur, &mut med, &mut old, &mut car, &text[at..e]);
+        s = run_line(
+            next,
+            &mut threads,
+            &mut regions,
+            &mut owner,
+            &mut lock,
+            &mut cur,
+            &mut med,
+            &mut old,
+            &mut car,
+            &text[at..e],
+        );
         lines -= 1;
     }
     s

@@ -1,15 +1,15 @@
 // Reads an event file on standard input, runs it over zero memory, and prints the text of each event. The file may have any length: it is read in pieces.
-use rules::Tables;
+use rows::Head;
 ghost use Prim.Native.Nat.{_≤_, _<_};
 ghost use mathlib.Core.Path.{_≡_};
 ghost use mathlib.Core.Bool.{true};
 ghost use lib.ListN.{length};
 ghost use Rattle.io.specs.Counts.{Counts};
 
-// What stands between two pieces: the tables, the length of the output that is not yet written, how many bytes at the front of the buffer are not yet run,
+// What stands between two pieces: the numbers beside the rows, the length of the output that is not yet written, how many bytes at the front of the buffer are not yet run,
 // and whether the file has ended.
 struct State {
-    tables: Tables,
+    head: Head,
     out: usize,
     held: usize,
     ended: bool,
@@ -36,6 +36,10 @@ fn nothing_lost(room: bool)
 // record waits for it, but not behind the last piece.
 fn run_piece(
     s: State,
+    threads: &mut [[u64; 34]; 8],
+    regions: &mut [[u32; 16]; 32],
+    owner: &mut [u32; 256],
+    lock: &mut [bool; 256],
     cur: &mut [[u64; 8]; 256],
     med: &mut [[u64; 8]; 256],
     old: &mut [[u64; 8]; 256],
@@ -47,26 +51,39 @@ fn run_piece(
     requires { ⌜ ((0 < least) × (s .out < 65536)) × (262144 ≤ length (now out)) ⌝ }
     ensures { λ r. ⌜ (r .held ≤ length (now (piece .entry))) × (r .out < 65536) ⌝ }
 {
-    let mut t = s.tables;
+    let mut h = s.head;
     let mut p = s.out;
     let mut at: usize = 0;
     loop {
         let left = piece.len() - at;
         if left < least {
             return State {
-                tables: t,
+                head: h,
                 out: p,
                 held: left,
                 ended: false,
             };
         }
-        let r = tracing::trace_event(t, cur, med, old, car, &piece[at..], out, p);
+        let r = tracing::trace_event(
+            h,
+            threads,
+            regions,
+            owner,
+            lock,
+            cur,
+            med,
+            old,
+            car,
+            &piece[at..],
+            out,
+            p,
+        );
         nothing_lost(r.room);
-        t = r.tables;
+        h = r.head;
         p = write_if_full(out, r.at);
         if r.passed == 0 {
             return State {
-                tables: t,
+                head: h,
                 out: p,
                 held: 0,
                 ended: true,
@@ -102,9 +119,9 @@ fn fill(buffer: &mut [u8], held: usize) -> usize
 fn ended(s: State) -> State
     ensures { λ r. ⌜ (r .held ≡ 0) × (r .out ≡ s .out) ⌝ }
 {
-    let t = s.tables;
+    let h = s.head;
     State {
-        tables: t,
+        head: h,
         out: s.out,
         held: 0,
         ended: true,
@@ -114,6 +131,10 @@ fn ended(s: State) -> State
 // Reads a piece and runs it.
 fn turn(
     s: State,
+    threads: &mut [[u64; 34]; 8],
+    regions: &mut [[u32; 16]; 32],
+    owner: &mut [u32; 256],
+    lock: &mut [bool; 256],
     cur: &mut [[u64; 8]; 256],
     med: &mut [[u64; 8]; 256],
     old: &mut [[u64; 8]; 256],
@@ -126,9 +147,35 @@ fn turn(
 {
     let m = fill(buffer, s.held);
     if m == s.held {
-        return ended(run_piece(s, cur, med, old, car, &buffer[..m], 1, out));
+        return ended(run_piece(
+            s,
+            threads,
+            regions,
+            owner,
+            lock,
+            cur,
+            med,
+            old,
+            car,
+            &buffer[..m],
+            1,
+            out,
+        ));
     }
-    let r = run_piece(s, cur, med, old, car, &buffer[..m], 12, out);
+    let r = run_piece(
+        s,
+        threads,
+        regions,
+        owner,
+        lock,
+        cur,
+        med,
+        old,
+        car,
+        &buffer[..m],
+        12,
+        out,
+    );
     move_down(buffer, m, r.held);
     r
 }
@@ -138,19 +185,35 @@ fn trace(buffer: &mut [u8], out: &mut [u8]) -> usize
     requires { ⌜ 262144 ≤ length (now out) ⌝ }
     ensures { λ r. ⌜ Counts r (now (out .exit)) ⌝ }
 {
+    let mut threads = [[0u64; 34]; 8];
+    let mut regions = [[0u32; 16]; 32];
+    let mut owner = [0u32; 256];
+    let mut lock = [false; 256];
     let mut cur = [[0u64; 8]; 256];
     let mut med = [[0u64; 8]; 256];
     let mut old = [[0u64; 8]; 256];
     let mut car = [[0u64; 8]; 256];
     let mut s = State {
-        tables: starting::fresh_tables(true, 0),
+        head: starting::fresh_head(true, 0),
         out: 0,
         held: 0,
         ended: false,
     };
     let mut turns = u64::MAX;
     while turns > 0 && !s.ended {
-        s = turn(s, &mut cur, &mut med, &mut old, &mut car, buffer, out);
+        s = turn(
+            s,
+            &mut threads,
+            &mut regions,
+            &mut owner,
+            &mut lock,
+            &mut cur,
+            &mut med,
+            &mut old,
+            &mut car,
+            buffer,
+            out,
+        );
         turns -= 1;
     }
     s.out

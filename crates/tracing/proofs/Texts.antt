@@ -139,6 +139,11 @@ module _ (k : ℕ) (s : Stepped) where
   unfolding behindText
   behind-cut e h = rw (eq-eqb k 8 e, eq-eqb (s .answer .refusal) 0 h)
 
+-- what an event gives, and its kind, make its text
+pub event-told : (b : Board) (bs : List ℕ) (s : Stepped) (k : ℕ) → s ≡ step b bs → k ≡ getD bs 0 0 → answerText k (s .answer) ++ behindText k s ≡ eventText b bs
+unfolding eventText
+event-told b bs s k e f = rw (e, f)
+
 pub event-said : (b : Board) (bs : List ℕ) → eventText b bs ≡ answerText (getD bs 0 0) (step b bs .answer) ++ behindText (getD bs 0 0) (step b bs)
 unfolding eventText
 event-said b bs = refl

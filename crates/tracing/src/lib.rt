@@ -1,17 +1,17 @@
 // The text that a trace prints: a line for each answer, and behind an accepted cut a line for each word of the recovered memory that is not zero.
 // Every writer has one contract shape: given room for its bytes from `at` on, the buffer at exit has them there and nothing else changed, and the
 // answer is the place behind them.
+use rows::Head;
 use rules::Answer;
-use rules::Tables;
 use text::Cursor;
 ghost use Prim.Native.Nat.{ℕ, _*_, _+_, _≤_};
 ghost use mathlib.Core.Path.{_≡_};
-ghost use mathlib.Core.Bool.{true};
+ghost use mathlib.Core.Bool.{Bool, true};
 ghost use mathlib.Core.List.{List, [], _∷_};
 ghost use lib.Dec.{leb};
 ghost use lib.ListN.{getD, length};
 ghost use Rattle.rules.specs.Image.{save};
-ghost use Rattle.steps.specs.Parts.{board};
+ghost use Rattle.rows.specs.Whole.{boardOf};
 ghost use Rattle.text.specs.Write.{decimal};
 ghost use Rattle.tracing.specs.Text.{answerText, behindText, cutText, imageBuffer, imageLine, lineText, memoryText, numberText, recovered, recoveredText, wordText};
 ghost use Rattle.tracing.specs.Results.{Put, TracedEvent};
@@ -140,20 +140,22 @@ fn image_words(dst: &mut [u8], at: usize, image: &mut [u8], n: usize) -> usize
 fn saved_words(
     dst: &mut [u8],
     at: usize,
-    t: Tables,
+    h: Head,
+    threads: &[[u64; 34]; 8],
+    regions: &[[u32; 16]; 32],
     med: &[[u64; 8]; 256],
     old: &[[u64; 8]; 256],
     image: &mut [u8],
 ) -> usize
     requires { ⌜ at + 133120 ≤ length (now dst) ⌝ }
-    ensures { λ r. ⌜ ((cur car : List (List ℕ)) → Put (now (dst .entry)) (now (dst .exit)) at r (recoveredText (t .size .lines) (save (board t cur (now (med .entry)) (now (old .entry)) car) (now (image .entry))))) ⌝ }
+    ensures { λ r. ⌜ ((owner : List ℕ) (lock : List Bool) (cur car : List (List ℕ)) → Put (now (dst .entry)) (now (dst .exit)) at r (recoveredText (h .size .lines) (save (boardOf h (now (threads .entry)) (now (regions .entry)) owner lock cur (now (med .entry)) (now (old .entry)) car) (now (image .entry))))) ⌝ }
 {
-    let saved = saving::save(t, med, old, image);
+    let saved = saving::save(h, threads, regions, med, old, image);
     if saved.refusal != 0 {
         return at;
     }
     let n = saved.value as usize;
-    let size = t.size;
+    let size = h.size;
     image_words(dst, at, &mut image[..n], size.lines as usize)
 }
 
@@ -168,15 +170,17 @@ fn image_buffer() -> [u8; 34853]
 fn cut_words(
     dst: &mut [u8],
     at: usize,
-    t: Tables,
+    h: Head,
+    threads: &[[u64; 34]; 8],
+    regions: &[[u32; 16]; 32],
     med: &[[u64; 8]; 256],
     old: &[[u64; 8]; 256],
 ) -> usize
     requires { ⌜ at + 133120 ≤ length (now dst) ⌝ }
-    ensures { λ r. ⌜ ((cur car : List (List ℕ)) → Put (now (dst .entry)) (now (dst .exit)) at r (cutText (board t cur (now (med .entry)) (now (old .entry)) car))) ⌝ }
+    ensures { λ r. ⌜ ((owner : List ℕ) (lock : List Bool) (cur car : List (List ℕ)) → Put (now (dst .entry)) (now (dst .exit)) at r (cutText (boardOf h (now (threads .entry)) (now (regions .entry)) owner lock cur (now (med .entry)) (now (old .entry)) car))) ⌝ }
 {
     let mut image = image_buffer();
-    saved_words(dst, at, t, med, old, &mut image)
+    saved_words(dst, at, h, threads, regions, med, old, &mut image)
 }
 
 // What stands behind the line of an answer: the recovered words if a cut is accepted.
@@ -185,12 +189,14 @@ fn behind_words(
     at: usize,
     kind: u8,
     a: Answer,
-    t: Tables,
+    h: Head,
+    threads: &[[u64; 34]; 8],
+    regions: &[[u32; 16]; 32],
     med: &[[u64; 8]; 256],
     old: &[[u64; 8]; 256],
 ) -> usize
     requires { ⌜ at + 133120 ≤ length (now dst) ⌝ }
-    ensures { λ r. ⌜ ((cur car : List (List ℕ)) → Put (now (dst .entry)) (now (dst .exit)) at r (behindText kind (record { board = board t cur (now (med .entry)) (now (old .entry)) car; answer = a }))) ⌝ }
+    ensures { λ r. ⌜ ((owner : List ℕ) (lock : List Bool) (cur car : List (List ℕ)) → Put (now (dst .entry)) (now (dst .exit)) at r (behindText kind (record { board = boardOf h (now (threads .entry)) (now (regions .entry)) owner lock cur (now (med .entry)) (now (old .entry)) car; answer = a }))) ⌝ }
 {
     if kind != 8 {
         return at;
@@ -198,7 +204,7 @@ fn behind_words(
     if a.refusal != 0 {
         return at;
     }
-    cut_words(dst, at, t, med, old)
+    cut_words(dst, at, h, threads, regions, med, old)
 }
 
 // The first byte of a record, its kind; 0 where there is none.
@@ -211,9 +217,9 @@ fn first(bytes: &[u8]) -> u8
     bytes[0]
 }
 
-// What an event leaves: the tables, the place behind its text, the bytes of its record, 0 for one that ends its file, and whether there was room for its text.
+// What an event leaves: the numbers beside the rows, the place behind its text, the bytes of its record, 0 for one that ends its file, and whether there was room for its text.
 pub struct Traced {
-    pub tables: Tables,
+    pub head: Head,
     pub at: usize,
     pub passed: usize,
     pub room: bool,
@@ -221,7 +227,11 @@ pub struct Traced {
 
 // One event of a file where there is room for its text: its step, and its text from `at` on.
 fn trace_step(
-    t: Tables,
+    h: Head,
+    threads: &mut [[u64; 34]; 8],
+    regions: &mut [[u32; 16]; 32],
+    owner: &mut [u32; 256],
+    lock: &mut [bool; 256],
     cur: &mut [[u64; 8]; 256],
     med: &mut [[u64; 8]; 256],
     old: &mut [[u64; 8]; 256],
@@ -231,16 +241,16 @@ fn trace_step(
     at: usize,
 ) -> Traced
     requires { ⌜ at + 133183 ≤ length (now dst) ⌝ }
-    ensures { λ r. ⌜ TracedEvent true (board t (now (cur .entry)) (now (med .entry)) (now (old .entry)) (now (car .entry))) (board (r .tables) (now (cur .exit)) (now (med .exit)) (now (old .exit)) (now (car .exit))) (now (bytes .entry)) (now (dst .entry)) (now (dst .exit)) at r ⌝ }
+    ensures { λ r. ⌜ TracedEvent true (boardOf h (now (threads .entry)) (now (regions .entry)) (now (owner .entry)) (now (lock .entry)) (now (cur .entry)) (now (med .entry)) (now (old .entry)) (now (car .entry))) (boardOf (r .head) (now (threads .exit)) (now (regions .exit)) (now (owner .exit)) (now (lock .exit)) (now (cur .exit)) (now (med .exit)) (now (old .exit)) (now (car .exit))) (now (bytes .entry)) (now (dst .entry)) (now (dst .exit)) at r ⌝ }
 {
     let kind = first(bytes);
-    let o = engine::event(t, cur, med, old, car, bytes);
-    let u = o.tables;
+    let o = engine::event(h, threads, regions, owner, lock, cur, med, old, car, bytes);
+    let g = o.head;
     let a = o.answer;
     let p = answer_line(dst, at, kind, a);
-    let q = behind_words(dst, p, kind, a, u, med, old);
+    let q = behind_words(dst, p, kind, a, g, threads, regions, med, old);
     Traced {
-        tables: u,
+        head: g,
         at: q,
         passed: text::record_length(bytes),
         room: true,
@@ -259,7 +269,11 @@ fn has_room(n: usize, at: usize) -> bool
 
 // One event of a file: its step, and its text from `at` on. Without room nothing is done.
 pub fn trace_event(
-    t: Tables,
+    h: Head,
+    threads: &mut [[u64; 34]; 8],
+    regions: &mut [[u32; 16]; 32],
+    owner: &mut [u32; 256],
+    lock: &mut [bool; 256],
     cur: &mut [[u64; 8]; 256],
     med: &mut [[u64; 8]; 256],
     old: &mut [[u64; 8]; 256],
@@ -268,13 +282,26 @@ pub fn trace_event(
     dst: &mut [u8],
     at: usize,
 ) -> Traced
-    ensures { λ r. ⌜ TracedEvent (leb (at + 133183) (length (now (dst .entry)))) (board t (now (cur .entry)) (now (med .entry)) (now (old .entry)) (now (car .entry))) (board (r .tables) (now (cur .exit)) (now (med .exit)) (now (old .exit)) (now (car .exit))) (now (bytes .entry)) (now (dst .entry)) (now (dst .exit)) at r ⌝ }
+    ensures { λ r. ⌜ TracedEvent (leb (at + 133183) (length (now (dst .entry)))) (boardOf h (now (threads .entry)) (now (regions .entry)) (now (owner .entry)) (now (lock .entry)) (now (cur .entry)) (now (med .entry)) (now (old .entry)) (now (car .entry))) (boardOf (r .head) (now (threads .exit)) (now (regions .exit)) (now (owner .exit)) (now (lock .exit)) (now (cur .exit)) (now (med .exit)) (now (old .exit)) (now (car .exit))) (now (bytes .entry)) (now (dst .entry)) (now (dst .exit)) at r ⌝ }
 {
     if has_room(dst.len(), at) {
-        return trace_step(t, cur, med, old, car, bytes, dst, at);
+        return trace_step(
+            h,
+            threads,
+            regions,
+            owner,
+            lock,
+            cur,
+            med,
+            old,
+            car,
+            bytes,
+            dst,
+            at,
+        );
     }
     Traced {
-        tables: t,
+        head: h,
         at,
         passed: 0,
         room: false,

@@ -9,7 +9,7 @@ array-share-prefix-bytes : tie.Need-array-share-prefix-bytes
 array-share-prefix-bytes c = search needs
 
 slice-aggregate-event : tie.Need-slice-aggregate-event
-slice-aggregate-event c = let a = c .before .before .before .before .before .before .args in let h : a .n ≤ length (a .t6) = search needs in simp length-take (omega arith)
+slice-aggregate-event c = let a = c .before .before .before .before .before .before .before .before .before .before .args in let h : a .n ≤ length (a .t10) = search needs in simp length-take (omega arith)
 
 event-requires : tie.Need-event-requires
 event-requires c κs = search needs

@@ -6,10 +6,10 @@ use borrow.Author.Tests.{ltb-true}
 use borrow.Author.Needs.{needs}
 
 abbrev Inv-loop : tie.InvT-loop
-Inv-loop text cur₀ med₀ old₀ car₀ s₀ lines₀ cur med old car s lines = Unit {0}
+Inv-loop text threads₀ regions₀ owner₀ lock₀ cur₀ med₀ old₀ car₀ s₀ lines₀ threads regions owner lock cur med old car s lines = Unit {0}
 
 abbrev μ-loop : tie.MeasureT-loop
-μ-loop text cur₀ med₀ old₀ car₀ s₀ lines₀ cur med old car s lines = lines
+μ-loop text threads₀ regions₀ owner₀ lock₀ cur₀ med₀ old₀ car₀ s₀ lines₀ threads regions owner lock cur med old car s lines = lines
 
 fresh-requires : tie.Need-fresh-requires Inv-loop μ-loop
 fresh-requires c κs = search needs
@@ -39,10 +39,10 @@ run-line-requires : tie.Need-run-line-requires Inv-loop μ-loop
 run-line-requires c κs = search needs
 
 sub-lines : tie.Need-sub-lines Inv-loop μ-loop
-sub-lines c = search needs
+sub-lines c = omega (arith, c .before .before .before .before .before .before .before .before .before .before .before .before .before .before .before .loop-test .taken)
 
 loop-less : tie.Need-loop-less Inv-loop μ-loop
-loop-less c = search needs
+loop-less c = omega (arith, c .before .before .before .before .before .before .before .before .before .before .before .before .before .before .before .loop-test .taken)
 
 loop-again : tie.Need-loop-again Inv-loop μ-loop
 loop-again c = search needs

@@ -4,7 +4,7 @@ use mathlib.Core.Bool.{Bool}
 use lib.Dec.{leb}
 use lib.ListN.{length}
 use native.Mathlib.Omega.{arith}
-use Rattle.steps.specs.Parts.{board}
+use Rattle.rows.specs.Whole.{boardOf}
 use Rattle.tracing.proofs.Saved.{traced-short}
 use Rattle.trace.proofs.Pieces.{passed-fits, rest}
 use borrow.Author.Needs.{needs}
@@ -13,10 +13,10 @@ use Rattle.trace.proofs.run_piece.Statement.{statement}
 use Rattle.trace.proofs.run_piece.Tie as tie
 
 abbrev Inv-loop : tie.InvT-loop
-Inv-loop cur₀ med₀ old₀ car₀ piece least out₀ t₀ p₀ at₀ cur med old car out t p at = ((at ≤ length piece) × (p < 65536)) × (length out ≡ length out₀)
+Inv-loop threads₀ regions₀ owner₀ lock₀ cur₀ med₀ old₀ car₀ piece least out₀ h₀ p₀ at₀ threads regions owner lock cur med old car out h p at = ((at ≤ length piece) × (p < 65536)) × (length out ≡ length out₀)
 
 abbrev μ-loop : tie.MeasureT-loop
-μ-loop cur₀ med₀ old₀ car₀ piece least out₀ t₀ p₀ at₀ cur med old car out t p at = length piece - at
+μ-loop threads₀ regions₀ owner₀ lock₀ cur₀ med₀ old₀ car₀ piece least out₀ h₀ p₀ at₀ threads regions owner lock cur med old car out h p at = length piece - at
 
 loop-holds : tie.Need-loop-holds Inv-loop μ-loop
 loop-holds c = search needs
@@ -45,7 +45,7 @@ trace-event-requires c κs = search needs
 -- ---- what is known behind an event
 
 abbrev turn : tie.After-trace-event Inv-loop μ-loop → tie.At-loop Inv-loop μ-loop
-turn e = e .before .before .before .before .before .before .before .before
+turn e = e .before .before .before .before .before .before .before .before .before .before .before .before
 
 abbrev entry : tie.After-trace-event Inv-loop μ-loop → tie.Start Inv-loop μ-loop
 entry e = turn e .before .before .before .before
@@ -54,8 +54,8 @@ abbrev roomy : tie.After-trace-event Inv-loop μ-loop → Bool
 roomy e = let q = turn e .loop in leb (q .p + 133183) (length (q .out))
 
 -- the output is as long as before
-same-out : (e : tie.After-trace-event Inv-loop μ-loop) → length (e .trace-event .last .1 .1 .1 .1 .1 .1 .0) ≡ length (turn e .loop .out)
-same-out e = e .trace-event .kept .1 .1 .1 .1 .1 .1 .0
+same-out : (e : tie.After-trace-event Inv-loop μ-loop) → length (e .trace-event .last .1 .1 .1 .1 .1 .1 .1 .1 .1 .1 .0) ≡ length (turn e .loop .out)
+same-out e = e .trace-event .kept .1 .1 .1 .1 .1 .1 .1 .1 .1 .1 .0
 
 -- the bytes of its record lie inside the piece
 passes : (e : tie.After-trace-event Inv-loop μ-loop) → e .trace-event .result .passed ≤ length (entry e .args .piece .now) - turn e .loop .at
@@ -72,7 +72,7 @@ write-if-full-requires : tie.Need-write-if-full-requires Inv-loop μ-loop
 write-if-full-requires c κs =
     let e = c .before .before .before .before .before in
     let q = turn e .loop in
-    let b = board (q .t) (q .cur) (q .med) (q .old) (q .car) in
+    let b = boardOf (q .h) (q .threads) (q .regions) (q .owner) (q .lock) (q .cur) (q .med) (q .old) (q .car) in
     omega (
       arith,
       e .trace-event .ensures .written .1,
@@ -91,9 +91,9 @@ returns-2 c = search needs
 add-at : tie.Need-add-at Inv-loop μ-loop
 add-at c =
     let e = c .before .before .before .before .before .before .before .before .before in
-    let q = e .before .before .before .before .before .before .before .before in
+    let q = e .before .before .before .before .before .before .before .before .before .before .before .before in
     let h : e .trace-event .result .passed ≤ length (q .before .before .before .before .args .piece .now) - q .loop .at = passes e in
-    omega (arith, h, q .loop .inv, q .before .before .before .before .good .1 .1 .1 .1 .1 .0)
+    omega (arith, h, q .loop .inv, q .before .before .before .before .good .1 .1 .1 .1 .1 .1 .1 .1 .1 .0)
 
 loop-less : tie.Need-loop-less Inv-loop μ-loop
 loop-less c =

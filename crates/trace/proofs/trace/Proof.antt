@@ -8,18 +8,17 @@ use Rattle.trace.proofs.trace.Statement.{statement}
 use Rattle.trace.proofs.trace.Tie as tie
 use Rattle.trace.proofs.trace.Reads as reads
 use Rattle.trace.proofs.trace.Lts as lts
-use Rattle.starting.proofs.fresh_tables.Reads as fresh-tables-reads
 use Rattle.trace.proofs.turn.Reads as turn-reads
 
 abbrev Inv-loop : tie.InvT-loop
-Inv-loop buffer₀ out₀ cur₀ med₀ old₀ car₀ s₀ turns₀ buffer out cur med old car s turns = ((s .held ≤ length buffer) × (s .out < 65536)) × ((length buffer ≡ length buffer₀) × (length out ≡ length out₀))
+Inv-loop buffer₀ out₀ threads₀ regions₀ owner₀ lock₀ cur₀ med₀ old₀ car₀ s₀ turns₀ buffer out threads regions owner lock cur med old car s turns = ((s .held ≤ length buffer) × (s .out < 65536)) × ((length buffer ≡ length buffer₀) × (length out ≡ length out₀))
 
 abbrev μ-loop : tie.MeasureT-loop
-μ-loop buffer₀ out₀ cur₀ med₀ old₀ car₀ s₀ turns₀ buffer out cur med old car s turns = turns
+μ-loop buffer₀ out₀ threads₀ regions₀ owner₀ lock₀ cur₀ med₀ old₀ car₀ s₀ turns₀ buffer out threads regions owner lock cur med old car s turns = turns
 
 -- src/main.rt:138:17
-fresh-tables-requires : tie.Need-fresh-tables-requires Inv-loop μ-loop
-fresh-tables-requires c κs = search needs
+fresh-head-requires : tie.Need-fresh-head-requires Inv-loop μ-loop
+fresh-head-requires c κs = search needs
 
 -- src/main.rt:144:5
 loop-holds : tie.Need-loop-holds Inv-loop μ-loop
@@ -27,7 +26,7 @@ loop-holds c = ((omega arith, omega arith), (refl, refl))
 
 -- src/main.rt:145:9
 turn-requires : tie.Need-turn-requires Inv-loop μ-loop
-turn-requires c κs = let q = c .before .before .before .before .before .before .before .before .before .loop .inv in (q .0, omega (arith, q .1 .1, c .before .before .before .before .before .before .before .before .before .before .before .before .before .pre))
+turn-requires c κs = let q = c .before .before .before .before .before .before .before .before .before .before .before .before .before .loop .inv in (q .0, omega (arith, q .1 .1, c .before .before .before .before .before .before .before .before .before .before .before .before .before .before .before .before .before .pre))
 
 -- src/main.rt:146:9
 sub-turns : tie.Need-sub-turns Inv-loop μ-loop
@@ -39,8 +38,8 @@ loop-less c = search needs
 
 -- src/main.rt:144:5
 loop-again : tie.Need-loop-again Inv-loop μ-loop
-loop-again c = let q = c .before .before .before .before .before .before .before .before .before .before .before .before .before .before .loop .inv in let r = c .before .before .before .before .turn in
-    (r .ensures, (r .kept .1 .1 .1 .1 .1 .0 ∙ q .1 .0, r .kept .1 .1 .1 .1 .1 .1 .0 ∙ q .1 .1))
+loop-again c = let q = c .before .before .before .before .before .before .before .before .before .before .before .before .before .before .before .before .before .before .loop .inv in let r = c .before .before .before .before .turn in
+    (r .ensures, (r .kept .1 .1 .1 .1 .1 .1 .1 .1 .1 .0 ∙ q .1 .0, r .kept .1 .1 .1 .1 .1 .1 .1 .1 .1 .1 .0 ∙ q .1 .1))
 
 -- src/main.rt:129:1
 same-length : tie.Need-same-length Inv-loop μ-loop
@@ -72,7 +71,7 @@ trace-spec =
     (tie.spec
     Inv-loop
     μ-loop
-    fresh-tables-requires
+    fresh-head-requires
     loop-holds
     turn-requires
     sub-turns

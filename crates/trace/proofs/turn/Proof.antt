@@ -20,7 +20,7 @@ slice-reshare-prefix-run-piece c = search needs
 
 -- src/main.rt:121:55
 slice-aggregate-run-piece : tie.Need-slice-aggregate-run-piece
-slice-aggregate-run-piece c = let f = c .before .before .before .before .before .before .before .before .before .fill in taken (f .result) (f .last .0) (f .ensures .1)
+slice-aggregate-run-piece c = let f = c .before .before .before .before .before .before .before .before .before .before .before .before .before .fill in taken (f .result) (f .last .0) (f .ensures .1)
 
 -- src/main.rt:121:22
 run-piece-requires : tie.Need-run-piece-requires
@@ -32,7 +32,7 @@ ended-requires c κs = search needs
 
 -- src/main.rt:121:9
 same-length : tie.Need-same-length
-same-length c = c .before .before .before .before .before .before .before .before .before .before .before .before .before .before .fill .kept .0
+same-length c = c .before .before .before .before .before .before .before .before .before .before .before .before .before .before .before .before .before .before .fill .kept .0
 
 -- src/main.rt:121:9
 same-length-2 : tie.Need-same-length-2
@@ -48,7 +48,7 @@ slice-reshare-prefix-run-piece-2 c = search needs
 
 -- src/main.rt:123:46
 slice-aggregate-run-piece-2 : tie.Need-slice-aggregate-run-piece-2
-slice-aggregate-run-piece-2 c = let f = c .before .before .before .before .before .before .before .before .before .fill in taken (f .result) (f .last .0) (f .ensures .1)
+slice-aggregate-run-piece-2 c = let f = c .before .before .before .before .before .before .before .before .before .before .before .before .before .fill in taken (f .result) (f .last .0) (f .ensures .1)
 
 -- src/main.rt:123:9
 run-piece-requires-2 : tie.Need-run-piece-requires-2
@@ -56,7 +56,7 @@ run-piece-requires-2 c κs = search needs
 
 -- src/main.rt:124:5
 move-down-requires : tie.Need-move-down-requires
-move-down-requires c κs = let f = c .before .before .before .before .before .before .before .before .before .before .before .before .before .before .fill in (omega (arith, c .before .before .before .run-piece2 .ensures .0, taken (f .result) (f .last .0) (f .ensures .1)), f .ensures .1)
+move-down-requires c κs = let f = c .before .before .before .before .before .before .before .before .before .before .before .before .before .before .before .before .before .before .fill in (omega (arith, c .before .before .before .run-piece2 .ensures .0, taken (f .result) (f .last .0) (f .ensures .1)), f .ensures .1)
 
 -- src/main.rt:107:1
 same-length-3 : tie.Need-same-length-3
@@ -68,7 +68,7 @@ same-length-4 c = search needs
 
 -- src/main.rt:107:1
 returns-2 : tie.Need-returns-2
-returns-2 c = let f = c .before .before .before .before .before .before .before .before .before .before .before .before .before .before .before .before .before .fill in let r = c .before .before .before .before .before .before .run-piece2 .ensures in
+returns-2 c = let f = c .before .before .before .before .before .before .before .before .before .before .before .before .before .before .before .before .before .before .before .before .before .fill in let r = c .before .before .before .before .before .before .run-piece2 .ensures in
     (omega (arith, r .0, taken (f .result) (f .last .0) (f .ensures .1), f .ensures .1, c .before .before .move-down .kept .0), r .1)
 
 pub turn-spec : {M : Type 1} → statement M

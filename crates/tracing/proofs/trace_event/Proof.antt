@@ -21,7 +21,7 @@ has-room-requires c κs = search needs
 
 trace-step-requires : tie.Need-trace-step-requires
 trace-step-requires c κs =
-    let h = c .before .before .before .before .before in
+    let h = c .before .before .before .before .before .before .before .before .before in
     let a = entry (h .before) .args in
     leb-true (a .at + 133183) (length (a .dst .now)) (roomy h)
 
@@ -31,7 +31,7 @@ same-length c = search needs
 returns : tie.Need-returns
 returns c =
     let l = c .before .before in
-    rw (roomy (l .before .before .before .before .before .before)) (l .trace-step .ensures)
+    rw (roomy (l .before .before .before .before .before .before .before .before .before .before)) (l .trace-step .ensures)
 
 returns-2 : tie.Need-returns-2
 returns-2 c =

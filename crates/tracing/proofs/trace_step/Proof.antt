@@ -5,8 +5,8 @@ use native.Mathlib.Omega.{arith}
 use Rattle.rules.specs.Step.{Stepped, step}
 use Rattle.rules.specs.Tables.{Board}
 use Rattle.saving.proofs.Emit.{last, on, start}
-use Rattle.steps.specs.Parts.{board}
-use Rattle.tracing.proofs.Texts.{answer-end, answer-room, event-said, put-as}
+use Rattle.rows.specs.Whole.{boardOf, stepped}
+use Rattle.tracing.proofs.Texts.{answer-end, answer-room, event-told, put-as}
 use Rattle.tracing.specs.Text.{answerText, behindText}
 use borrow.Author.Needs.{needs}
 use Rattle.tracing.proofs.trace_step.Statement.{statement}
@@ -15,18 +15,21 @@ use Rattle.tracing.proofs.trace_step.Tie as tie
 -- ---- what is known behind the event
 
 abbrev entry : tie.After-event → tie.Start
-entry e = e .before .before .before .before .before .before .before .before
+entry e = e .before .before .before .before .before .before .before .before .before .before .before .before
 
 abbrev kind : tie.After-event → ℕ
-kind e = e .before .before .before .before .before .first .result
+kind e = e .before .before .before .before .before .before .before .before .before .first .result
 
 -- the board before the event
 abbrev from : tie.After-event → Board
-from e = let a = entry e .args in board (a .t) (a .cur .now) (a .med .now) (a .old .now) (a .car .now)
+from e = let a = entry e .args in boardOf (a .h) (a .threads .now) (a .regions .now) (a .owner .now) (a .lock .now) (a .cur .now) (a .med .now) (a .old .now) (a .car .now)
 
 -- what the event gives
 abbrev gives : tie.After-event → Stepped
-gives e = let m = e .event .last .1 in record { board = board (e .event .result .tables) (m .0) (m .1 .0) (m .1 .1 .0) (m .1 .1 .1 .0); answer = e .event .result .answer }
+gives e =
+    let x = e .event .last .1 in
+    let m = x .1 .1 .1 .1 in
+    stepped (e .event .result .answer) (boardOf (e .event .result .head) (x .0) (x .1 .0) (x .1 .1 .0) (x .1 .1 .1 .0) (m .0) (m .1 .0) (m .1 .1 .0) (m .1 .1 .1 .0))
 
 -- ---- the needs
 
@@ -41,7 +44,7 @@ answer-line-requires c κs = let e = c .before .before .before in answer-room _ 
 
 behind-words-requires : tie.Need-behind-words-requires
 behind-words-requires c κs =
-    let l = c .before .before .before .before .before in
+    let l = c .before .before .before .before .before .before .before in
     let e = l .before .before .before .before in
     let p : l .answer-line .result ≤ entry e .args .at + 63 = answer-end _ _ _ _ (l .answer-line .ensures .1) in
     omega (arith, p, l .answer-line .kept .0, entry e .pre)
@@ -54,24 +57,21 @@ same-length c = search needs
 
 returns : tie.Need-returns
 returns c =
-    let l = c .before .before .before .before .before .before .before .before .before in
+    let l = c .before .before .before .before .before .before .before .before .before .before .before in
     let e = l .before .before .before .before in
     let a = entry e .args in
     let k = kind e in
     let s = gives e in
     let x = answerText k (e .event .result .answer) in
     let y = behindText k s in
-    let m = e .event .last .1 in
+    let z = e .event .last .1 .1 .1 in
     let w = on x y (start (a .dst .now) (a .at) (x ++ y)) (l .answer-line .ensures) in
     record {
       told = refl;
-      stands = ap (λ (z : Stepped). z .board) (e .event .ensures);
+      stands = ap (λ (z : Stepped). z .board) {x = s} {y = step (from e) (a .bytes .now)} (e .event .ensures);
       written = put-as (a .dst .now) (a .at)
-          (ap (λ (z : Stepped). answerText k (z .answer) ++ behindText k z) (e .event .ensures)
-          ∙ ap (λ (n : ℕ). answerText n (step (from e) (a .bytes .now) .answer) ++ behindText n (step (from e) (a .bytes .now)))
-          (e .before .before .before .before .before .first .ensures)
-          ∙ sym (event-said (from e) (a .bytes .now)))
-          (last y w (c .before .before .before .behind-words .ensures (m .0) (m .1 .1 .1 .0)));
+          (event-told (from e) (a .bytes .now) s k (e .event .ensures) (e .before .before .before .before .before .before .before .before .before .first .ensures))
+          (last y w (c .before .before .before .behind-words .ensures (z .0) (z .1 .0) (z .1 .1 .0) (z .1 .1 .1 .1 .1 .0)));
       passes = c .record-length .ensures;
     }
 
