@@ -9,9 +9,9 @@ use lib.ListN.{getD, getD-replicate, length, length-replicate, length-set, repli
 use lib.Seq.{getD-set-other, getD-set-same}
 use borrow.Author.Tests.{eqb-false, eqb-true, le-ltb, lt-ltb, not-false}
 use Rattle.judging.proofs.Bits.{bit-below, meet-if, meet-or}
-use Rattle.judging.proofs.Table.{place-lt}
 use Rattle.judging.specs.Marks.{anyPair, isUnlisted}
 use Rattle.judging.specs.Reach.{apartFrom, bitIf, clashBy, isApart, isRegion, meet, placeIn, placesOn}
+use Rattle.lookup.proofs.Bounds.{place-lt}
 use Rattle.lookup.proofs.Search.{any-place}
 use Rattle.rules.specs.Contradiction.{isListed}
 use Rattle.rules.specs.declared.Listed.{Listed}
@@ -48,7 +48,7 @@ module _ (rs : List Listed) (rows : List ℕ) where
           let p : ℕ = placeIn rs (m .key) in
           let q : ℕ = placeIn rs (y .key) in
           let z = or-false (isUnlisted rs y) (any (isUnlisted rs) ms) e in
-          let l : q < length rows = rw (← h) (place-lt rs (y .key) (not-false (isListed (y .key) rs) (z .0))) in
+          let l : q < length rows = rw (← h) (place-lt (isRegion (y .key)) rs (not-false (isListed (y .key) rs) (z .0))) in
           meet-or (apartFrom rows p) (bitIf (eqb (m .line) (y .line)) q) (placesOn rs (m .line) ms)
           ∙ rw (meet-if (apartFrom rows p) (eqb (m .line) (y .line)) q, bit-below (isApart rows p) (length rows) q l, meet-clash ms (z .1))
 

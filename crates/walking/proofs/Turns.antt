@@ -47,13 +47,13 @@ module _ {A : Type 0} where
 -- ---- one turn of the walk
 
 -- no region is left on which none depends
-pub walk-stops : (n : ℕ) (rs : List Listed) → length rs ≤ nextPlace rs → walkFrom n rs ≡ []
+walk-stops : (n : ℕ) (rs : List Listed) → length rs ≤ nextPlace rs → walkFrom n rs ≡ []
 unfolding walkFrom
 walk-stops zero rs h = refl
 walk-stops (suc n) rs h =
     ap (λ b. elim b [ false ↦ [] | true ↦ getD rs (nextPlace rs) noListed .key ∷ walkFrom n (without (nextPlace rs) rs) ]) (le-ltb (nextPlace rs) (length rs) h)
 
-pub walk-takes : (n m : ℕ) (rs : List Listed) → n ≡ suc m → nextPlace rs < length rs
+walk-takes : (n m : ℕ) (rs : List Listed) → n ≡ suc m → nextPlace rs < length rs
     → walkFrom n rs ≡ getD rs (nextPlace rs) noListed .key ∷ walkFrom m (without (nextPlace rs) rs)
 unfolding walkFrom
 walk-takes n m rs e h =
@@ -74,19 +74,19 @@ map-without f (suc i) [] = refl
 map-without f (suc i) (x ∷ xs) = ap (λ l. f x ∷ l) (map-without f i xs)
 
 module _ (n : ℕ) (keys : List ℕ) (deps : List (List ℕ)) (rs : List Listed) (l : Listing n keys deps rs) where
-  pub next-is : place (λ k. not (any (any (eqb k)) (take n deps))) (take n keys) ≡ nextPlace rs
+  next-is : place (λ k. not (any (any (eqb k)) (take n deps))) (take n keys) ≡ nextPlace rs
   unfolding nextPlace
   next-is =
       rw (l .its-keys, l .its-deps)
       (place-map _ _ (λ r. r .key) rs (λ r. ap not (any-map (any (eqb (r .key))) (λ x. any (eqb (r .key)) (x .deps)) (λ x. x .deps) rs (λ x. refl))))
 
-  pub as-many : n ≤ length keys → length rs ≡ n
+  as-many : n ≤ length keys → length rs ≡ n
   as-many h = sym (length-map rs (λ r. r .key)) ∙ (ap length (sym (l .its-keys)) ∙ length-take-le n keys h)
 
-  pub key-at : (at : ℕ) → at < n → getD keys at 0 ≡ getD rs at noListed .key
+  key-at : (at : ℕ) → at < n → getD keys at 0 ≡ getD rs at noListed .key
   key-at at h = sym (getD-take n keys at 0 h) ∙ (ap (λ xs. getD xs at 0) (l .its-keys) ∙ List·getD-map (λ r. r .key) rs at noListed)
 
-  pub listing-on : (at : ℕ) (keys′ : List ℕ) (deps′ : List (List ℕ)) → Removed n at keys keys′ → Removed n at deps deps′ → Listing (n - 1) keys′ deps′ (without at rs)
+  listing-on : (at : ℕ) (keys′ : List ℕ) (deps′ : List (List ℕ)) → Removed n at keys keys′ → Removed n at deps deps′ → Listing (n - 1) keys′ deps′ (without at rs)
   listing-on at keys′ deps′ k d =
       record {
         its-keys = k .front ∙ (ap (without at) (l .its-keys) ∙ map-without (λ r. r .key) at rs);
