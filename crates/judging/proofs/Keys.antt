@@ -1,9 +1,9 @@
 -- The keys of the regions tell the places of all that is looked up by a key.
-use Prim.Native.Nat.{ℕ}
-use mathlib.Core.Path.{_∙_, _≡_, fun-ext, refl}
-use mathlib.Core.List.{List, [], map}
+use Prim.Native.Nat.{suc, zero, ℕ}
+use mathlib.Core.Path.{_∙_, _≡_, ap, fun-ext, refl}
+use mathlib.Core.List.{List, [], _∷_, map}
 use lib.Dec.{eqb}
-use lib.ListN.{length, length-map}
+use lib.ListN.{length, length-map, take}
 use Rattle.judging.specs.Marks.{isFaulty, isUnlisted}
 use Rattle.judging.specs.Reach.{clashBy, isRegion, isRound, keyed, linkOf, linksOf, placeIn, tableBy, tangledBy}
 use Rattle.rules.proofs.Places.{any-map, place-map}
@@ -12,6 +12,12 @@ use Rattle.rules.specs.Lists.{place}
 use Rattle.rules.specs.declared.Listed.{Listed}
 use Rattle.rules.specs.declared.Mark.{Mark}
 use Rattle.undo.specs.Table.{any}
+
+-- the first of what a function makes of a list are what it makes of the first
+pub firsts : {A B : Type 0} (f : A → B) (n : ℕ) (xs : List A) → take n (map f xs) ≡ map f (take n xs)
+firsts f zero xs = refl
+firsts f (suc n) [] = refl
+firsts f (suc n) (x ∷ xs) = ap (_∷_ (f x)) (firsts f n xs)
 
 abbrev bare : ℕ → Listed
 bare k = record { key = k; state = 0; deps = [] }

@@ -36,14 +36,13 @@ fn both(a: bool, b: bool) -> bool
 
 // ---- places
 
-// The keys of the first n regions, in their places.
-pub fn keys_of(n: usize, regions: [Listed; 32]) -> [u32; 32]
-    requires { ⌜ n ≤ 32 ⌝ }
-    ensures { λ r. ⌜ take n r ≡ map (λ x. x .key) (take n regions) ⌝ }
+// The keys of the regions, in their places.
+pub fn keys_of(regions: [Listed; 32]) -> [u32; 32]
+    ensures { λ r. ⌜ r ≡ map (λ x. x .key) regions ⌝ }
 {
     let mut keys = [0u32; 32];
     let mut i: usize = 0;
-    while i < n {
+    while i < 32 {
         let x = regions[i];
         keys[i] = x.key;
         i += 1;
@@ -477,7 +476,7 @@ fn contradicts_first(n: usize, regions: [Listed; 32], logged: usize, log: [Mark;
     requires { ⌜ (n ≤ 32) × (logged ≤ 256) ⌝ }
     ensures { λ r. ⌜ r ≡ contradictsIn (take n regions) (take logged log) ⌝ }
 {
-    let table = keys_of(n, regions);
+    let table = keys_of(regions);
     let keys = &table[..n];
     if any_faulty(keys, regions) {
         return true;

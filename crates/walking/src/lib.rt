@@ -94,7 +94,7 @@ pub fn walk_order(held: usize, regions: [Listed; 32]) -> Order
     ensures { λ r. ⌜ orderOf r ≡ walkFrom (length (take held regions)) (take held regions) ⌝ }
 {
     let mut left = least(held, 32);
-    let mut keys = keys_of(left, regions);
+    let mut keys = keys_of(regions);
     let mut deps = deps_of(left, regions);
     let mut order = [0u32; 32];
     let mut count: usize = 0;

@@ -6,7 +6,7 @@ use lib.Seq.{length-take-le}
 use native.Mathlib.Omega.{arith}
 use borrow.Author.Needs.{needs}
 use Rattle.judging.proofs.Judged.{judged}
-use Rattle.judging.proofs.Keys.{faulty, tangled}
+use Rattle.judging.proofs.Keys.{faulty, firsts, tangled}
 use Rattle.judging.specs.Marks.{isFaulty}
 use Rattle.judging.specs.Reach.{tangledBy}
 use Rattle.undo.specs.Table.{any}
@@ -21,14 +21,14 @@ its-faulty : (c : tie.After-any-faulty) → let a = c .before .before .before .a
 its-faulty c =
     let k = c .before .before in
     let a = k .before .args in
-    c .any-faulty .ensures ∙ rw (keys-long k, k .keys-of .ensures, faulty (take (a .n) (a .regions)))
+    c .any-faulty .ensures ∙ rw (keys-long k, k .keys-of .ensures, firsts (λ x. x .key) (a .n) (a .regions), faulty (take (a .n) (a .regions)))
 
 its-tangled : (c : tie.After-is-tangled) → let a = c .before .before .before .before .before .before .before .args in
     c .is-tangled .result ≡ tangledBy (take (a .n) (a .regions)) (take (a .n) (a .regions)) (take (a .logged) (a .log))
 its-tangled c =
     let k = c .before .before .before .before .before .before in
     let a = k .before .args in
-    c .is-tangled .ensures ∙ rw (keys-long k, k .keys-of .ensures, tangled (take (a .n) (a .regions)) (take (a .logged) (a .log)))
+    c .is-tangled .ensures ∙ rw (keys-long k, k .keys-of .ensures, firsts (λ x. x .key) (a .n) (a .regions), tangled (take (a .n) (a .regions)) (take (a .logged) (a .log)))
 
 keys-of-requires : tie.Need-keys-of-requires
 keys-of-requires c κs = search needs

@@ -7,6 +7,7 @@ use lib.ListN.{length, length-set, take}
 use lib.Seq.{length-take-le}
 use native.Mathlib.Omega.{arith}
 use borrow.Author.Needs.{needs}
+use Rattle.judging.proofs.Keys.{firsts}
 use Rattle.rules.specs.Walk.{walkFrom}
 use Rattle.rules.specs.declared.Listed.{Listed}
 use Rattle.walking.proofs.Turns.{Listing, Walks, order-all, walks-end, walks-on, walks-stop}
@@ -27,13 +28,13 @@ walking l =
     let n = d .before .before .least in
     let a = d .before .before .before .args in
     rw (← order-all (a .held) 32 (n .result) (a .regions) (search needs) (n .ensures))
-    (l .loop .inv .1 (take (n .result) (a .regions)) (record { its-keys = d .before .keys-of .ensures; its-deps = d .deps-of .ensures }))
+    (l .loop .inv .1 (take (n .result) (a .regions)) (record { its-keys = rw (d .before .keys-of .ensures) (firsts (λ x. x .key) (n .result) (a .regions)); its-deps = d .deps-of .ensures }))
 
 least-requires : tie.Need-least-requires Inv-loop μ-loop
 least-requires c κs = search needs
 
 keys-of-requires : tie.Need-keys-of-requires Inv-loop μ-loop
-keys-of-requires c κs = omega (arith, c .least .ensures)
+keys-of-requires c κs = search needs
 
 deps-of-requires : tie.Need-deps-of-requires Inv-loop μ-loop
 deps-of-requires c κs = omega (arith, c .before .least .ensures)
