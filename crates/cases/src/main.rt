@@ -7,7 +7,6 @@
 // Prints a line for each case, then how many there are and how many are right.
 use rows::Head;
 use rules::Answer;
-use steps::Outcome;
 ghost use Prim.Native.Nat.{_≤_};
 ghost use lib.ListN.{length};
 
@@ -198,35 +197,11 @@ fn judge(s: Tried, h: Head, a: Answer, refusal: u64, value: u64) -> Tried {
     }
 }
 
-// The event of a record's first n bytes.
-fn run_record(
-    h: Head,
-    threads: &mut [[u64; 34]; 8],
-    regions: &mut [[u32; 16]; 32],
-    owner: &mut [u32; 256],
-    lock: &mut [bool; 256],
-    cur: &mut [[u64; 8]; 256],
-    med: &mut [[u64; 8]; 256],
-    old: &mut [[u64; 8]; 256],
-    car: &mut [[u64; 8]; 256],
-    bytes: [u8; 16],
-    n: usize,
-) -> Outcome {
-    if n <= 16 {
-        return engine::event(
-            h,
-            threads,
-            regions,
-            owner,
-            lock,
-            cur,
-            med,
-            old,
-            car,
-            &bytes[..n],
-        );
-    }
-    engine::event(h, threads, regions, owner, lock, cur, med, old, car, &bytes)
+// The number n, or that of the bytes if there are fewer.
+fn within(bytes: &[u8], n: usize) -> usize
+    ensures { λ r. ⌜ r ≤ length (now (bytes .entry)) ⌝ }
+{
+    if n < bytes.len() { n } else { bytes.len() }
 }
 
 fn number_at(numbers: [u64; 16], i: usize) -> u64 {
@@ -255,8 +230,9 @@ fn try_event(
     }
     let r = record_of(numbers, split);
     let bytes = r.bytes;
+    let n = within(&bytes, r.n);
     let h = s.head;
-    let o = run_record(
+    let o = engine::event(
         h,
         threads,
         regions,
@@ -266,8 +242,7 @@ fn try_event(
         med,
         old,
         car,
-        bytes,
-        r.n,
+        &bytes[..n],
     );
     let g = o.head;
     let a = o.answer;

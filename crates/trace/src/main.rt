@@ -32,8 +32,7 @@ fn nothing_lost(room: bool)
     requires { ⌜ room ≡ true ⌝ }
 {}
 
-// Runs the records at the front of a piece, as long as `least` bytes are left. More may come behind the piece: a rest that is shorter than the longest
-// record waits for it, but not behind the last piece.
+// Runs the records at the front of a piece, as long as `least` bytes are left.
 fn run_piece(
     s: State,
     threads: &mut [[u64; 34]; 8],
@@ -128,6 +127,13 @@ fn ended(s: State) -> State
     }
 }
 
+// More may come behind a piece: a rest that is shorter than the longest record waits for it, but not behind the last piece.
+fn least_left(last: bool) -> usize
+    ensures { λ r. ⌜ 0 < r ⌝ }
+{
+    if last { 1 } else { 12 }
+}
+
 // Reads a piece and runs it.
 fn turn(
     s: State,
@@ -146,22 +152,7 @@ fn turn(
     ensures { λ r. ⌜ (r .held ≤ length (now (buffer .exit))) × (r .out < 65536) ⌝ }
 {
     let m = fill(buffer, s.held);
-    if m == s.held {
-        return ended(run_piece(
-            s,
-            threads,
-            regions,
-            owner,
-            lock,
-            cur,
-            med,
-            old,
-            car,
-            &buffer[..m],
-            1,
-            out,
-        ));
-    }
+    let last = m == s.held;
     let r = run_piece(
         s,
         threads,
@@ -173,9 +164,12 @@ fn turn(
         old,
         car,
         &buffer[..m],
-        12,
+        least_left(last),
         out,
     );
+    if last {
+        return ended(r);
+    }
     move_down(buffer, m, r.held);
     r
 }

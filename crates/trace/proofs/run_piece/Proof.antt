@@ -66,7 +66,7 @@ nothing-lost-requires : tie.Need-nothing-lost-requires Inv-loop μ-loop
 nothing-lost-requires c κs =
     let e = c .before .before in
     let q = turn e .loop in
-    e .trace-event .ensures .told ∙ le-leb (q .p + 133183) (length (q .out)) (omega (arith, q .inv, entry e .pre))
+    rw (e .trace-event .ensures .told) (le-leb (q .p + 133183) (length (q .out)) (omega (arith, q .inv, entry e .pre)))
 
 write-if-full-requires : tie.Need-write-if-full-requires Inv-loop μ-loop
 write-if-full-requires c κs =
