@@ -3,11 +3,11 @@ use Prim.Native.Nat.{_+_, _/_, _<_, _≤_, ℕ}
 use mathlib.Core.Bool.{Bool, _&&_, _||_, cond, false, not, true}
 use mathlib.Core.List.{List, [], _∷_, map}
 use mathlib.Core.Path.{_∙_, _≡_, ap, refl, sym}
-use lib.Dec.{eqb}
+use lib.Dec.{eqb, ltb}
 use lib.ListN.{drop, getD, length, length-drop, length-map, replicate, set}
 use lib.Seq.{getD-drop}
 use native.Mathlib.Omega.{arith}
-use borrow.Author.Tests.{eq-eqb, ne-eqb}
+use borrow.Author.Tests.{eq-eqb, eqb-false, eqb-true, le-ltb, lt-ltb, ne-eqb}
 use Rattle.undo.proofs.Laws.{or-right, test}
 use Rattle.undo.specs.Table.{any}
 use Rattle.rules.proofs.Places.{any-map, eqb-swap}
@@ -31,18 +31,11 @@ isUsed s = not (isEmpty (s .state))
 abbrev pub used : ℕ → Bool
 used n = isUsed (slotOf n)
 
-pub used-yes : (n : ℕ) → 255 < n → used n ≡ true
-used-yes n h = rw (ne-eqb (n / 256) 0 (λ e. omega arith)) (test (eqb (n / 256) 1) (λ e. rw e) (λ e. rw e))
-
-pub used-no : (n : ℕ) → n ≤ 255 → used n ≡ false
-used-no n h = rw (eq-eqb (n / 256) 0 (omega arith))
-
-slots-from : (w : List ℕ) → length w ≡ 16 → slotsOf w ≡ map slotOf (drop 8 w)
-slots-from w h = ap (map slotOf) (simp getD-drop at (eight 0 (drop 8 w) (rw (length-drop) (omega arith))))
-
-pub slots-behind : (w : List ℕ) → length w ≡ 16 → any used (drop 8 w) ≡ hasSlot (regionOf w)
-unfolding regionOf
-slots-behind w h = sym (ap (any isUsed) (slots-from w h) ∙ any-map isUsed used slotOf (drop 8 w) (λ n. refl))
+pub used-word : (n : ℕ) → ltb 255 n ≡ used n
+used-word n =
+    test (eqb (n / 256) 0)
+    (λ e. rw (e, le-ltb 255 n (omega (arith, eqb-true (n / 256) 0 e))))
+    (λ e. rw (e, lt-ltb 255 n (omega (arith, eqb-false (n / 256) 0 e))) (test (eqb (n / 256) 1) (λ f. rw f) (λ f. rw f)))
 
 -- ---- dependences
 

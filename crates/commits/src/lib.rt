@@ -4,7 +4,7 @@ ghost use Prim.Native.Nat.{ℕ};
 ghost use mathlib.Core.Path.{_≡_};
 ghost use mathlib.Core.Bool.{Bool, _&&_};
 ghost use mathlib.Core.List.{List, map};
-ghost use lib.ListN.{getD, length};
+ghost use lib.ListN.{getD};
 ghost use lib.Dec.{eqb};
 ghost use Rattle.undo.specs.Table.{any};
 ghost use Rattle.rules.specs.Lists.{all};
@@ -15,34 +15,22 @@ ghost use Rattle.rows.specs.Row.{regionOf, regionsOf};
 ghost use Rattle.rows.specs.Whole.{tablesOf};
 ghost use Rattle.commits.specs.Ripe.{ripe};
 
-fn count_words(s: &[u32]) -> usize
-    ensures { λ n. ⌜ n ≡ length (now (s .entry)) ⌝ }
-{
-    s.len()
-}
-
-// A row has 16 numbers: no code, and the fact for the callers.
-fn words16(row: &[u32; 16])
-    ensures { λ _. ⌜ length (now (row .entry)) ≡ 16 ⌝ }
-{
-    count_words(row);
-}
-
 // ---- one row
 
 // Whether there is a slot: a number below 256 is an empty one.
 fn has_slot(row: &[u32; 16]) -> bool
     ensures { λ r. ⌜ r ≡ hasSlot (regionOf (now (row .entry))) ⌝ }
 {
-    words16(row);
-    let mut i: usize = 8;
-    while i < 16 {
-        if row[i] > 255 {
-            return true;
-        }
-        i += 1;
-    }
-    false
+    rows::one_of(
+        row[8] > 255,
+        row[9] > 255,
+        row[10] > 255,
+        row[11] > 255,
+        row[12] > 255,
+        row[13] > 255,
+        row[14] > 255,
+        row[15] > 255,
+    )
 }
 
 fn and4(a: bool, b: bool, c: bool, d: bool) -> bool
@@ -79,7 +67,7 @@ fn is_ripe(row: &[u32; 16]) -> bool
 fn become_done(row: &mut [u32; 16])
     ensures { λ _. ⌜ regionOf (now (row .exit)) ≡ doneRegion (regionOf (now (row .entry))) ⌝ }
 {
-    words16(row);
+    rows::words16(row);
     if row[1] == 1 {
         if !has_slot(row) {
             row[2] = 1;
@@ -98,7 +86,7 @@ fn without_dep(key: u32, d: u32) -> u32
 fn after_commit(row: &mut [u32; 16], key: u32)
     ensures { λ _. ⌜ regionOf (now (row .exit)) ≡ afterCommit key (regionOf (now (row .entry))) ⌝ }
 {
-    words16(row);
+    rows::words16(row);
     if row[0] == key {
         *row = [0; 16];
         return;

@@ -6,7 +6,6 @@ use rules::Slot;
 use rules::SlotState;
 ghost use mathlib.Core.Path.{_≡_};
 ghost use lib.Dec.{eqb};
-ghost use Rattle.undo.specs.Table.{any};
 ghost use Rattle.rules.specs.Lists.{place};
 ghost use Rattle.rules.specs.Tables.{noRegion, noSlot};
 ghost use Rattle.rules.specs.Slots.{carries, isEmpty, names, orAt, slotFor};
@@ -57,19 +56,13 @@ fn dep_place(deps: [u32; 4], d: u32) -> usize
 }
 
 // Whether d is no dependence, or one of those held.
-pub fn is_had(deps: [u32; 4], d: u32) -> bool
+fn is_had(deps: [u32; 4], d: u32) -> bool
     ensures { λ r. ⌜ r ≡ isHad d deps ⌝ }
 {
     if d == 0 {
         return true;
     }
     dep_place(deps, d) < 4
-}
-
-pub fn has_free_dep(deps: [u32; 4]) -> bool
-    ensures { λ r. ⌜ r ≡ any (eqb 0) deps ⌝ }
-{
-    dep_place(deps, 0) < 4
 }
 
 // The dependences with d among them; as they were where no place is free.
@@ -100,24 +93,6 @@ pub fn slot_carries(s: Slot, l: u8) -> bool
         SlotState::Waiting(_) => false,
         SlotState::InFlight => s.line == l,
     }
-}
-
-// The slot that is in flight with the line l.
-pub fn carrier(slots: [Slot; 8], l: u8) -> usize
-    ensures { λ r. ⌜ r ≡ place (carries l) slots ⌝ }
-{
-    let mut i: usize = 0;
-    let at = loop {
-        if 8 <= i {
-            break i;
-        }
-        let s = slots[i];
-        if slot_carries(s, l) {
-            break i;
-        }
-        i += 1;
-    };
-    at
 }
 
 // Whether the slot is in use for the line l.

@@ -3,8 +3,6 @@
 // its contract says that the others make no difference.
 use rows::Head;
 use rules::Event;
-use rules::Found;
-use rules::Region;
 use rules::Size;
 ghost use Prim.Native.Nat.{_/_, ℕ};
 ghost use mathlib.Core.Path.{_≡_};
@@ -13,10 +11,9 @@ ghost use mathlib.Core.List.{List};
 ghost use lib.Dec.{eqb, leb};
 ghost use lib.ListN.{getD, length};
 ghost use Rattle.undo.specs.Table.{any};
-ghost use Rattle.rules.specs.Slots.{isFull, slotFor};
 ghost use Rattle.rules.specs.Access.{isOf};
-ghost use Rattle.rules.specs.Tables.{noThread, regionAt};
-ghost use Rattle.rules.specs.Refusal.{firstBad, fits, inRange, noRoomForDep, refusal, testsOf};
+ghost use Rattle.rules.specs.Tables.{noThread};
+ghost use Rattle.rules.specs.Refusal.{firstBad, fits, inRange, refusal, testsOf};
 ghost use Rattle.rules.specs.declared.Tables.{Tables};
 ghost use Rattle.rules.specs.declared.Event.the-variants.{Begin, Cut, DataAck, End, Fence, LogAck, Read, Setup, Write};
 ghost use Rattle.rows.specs.Row.{regionsOf, threadOf, threadsOf};
@@ -116,40 +113,6 @@ fn waits(logs: bool, locked: bool) -> bool
     ensures { λ r. ⌜ r ≡ (logs && locked) ⌝ }
 {
     logs && locked
-}
-
-fn region_of(regions: &[[u32; 16]; 32], k: u32) -> Region
-    ensures { λ r. ⌜ r ≡ regionAt k (regionsOf (now (regions .entry))) ⌝ }
-{
-    rows::get(regions, rows::place_of(regions, k))
-}
-
-// The dependence d is new, and the region has no place for it.
-fn lacks_dep(r: Region, d: u32) -> bool
-    ensures { λ b. ⌜ b ≡ noRoomForDep d (r .deps) ⌝ }
-{
-    let deps = r.deps;
-    if lookup::is_had(deps, d) {
-        return false;
-    }
-    !lookup::has_free_dep(deps)
-}
-
-fn is_full(f: Found) -> bool
-    ensures { λ r. ⌜ r ≡ isFull f ⌝ }
-{
-    match f {
-        Found::At(_) => false,
-        Found::Full => true,
-    }
-}
-
-// No slot of the region names line l, and none is empty.
-fn lacks_slot(r: Region, l: u8) -> bool
-    ensures { λ b. ⌜ b ≡ isFull (slotFor l (r .slots)) ⌝ }
-{
-    let slots = r.slots;
-    is_full(lookup::slot_for(slots, l))
 }
 
 // A thread's log has a free place.
@@ -297,8 +260,12 @@ fn read_refusal(
     if x.key == 0 {
         return 0;
     }
-    let r = region_of(regions, k);
-    if lacks_dep(r, x.key) { 19 } else { 0 }
+    let i = rows::place_of(regions, k);
+    if rows::lacks_dep(regions, i, x.key) {
+        19
+    } else {
+        0
+    }
 }
 
 fn write_refusal(
@@ -327,11 +294,11 @@ fn write_refusal(
     if waits(logs, lock[l as usize]) {
         return 18;
     }
-    let r = region_of(regions, k);
-    if lacks_dep(r, x.key) {
+    let i = rows::place_of(regions, k);
+    if rows::lacks_dep(regions, i, x.key) {
         return 19;
     }
-    if lacks_slot(r, l) {
+    if rows::lacks_slot(regions, i, l) {
         return 20;
     }
     if lacks_entry(threads, t, logs) { 21 } else { 0 }

@@ -2,28 +2,31 @@
 use Prim.Native.Nat.{_%_, _*_, _+_, _/_, _<_, _≤_, suc, zero, ℕ}
 use mathlib.Core.Path.{_∙_, _≡_, refl, sym, ap}
 use mathlib.Core.List.{List, [], _∷_, map}
-use mathlib.Core.Bool.{Bool, _||_, cond, false, not, true}
+use mathlib.Core.Bool.{Bool, _&&_, _||_, cond, false, not, true}
 use lib.Arith.{digits-div, digits-mod}
-use lib.Dec.{eqb}
-use lib.ListN.{List·getD-eq-default, List·getD-map, getD, length, length-map, length-set, length-take, set, take}
-use lib.Seq.{getD-set-other, getD-set-same, getD-take, take-set-le, take-set-lt}
+use lib.Dec.{eqb, ltb}
+use lib.ListN.{List·getD-eq-default, List·getD-map, drop, getD, length, length-drop, length-map, length-set, length-take, set, take}
+use lib.Seq.{getD-drop, getD-set-other, getD-set-same, getD-take, take-set-le, take-set-lt}
 use native.Mathlib.Omega.{arith}
 use native.Mathlib.Nat.{mod-eq-of-lt}
-use borrow.Author.Tests.{eq-eqb, eqb-false, eqb-true, ne-eqb}
+use borrow.Author.Tests.{eq-eqb, eqb-false, eqb-true, ltb-false, ltb-true, ne-eqb}
 use Rattle.undo.proofs.Laws.{test}
 use Rattle.rules.proofs.Places.{place-lt}
-use Rattle.rules.specs.Access.{isOf}
+use Rattle.rules.specs.Access.{isHad, isOf}
 use Rattle.rules.specs.Lists.{place}
 use Rattle.undo.specs.Table.{any}
 use Rattle.slots.proofs.Walk.{map-end, map-more, mapped}
-use Rattle.rules.specs.Slots.{carries, isFlight}
-use Rattle.rules.specs.Tables.{noEntry, noRegion, noSlot, noThread}
+use Rattle.rules.specs.Refusal.{noRoomForDep}
+use Rattle.rules.specs.Slots.{carries, isEmpty, isFlight, isFull, names, orAt, slotFor, slotFrom}
+use Rattle.rules.specs.Tables.{noEntry, noRegion, noSlot, noThread, withSlots}
 use Rattle.rules.specs.declared.Entry.{Entry}
+use Rattle.rules.specs.declared.Found.{Found}
+use Rattle.rules.specs.declared.Found.the-variants.{At, Full}
 use Rattle.rules.specs.declared.Thread.{Thread}
 use Rattle.rules.specs.declared.Region.{Region}
 use Rattle.rules.specs.declared.Slot.{Slot}
 use Rattle.rules.specs.declared.SlotState.the-variants.{Waiting}
-use Rattle.rows.specs.Row.{entryOf, logOf, regionOf, regionsOf, slotOf, stateOf, threadOf, threadsOf, withLog, word}
+use Rattle.rows.specs.Row.{entryOf, logOf, regionOf, regionsOf, slotOf, stateOf, suits, threadOf, threadsOf, withLog, word}
 
 -- ---- a list of rows
 
@@ -235,40 +238,91 @@ free-below ws t h e =
     let g = place-lt (isOf 0) (logOf (getD ws t [])) f in
     omega (arith, g, length-map (take 32 (getD ws t [])) entryOf, length-take 32 (getD ws t []))
 
--- ---- a search as a sum
+-- ---- the numbers of a row
 
-nonzero : (n : ℕ) → (n ≡ 0 → ⊥) → not (eqb n 0) ≡ true
-nonzero n h = rw (ne-eqb n 0 h)
+-- a number of a slot that can be that of line l: one below 256 is empty
+pub suits-word : (n l : ℕ) → l < 256 → (ltb n 256 || eqb (n % 256) l) ≡ suits l (slotOf n)
+suits-word n l h =
+    test (ltb n 256)
+    (λ e. let z : n / 256 ≡ 0 = omega (arith, ltb-true n 256 e) in rw (e, z))
+    (λ e. test (eqb (n / 256) 0)
+    (λ z. absurd (omega (arith, ltb-false n 256 e, eqb-true (n / 256) 0 z)))
+    (λ z. test (eqb (n / 256) 1) (λ f. rw (e, z, f, or-false (eqb (n % 256) l))) (λ f. rw (e, z, f, or-false (eqb (n % 256) l)))))
 
--- a sum is not 0 where one of its parts is 1
-pub sum-any : (x0 x1 x2 x3 x4 x5 x6 x7 : ℕ) (a0 a1 a2 a3 a4 a5 a6 a7 : Bool)
-    → x0 ≡ cond a0 1 0
-    → x1 ≡ cond a1 1 0
-    → x2 ≡ cond a2 1 0
-    → x3 ≡ cond a3 1 0
-    → x4 ≡ cond a4 1 0
-    → x5 ≡ cond a5 1 0
-    → x6 ≡ cond a6 1 0
-    → x7 ≡ cond a7 1 0
-    → not (eqb (((((((x0 + x1) + x2) + x3) + x4) + x5) + x6) + x7) 0) ≡ (a0 || (a1 || (a2 || (a3 || (a4 || (a5 || (a6 || (a7 || false))))))))
-sum-any x0 x1 x2 x3 x4 x5 x6 x7 a0 a1 a2 a3 a4 a5 a6 a7 e0 e1 e2 e3 e4 e5 e6 e7 =
-    test a0 (λ p. let f : x0 ≡ 1 = rw p at e0 in rw p (nonzero (((((((x0 + x1) + x2) + x3) + x4) + x5) + x6) + x7) (λ z. omega arith)))
-    (λ p0. rw p0 (
-    test a1 (λ p. let f : x1 ≡ 1 = rw p at e1 in rw p (nonzero (((((((x0 + x1) + x2) + x3) + x4) + x5) + x6) + x7) (λ z. omega arith)))
-    (λ p1. rw p1 (
-    test a2 (λ p. let f : x2 ≡ 1 = rw p at e2 in rw p (nonzero (((((((x0 + x1) + x2) + x3) + x4) + x5) + x6) + x7) (λ z. omega arith)))
-    (λ p2. rw p2 (
-    test a3 (λ p. let f : x3 ≡ 1 = rw p at e3 in rw p (nonzero (((((((x0 + x1) + x2) + x3) + x4) + x5) + x6) + x7) (λ z. omega arith)))
-    (λ p3. rw p3 (
-    test a4 (λ p. let f : x4 ≡ 1 = rw p at e4 in rw p (nonzero (((((((x0 + x1) + x2) + x3) + x4) + x5) + x6) + x7) (λ z. omega arith)))
-    (λ p4. rw p4 (
-    test a5 (λ p. let f : x5 ≡ 1 = rw p at e5 in rw p (nonzero (((((((x0 + x1) + x2) + x3) + x4) + x5) + x6) + x7) (λ z. omega arith)))
-    (λ p5. rw p5 (
-    test a6 (λ p. let f : x6 ≡ 1 = rw p at e6 in rw p (nonzero (((((((x0 + x1) + x2) + x3) + x4) + x5) + x6) + x7) (λ z. omega arith)))
-    (λ p6. rw p6 (
-    test a7 (λ p. let f : x7 ≡ 1 = rw p at e7 in rw p (nonzero (((((((x0 + x1) + x2) + x3) + x4) + x5) + x6) + x7) (λ z. omega arith)))
-    (λ p7. rw p7 (
-    let f0 : x0 ≡ 0 = rw p0 at e0 in let f1 : x1 ≡ 0 = rw p1 at e1 in let f2 : x2 ≡ 0 = rw p2 at e2 in let f3 : x3 ≡ 0 = rw p3 at e3 in let f4 : x4 ≡ 0 = rw p4 at e4 in let f5 : x5 ≡ 0 = rw p5 at e5 in let f6 : x6 ≡ 0 = rw p6 at e6 in let f7 : x7 ≡ 0 = rw p7 at e7 in rw (eq-eqb (((((((x0 + x1) + x2) + x3) + x4) + x5) + x6) + x7) 0 (omega arith))))))))))))))))))
+-- no slot is left for a line where none can be that of the line
+from-lacks : (l : ℕ) (f : Found) (i : ℕ) (ss : List Slot) → isFull (slotFrom l f i ss) ≡ (isFull f && not (any (suits l) ss))
+unfolding slotFrom
+from-lacks l f i [] = test (isFull f) (λ e. rw e) (λ e. rw e)
+from-lacks l f i (s ∷ ss) =
+    test (names l (s .state) (s .line))
+    (λ e. rw e (test (isFull f) (λ g. rw g) (λ g. rw g)))
+    (λ e. rw e (from-lacks l (orAt f (isEmpty (s .state)) i) (suc i) ss ∙ go f (isEmpty (s .state))))
+  where
+    go : (g : Found) (b : Bool) → (isFull (orAt g b i) && not (any (suits l) ss)) ≡ (isFull g && not (b || any (suits l) ss))
+    go (At k) b = refl
+    go Full true = refl
+    go Full false = refl
+
+pub lacks : (l : ℕ) (ss : List Slot) → isFull (slotFor l ss) ≡ not (any (suits l) ss)
+lacks l ss = from-lacks l Full 0 ss
+
+-- a dependence that is not 0 is new and has no place
+pub no-room : (d a b e f : ℕ) → (d ≡ 0 → ⊥)
+    → not (eqb d a || (eqb d b || (eqb d e || (eqb d f || (eqb 0 a || (eqb 0 b || (eqb 0 e || (eqb 0 f || false))))))))
+    ≡ noRoomForDep d (a ∷ b ∷ e ∷ f ∷ [])
+no-room d a b e f h =
+    rw (ne-eqb d 0 h)
+    (test (eqb d a) (λ p. rw p) (λ p. rw p
+    (test (eqb d b) (λ q. rw q) (λ q. rw q
+    (test (eqb d e) (λ r. rw r) (λ r. rw r
+    (test (eqb d f) (λ t. rw t) (λ t. rw t))))))))
+
+pub free-room : (d : ℕ) → noRoomForDep d (noRegion .deps) ≡ false
+free-room d = test (isHad d (noRegion .deps)) (λ e. rw e) (λ e. rw e)
+
+-- the slots of a row are its last eight numbers
+pub slots-row : (w : List ℕ) → length w ≡ 16 → regionOf w .slots ≡ map slotOf (drop 8 w)
+unfolding regionOf
+slots-row w h = ap (map slotOf) (simp getD-drop at (eight 0 (drop 8 w) (rw (length-drop) (omega arith))))
+
+pub slots-length : (w : List ℕ) → length (regionOf w .slots) ≡ 8
+unfolding regionOf
+slots-length w = refl
+
+pub slot-at : (w : List ℕ) (i : ℕ) → length w ≡ 16 → getD (regionOf w .slots) i noSlot ≡ slotOf (word w (8 + i))
+slot-at w i h = rw (slots-row w h) (List·getD-map slotOf (drop 8 w) i 0 ∙ ap slotOf (getD-drop 8 w i 0))
+
+drop-set : {A : Type 0} (n : ℕ) (xs : List A) (j : ℕ) (x : A) → drop n (set xs (n + j) x) ≡ set (drop n xs) j x
+drop-set zero xs j x = let e : 0 + j ≡ j = omega arith in ap (λ i. set xs i x) e
+drop-set (suc n) [] j x = refl
+drop-set (suc n) (y ∷ xs) j x = let e : suc n + j ≡ suc (n + j) = omega arith in rw e (drop-set n xs j x)
+
+-- one slot emptied is one number of the row
+other-word : (w : List ℕ) (j i x : ℕ) → i < 8 → word (set w (8 + j) x) i ≡ word w i
+other-word w j i x h = getD-set-other w (8 + j) i x 0 (λ e. omega arith)
+
+slots-stored : (w : List ℕ) (j x : ℕ) → regionOf (set w (8 + j) x) ≡ withSlots (regionOf (set w (8 + j) x) .slots) (regionOf w)
+unfolding regionOf
+slots-stored w j x =
+    rw (
+      other-word w j 0 x (omega arith),
+      other-word w j 1 x (omega arith),
+      other-word w j 2 x (omega arith),
+      other-word w j 3 x (omega arith),
+      other-word w j 4 x (omega arith),
+      other-word w j 5 x (omega arith),
+      other-word w j 6 x (omega arith),
+      other-word w j 7 x (omega arith),
+    )
+
+pub emptied : (w : List ℕ) (j : ℕ) → length w ≡ 16 → regionOf (set w (8 + j) 0) ≡ withSlots (set (regionOf w .slots) j noSlot) (regionOf w)
+emptied w j h =
+    slots-stored w j 0
+    ∙ ap (λ ss. withSlots ss (regionOf w))
+    (slots-row (set w (8 + j) 0) (length-set w (8 + j) 0 ∙ h)
+    ∙ ap (map slotOf) (drop-set 8 w j 0)
+    ∙ map-set slotOf (drop 8 w) j 0
+    ∙ ap (λ ss. set ss j noSlot) (sym (slots-row w h)))
 
 -- a region depends on no line of its own
 pub own-dependence : (b : Bool) (o k : ℕ) → o ≡ k → cond (eqb (cond b o 0) k) 0 (cond b o 0) ≡ 0

@@ -4,22 +4,22 @@ use rules::Region;
 use rules::Size;
 use rules::Slot;
 use rules::SlotState;
-ghost use Prim.Native.Nat.{_/_, _<_, _≤_};
+ghost use Prim.Native.Nat.{_/_, _<_};
 ghost use mathlib.Core.Path.{_≡_};
-ghost use mathlib.Core.Bool.{cond};
+ghost use mathlib.Core.Bool.{_||_, cond, false};
 ghost use mathlib.Core.List.{[], map};
 ghost use lib.Dec.{eqb};
 ghost use lib.ListN.{getD, length, set};
 ghost use Rattle.undo.specs.Table.{any};
 ghost use Rattle.rules.specs.Lists.{count, place};
 ghost use Rattle.rules.specs.Tables.{isHeld, keyOf, listed, noRegion, noThread, placeOf};
-ghost use Rattle.rules.specs.Slots.{carries};
+ghost use Rattle.rules.specs.Slots.{carries, isFull, slotFor};
 ghost use Rattle.rules.specs.Access.{isOf};
-ghost use Rattle.rules.specs.Acknowledge.{flightPlace, kept, keptEntry};
+ghost use Rattle.rules.specs.Acknowledge.{flightPlace, kept, keptEntry, landed};
 ghost use Rattle.rules.specs.Commit.{freed, freedEntry};
-ghost use Rattle.rules.specs.Refusal.{isModified, isOfThread};
+ghost use Rattle.rules.specs.Refusal.{isModified, isOfThread, noRoomForDep};
 ghost use Rattle.rules.specs.declared.Thread.{Thread};
-ghost use Rattle.rows.specs.Row.{entryOf, regionOf, regionsOf, slotOf, stateOf, threadOf, threadsOf, withLog};
+ghost use Rattle.rows.specs.Row.{entryOf, regionOf, regionsOf, slotOf, stateOf, suits, threadOf, threadsOf, withLog};
 
 // The few numbers beside the lists.
 pub struct Head {
@@ -160,6 +160,19 @@ pub fn rows32(regions: &[[u32; 16]; 32])
     ensures { λ _. ⌜ length (now (regions .entry)) ≡ 32 ⌝ }
 {
     count_rows(regions);
+}
+
+fn count_row(s: &[u32]) -> usize
+    ensures { λ n. ⌜ n ≡ length (now (s .entry)) ⌝ }
+{
+    s.len()
+}
+
+// A row has 16 numbers: no code, and the fact for the callers.
+pub fn words16(row: &[u32; 16])
+    ensures { λ _. ⌜ length (now (row .entry)) ≡ 16 ⌝ }
+{
+    count_row(row);
 }
 
 // The region at place i, or a free one behind the list.
@@ -324,26 +337,34 @@ pub fn count_modified(regions: &[[u32; 16]; 32], t: u8) -> u8
     c
 }
 
-// 1 for a slot in flight with the line l: one number is compared.
-fn carries_word(n: u32, l: u8) -> u32
-    ensures { λ r. ⌜ (r ≡ cond (carries l (slotOf n)) 1 0) × (r ≤ 1) ⌝ }
+// Whether one of eight holds: all are looked at, without a branch, so that eight numbers are compared at once.
+pub fn one_of(a: bool, b: bool, c: bool, d: bool, e: bool, f: bool, g: bool, h: bool) -> bool
+    ensures { λ r. ⌜ r ≡ (a || (b || (c || (d || (e || (f || (g || (h || false)))))))) ⌝ }
 {
-    if n == 256 + (l as u32) { 1 } else { 0 }
+    a | (b | (c | (d | (e | (f | (g | h))))))
 }
 
-// Whether a slot of a row is in flight with the line l: a sum, so that the eight are compared at once.
+// A slot in flight with the line l is one number.
+fn carries_word(n: u32, l: u8) -> bool
+    ensures { λ r. ⌜ r ≡ carries l (slotOf n) ⌝ }
+{
+    n == 256 + (l as u32)
+}
+
+// Whether a slot of a row is in flight with the line l.
 fn row_carries(w: &[u32; 16], l: u8) -> bool
     ensures { λ r. ⌜ r ≡ any (carries l) (regionOf (now (w .entry)) .slots) ⌝ }
 {
-    let a = carries_word(w[8], l);
-    let b = carries_word(w[9], l);
-    let c = carries_word(w[10], l);
-    let d = carries_word(w[11], l);
-    let e = carries_word(w[12], l);
-    let f = carries_word(w[13], l);
-    let g = carries_word(w[14], l);
-    let h = carries_word(w[15], l);
-    a + b + c + d + e + f + g + h != 0
+    one_of(
+        carries_word(w[8], l),
+        carries_word(w[9], l),
+        carries_word(w[10], l),
+        carries_word(w[11], l),
+        carries_word(w[12], l),
+        carries_word(w[13], l),
+        carries_word(w[14], l),
+        carries_word(w[15], l),
+    )
 }
 
 // Whether a slot of the region at place i is in flight with the line l.
@@ -373,6 +394,111 @@ pub fn flight_place(regions: &[[u32; 16]; 32], l: u8) -> usize
         i += 1;
     };
     at
+}
+
+// ---- on the numbers of a row
+
+// Which slot of a row is in flight with the line l; 8 if none is.
+fn flight_slot(row: &[u32; 16], l: u8) -> usize
+    ensures { λ r. ⌜ r ≡ place (carries l) (regionOf (now (row .entry)) .slots) ⌝ }
+{
+    words16(row);
+    let mut i: usize = 0;
+    let at = loop {
+        if 8 <= i {
+            break i;
+        }
+        if carries_word(row[8 + i], l) {
+            break i;
+        }
+        i += 1;
+    };
+    at
+}
+
+// The slot in flight with the line l is emptied: one number.
+fn land(row: &mut [u32; 16], l: u8)
+    ensures { λ _. ⌜ regionOf (now (row .exit)) ≡ landed l (regionOf (now (row .entry))) ⌝ }
+{
+    words16(row);
+    let i = flight_slot(row, l);
+    if i < 8 {
+        row[8 + i] = 0;
+    }
+}
+
+// The slot in flight with the line l is emptied in the region at place i; behind the list nothing changes.
+pub fn land_at(regions: &mut [[u32; 16]; 32], i: usize, l: u8)
+    ensures { λ _. ⌜ regionsOf (now (regions .exit)) ≡ set (regionsOf (now (regions .entry))) i (landed l (getD (regionsOf (now (regions .entry))) i noRegion)) ⌝ }
+{
+    rows32(regions);
+    if i < 32 {
+        land(&mut regions[i], l);
+    }
+}
+
+// A slot that names the line l or is empty can be that of the line.
+fn suits_word(n: u32, l: u8) -> bool
+    ensures { λ r. ⌜ r ≡ suits l (slotOf n) ⌝ }
+{
+    (n < 256) | (n % 256 == l as u32)
+}
+
+// Whether no slot of a row names the line l, and none is empty.
+fn row_lacks_slot(w: &[u32; 16], l: u8) -> bool
+    ensures { λ r. ⌜ r ≡ isFull (slotFor l (regionOf (now (w .entry)) .slots)) ⌝ }
+{
+    !one_of(
+        suits_word(w[8], l),
+        suits_word(w[9], l),
+        suits_word(w[10], l),
+        suits_word(w[11], l),
+        suits_word(w[12], l),
+        suits_word(w[13], l),
+        suits_word(w[14], l),
+        suits_word(w[15], l),
+    )
+}
+
+// Whether the region at place i has no slot for the line l.
+pub fn lacks_slot(regions: &[[u32; 16]; 32], i: usize, l: u8) -> bool
+    ensures { λ r. ⌜ r ≡ isFull (slotFor l (getD (regionsOf (now (regions .entry))) i noRegion .slots)) ⌝ }
+{
+    rows32(regions);
+    if 32 <= i {
+        return false;
+    }
+    row_lacks_slot(&regions[i], l)
+}
+
+// Whether the dependence d is new in a row and has no place there.
+fn row_lacks_dep(w: &[u32; 16], d: u32) -> bool
+    ensures { λ r. ⌜ r ≡ noRoomForDep d (regionOf (now (w .entry)) .deps) ⌝ }
+{
+    if d == 0 {
+        return false;
+    }
+    !one_of(
+        d == w[4],
+        d == w[5],
+        d == w[6],
+        d == w[7],
+        0 == w[4],
+        0 == w[5],
+        0 == w[6],
+        0 == w[7],
+    )
+}
+
+// Whether the region at place i has no place for the dependence d.
+pub fn lacks_dep(regions: &[[u32; 16]; 32], i: usize, d: u32) -> bool
+    ensures { λ r. ⌜ r ≡ noRoomForDep d (getD (regionsOf (now (regions .entry))) i noRegion .deps) ⌝ }
+{
+    rows32(regions);
+    if 32 <= i {
+        return false;
+    }
+    row_lacks_dep(&regions[i], d)
 }
 
 // ---- a log entry

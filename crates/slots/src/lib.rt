@@ -1,4 +1,4 @@
-// A region's slots, by value: the counts, the drop, the landing and the flight.
+// A region's slots, by value: the counts, the drop and the flight.
 use rules::Found;
 use rules::Region;
 use rules::Slot;
@@ -7,10 +7,9 @@ ghost use mathlib.Core.Path.{_≡_};
 ghost use mathlib.Core.Bool.{_&&_, cond, not};
 ghost use mathlib.Core.List.{map};
 ghost use lib.ListN.{set};
-ghost use Rattle.rules.specs.Lists.{place};
-ghost use Rattle.rules.specs.Tables.{lineOf, noSlot};
+ghost use Rattle.rules.specs.Tables.{lineOf};
 ghost use Rattle.rules.specs.Slots.{carried, carries, countedSlot, flownSlots, isRipe, written};
-ghost use Rattle.rules.specs.Acknowledge.{dropped, droppedSlot, landed};
+ghost use Rattle.rules.specs.Acknowledge.{dropped, droppedSlot};
 ghost use Rattle.rules.specs.declared.SlotState.the-variants.{InFlight};
 ghost use Rattle.rules.specs.declared.Slot.{Slot};
 
@@ -119,29 +118,6 @@ pub fn dropped(r: Region, key: u32, l: u8) -> Region
     let kept = dropped_slots(slots, l);
     let mut q = r;
     q.slots = kept;
-    q
-}
-
-// The slot in flight with line l is emptied.
-fn emptied(slots: [Slot; 8], l: u8) -> [Slot; 8]
-    ensures { λ r. ⌜ r ≡ set slots (place (carries l) slots) noSlot ⌝ }
-{
-    let k = lookup::carrier(slots, l);
-    let mut q = slots;
-    if k < 8 {
-        q[k] = lookup::no_slot();
-    }
-    q
-}
-
-// The region after a data acknowledgement of line l.
-pub fn landed(r: Region, l: u8) -> Region
-    ensures { λ q. ⌜ q ≡ landed l r ⌝ }
-{
-    let slots = r.slots;
-    let left = emptied(slots, l);
-    let mut q = r;
-    q.slots = left;
     q
 }
 

@@ -354,9 +354,7 @@ fn data_ack(regions: &mut [[u32; 16]; 32], med: &mut [[u64; 8]; 256], car: &[[u6
     let x = car[li];
     med[li] = x;
     let i = rows::flight_place(regions, l);
-    let r = rows::get(regions, i);
-    let q = slots::landed(r, l);
-    rows::put(regions, i, q);
+    rows::land_at(regions, i, l);
 }
 
 // ---- an event

@@ -1,73 +1,64 @@
-use Prim.Native.Nat.{_-_, _≤_}
-use mathlib.Core.Path.{_∙_, _≡_, sym}
-use lib.ListN.{drop}
-use native.Mathlib.Omega.{arith}
+use Rattle.rows.specs.Row.{regionOf, word}
+use Rattle.commits.proofs.Row.{used-word}
 use borrow.Author.Needs.{needs}
-use Rattle.undo.specs.Table.{any}
-use Rattle.rules.specs.Slots.{hasSlot}
-use Rattle.slots.proofs.Walk.{any-end, any-hit, any-more}
-use Rattle.rows.specs.Row.{regionOf}
-use Rattle.commits.proofs.Row.{slots-behind, used, used-no, used-yes}
 use Rattle.commits.proofs.has_slot.Statement.{statement}
 use Rattle.commits.proofs.has_slot.Tie as tie
+use Rattle.commits.proofs.has_slot.Reads as reads
+use Rattle.commits.proofs.has_slot.Lts as lts
+use Rattle.rows.proofs.one_of.Reads as one-of-reads
 
-abbrev Inv-loop : tie.InvT-loop
-Inv-loop row i₀ i = (i ≤ 16) × (any used (drop i row) ≡ hasSlot (regionOf row))
+-- src/lib.rt:25:9
+element-copy-out-one-of : tie.Need-element-copy-out-one-of
+element-copy-out-one-of c = search needs
 
-abbrev μ-loop : tie.MeasureT-loop
-μ-loop row i₀ i = 16 - i
+-- src/lib.rt:26:9
+element-copy-out-one-of-2 : tie.Need-element-copy-out-one-of-2
+element-copy-out-one-of-2 c = search needs
 
-words16-requires : tie.Need-words16-requires Inv-loop μ-loop
-words16-requires c κs = search needs
+-- src/lib.rt:27:9
+element-copy-out-one-of-3 : tie.Need-element-copy-out-one-of-3
+element-copy-out-one-of-3 c = search needs
 
-loop-holds : tie.Need-loop-holds Inv-loop μ-loop
-loop-holds c = (search needs, slots-behind _ (c .words16 .ensures))
+-- src/lib.rt:28:9
+element-copy-out-one-of-4 : tie.Need-element-copy-out-one-of-4
+element-copy-out-one-of-4 c = search needs
 
-mul-if1 : tie.Need-mul-if1 Inv-loop μ-loop
-mul-if1 c = search needs
+-- src/lib.rt:29:9
+element-copy-out-one-of-5 : tie.Need-element-copy-out-one-of-5
+element-copy-out-one-of-5 c = search needs
 
-element-copy-out-if1 : tie.Need-element-copy-out-if1 Inv-loop μ-loop
-element-copy-out-if1 c = search needs
+-- src/lib.rt:30:9
+element-copy-out-one-of-6 : tie.Need-element-copy-out-one-of-6
+element-copy-out-one-of-6 c = search needs
 
-returns : tie.Need-returns Inv-loop μ-loop
-returns c =
-    let at = c .before .before .before in
-    let w = at .before .before .args .row .now in
-    let n = at .before .words16 .ensures in
-    sym (any-hit used (at .loop .i) w 0 (omega (arith, n)) (used-yes _ (c .if1 .taken))) ∙ at .loop .inv .1
+-- src/lib.rt:31:9
+element-copy-out-one-of-7 : tie.Need-element-copy-out-one-of-7
+element-copy-out-one-of-7 c = search needs
 
-add-i : tie.Need-add-i Inv-loop μ-loop
-add-i c = search needs
+-- src/lib.rt:32:9
+element-copy-out-one-of-8 : tie.Need-element-copy-out-one-of-8
+element-copy-out-one-of-8 c = search needs
 
-loop-less : tie.Need-loop-less Inv-loop μ-loop
-loop-less c = search needs
+-- src/lib.rt:24:5
+one-of-requires : tie.Need-one-of-requires
+one-of-requires c κs = search needs
 
-loop-again : tie.Need-loop-again Inv-loop μ-loop
-loop-again c =
-    let at = c .before .before .before in
-    let w = at .before .before .args .row .now in
-    let n = at .before .words16 .ensures in
-    (search needs, sym (any-more used (at .loop .i) w 0 (omega (arith, n)) (used-no _ (c .if1 .left))) ∙ at .loop .inv .1)
-
-returns-2 : tie.Need-returns-2 Inv-loop μ-loop
-returns-2 c =
-    let at = c .before in
-    let w = at .before .before .args .row .now in
-    let n = at .before .words16 .ensures in
-    sym (any-end used (at .loop .i) w (omega (arith, n))) ∙ at .loop .inv .1
+-- src/lib.rt:21:1
+returns : tie.Need-returns
+unfolding regionOf
+returns c = let w = c .before .before .before .before .before .before .before .before .before .args .row .now in rw (c .one-of .ensures, used-word (word w 8), used-word (word w 9), used-word (word w 10), used-word (word w 11), used-word (word w 12), used-word (word w 13), used-word (word w 14), used-word (word w 15))
 
 pub has-slot-spec : {M : Type 1} → statement M
 has-slot-spec =
     tie.close
     (tie.spec
-    Inv-loop
-    μ-loop
-    words16-requires
-    loop-holds
-    mul-if1
-    element-copy-out-if1
-    returns
-    add-i
-    loop-less
-    loop-again
-    returns-2)
+    element-copy-out-one-of
+    element-copy-out-one-of-2
+    element-copy-out-one-of-3
+    element-copy-out-one-of-4
+    element-copy-out-one-of-5
+    element-copy-out-one-of-6
+    element-copy-out-one-of-7
+    element-copy-out-one-of-8
+    one-of-requires
+    returns)

@@ -36,7 +36,7 @@ module _ (lock : List Bool) where
   unfolding testsOf
   says-19 c =
       let e = c .before .before .before .before in
-      no-dep _ _ _ (tables (start (to-17 e))) (e .before .before .before .before .current .ensures) _ (e .before .before .last-writer .ensures) _ (c .before .region-of .ensures) ∙ sym (c .lacks-dep .ensures)
+      no-dep _ _ _ (tables (start (to-17 e))) (e .before .before .before .before .current .ensures) _ (e .before .before .last-writer .ensures) _ (c .before .place-of .ensures) ∙ sym (c .lacks-dep .ensures)
 
   passed-17 : (c : tie.Else1) → Passed 17 (tests (start c))
   unfolding testsOf
@@ -76,8 +76,8 @@ returns-3 : tie.Need-returns-3
 unfolding refusal testsOf
 returns-3 c = λ lock. let e = c .before .before in sym (passed-19 lock e ∙ rw (depends _ _ _ (tables lock (start (to-17 e))) (e .before .before .before .before .current .ensures) _ (e .before .before .last-writer .ensures) ∙ c .if3 .taken))
 
-region-of-requires : tie.Need-region-of-requires
-region-of-requires c κs = search needs
+place-of-requires : tie.Need-place-of-requires
+place-of-requires c κs = search needs
 
 lacks-dep-requires : tie.Need-lacks-dep-requires
 lacks-dep-requires c κs = search needs
@@ -103,7 +103,7 @@ read-refusal-spec =
     is-foreign-requires
     returns-2
     returns-3
-    region-of-requires
+    place-of-requires
     lacks-dep-requires
     returns-4
     returns-5)

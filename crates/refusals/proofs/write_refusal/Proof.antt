@@ -53,13 +53,13 @@ module _ (v : ℕ) where
   unfolding testsOf
   says-19 c =
       let e = to-18 (c .before .before) in
-      no-dep _ _ _ (tables (start (to-17 e))) (is-current e) _ (e .before .before .last-writer .ensures) _ (c .before .region-of .ensures) ∙ sym (c .lacks-dep .ensures)
+      no-dep _ _ _ (tables (start (to-17 e))) (is-current e) _ (e .before .before .last-writer .ensures) _ (c .before .place-of .ensures) ∙ sym (c .lacks-dep .ensures)
 
   says-20 : (c : tie.After-lacks-slot) → bad 20 (tests (start (to-17 (to-18 (to-19 (c .before)))))) ≡ c .lacks-slot .result
   unfolding testsOf
   says-20 c =
       let e = to-18 (to-19 (c .before)) in
-      no-slot _ _ _ (tables (start (to-17 e))) (is-current e) _ (c .before .before .before .region-of .ensures) ∙ sym (c .lacks-slot .ensures)
+      no-slot _ _ _ (tables (start (to-17 e))) (is-current e) _ (c .before .before .before .place-of .ensures) ∙ sym (c .lacks-slot .ensures)
 
   says-21 : (c : tie.After-lacks-entry) → bad 21 (tests (start (to-17 (to-18 (to-19 (to-20 (c .before))))))) ≡ c .lacks-entry .result
   unfolding testsOf
@@ -123,8 +123,8 @@ returns-3 : tie.Need-returns-3
 unfolding refusal testsOf
 returns-3 c = λ v. sym (passed-18 v (c .before .before .before) ∙ rw (says-18 v (c .before) ∙ c .if3 .taken))
 
-region-of-requires : tie.Need-region-of-requires
-region-of-requires c κs = search needs
+place-of-requires : tie.Need-place-of-requires
+place-of-requires c κs = search needs
 
 lacks-dep-requires : tie.Need-lacks-dep-requires
 lacks-dep-requires c κs = search needs
@@ -166,7 +166,7 @@ write-refusal-spec =
     element-copy-out-waits
     waits-requires
     returns-3
-    region-of-requires
+    place-of-requires
     lacks-dep-requires
     returns-4
     lacks-slot-requires

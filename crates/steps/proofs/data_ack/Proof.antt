@@ -5,9 +5,7 @@ use Rattle.steps.proofs.data_ack.Tie as tie
 use Rattle.steps.proofs.data_ack.Reads as reads
 use Rattle.steps.proofs.data_ack.Lts as lts
 use Rattle.rows.proofs.flight_place.Reads as flight-place-reads
-use Rattle.rows.proofs.get.Reads as get-reads
-use Rattle.rows.proofs.put.Reads as put-reads
-use Rattle.slots.proofs.landed.Reads as landed-reads
+use Rattle.rows.proofs.land_at.Reads as land-at-reads
 
 -- src/lib.rt:328:13
 mul-x : tie.Need-mul-x
@@ -29,22 +27,14 @@ element-set-from-x c = search needs
 flight-place-requires : tie.Need-flight-place-requires
 flight-place-requires c κs = search needs
 
--- src/lib.rt:331:9
-get-requires : tie.Need-get-requires
-get-requires c κs = search needs
-
--- src/lib.rt:332:9
-landed-requires : tie.Need-landed-requires
-landed-requires c κs = search needs
-
--- src/lib.rt:333:5
-put-requires : tie.Need-put-requires
-put-requires c κs = search needs
+-- src/lib.rt:331:5
+land-at-requires : tie.Need-land-at-requires
+land-at-requires c κs = search needs
 
 -- src/lib.rt:319:1
 returns : tie.Need-returns
 unfolding dataAck
-returns c = λ h threads owner lock cur old. rw (c .put .ensures, c .before .before .landed .ensures, c .before .before .before .get .ensures, c .before .before .before .before .before .flight-place .ensures)
+returns c = λ h threads owner lock cur old. rw (c .land-at .ensures, c .before .before .flight-place .ensures)
 
 pub data-ack-spec : {M : Type 1} → statement M
 data-ack-spec =
@@ -55,7 +45,5 @@ data-ack-spec =
     mul-x-2
     element-set-from-x
     flight-place-requires
-    get-requires
-    landed-requires
-    put-requires
+    land-at-requires
     returns)
