@@ -294,9 +294,9 @@ def captions(picture, words, y):
     found = ', '.join(f'word {w} of line {l} is {v}' for l, w, v in words) or 'no word that is not zero'
     picture.text(MARGIN, y, f'Recovery finds: {found}.', 'start', font_weight='bold')
     for row, line in enumerate((
-            'Region 0.1 is the first of thread 0. A region that ended commits when its slots are empty and it depends on nothing uncommitted; a slot waits',
-            'while its line is locked, and a line is locked while its log entry is in flight. What is in flight at the cut is lost; log entries that are',
-            'persistent survive in the image, and recovery undoes by them.')):
+            'Region 0.1 is the first of thread 0. A region that ended commits when its slots are empty and it depends on nothing uncommitted. A slot waits',
+            'while its line is locked and until its count is 4 or its region has ended; a line is locked while its log entry is in flight. What is in',
+            'flight at the cut is lost; log entries that are persistent survive in the image, and recovery undoes by them.')):
         picture.text(MARGIN, y + 20 + 16 * row, line, 'start')
 
 

@@ -86,5 +86,39 @@ check 'the whole output of the bench' "$(cat recovery.expected)" "$("$build/benc
 for steps in 0 1 2 3 4 5 6 7 8 9 10 11; do
     check "power lost after step $steps" "$("$bin/trace" < ../samples/recovery.events | grep '^M')" "$(found ../samples/recovery.events $steps)"
 done
+# in_parts FILE SIZE: the bytes of a file through a pipe, so many at a time.
+in_parts() {
+    local at=0 n
+    n=$(wc -c < "$1")
+    while [ "$at" -lt "$n" ]; do
+        dd if="$1" bs="$2" skip=$((at / $2)) count=1 status=none
+        at=$((at + $2))
+    done
+}
+
+# a file read through a pipe in parts gives what it gives at once: P1 byte by byte, and one above 200 KB, whose parts end inside records
+for size in 1 2 5 13; do
+    check "p1 in parts of $size" "$("$bin/trace" < ../samples/p1.events)" "$(in_parts ../samples/p1.events "$size" | "$bin/trace")"
+    check "p1 as text in parts of $size" "$("$bin/totext" < ../samples/p1.events)" "$(in_parts ../samples/p1.events "$size" | "$bin/totext")"
+done
+{
+    echo 'setup 2 9'
+    for n in $(seq 1 6000); do printf 'begin 1\nwrite 1 %d 3 %d\nlog-ack %d\nread 1 %d 3\nend 1\ndata-ack %d\nwrite 0 1 1 1\n' $((n % 9)) "$n" $((n % 9)) $((n % 9)) $((n % 9)); done
+    printf 'cut\nbytes 4 0 0\n'
+} > "$scratch/long.txt"
+"$bin/tobytes" < "$scratch/long.txt" > "$scratch/long"
+check 'the long file is above 200 KB' yes "$([ "$(wc -c < "$scratch/long")" -gt 200000 ] && echo yes)"
+check 'the lines of the long file' 42003 "$("$bin/trace" < "$scratch/long" | grep -vc '^M')"
+check 'the long file, its end' $'8 0 0\n'"$(for n in 0 1 2 3 4 5 6 7 8; do echo "M $n 3 $((n <= 6 ? 5994 + n : 5985 + n))"; done)"$'\n4 1 0' "$("$bin/trace" < "$scratch/long" | tail -n 11)"
+for size in 4093 65537; do
+    check "the long file in parts of $size" "$("$bin/trace" < "$scratch/long" | md5sum)" "$(in_parts "$scratch/long" "$size" | "$bin/trace" | md5sum)"
+    check "the long file as text in parts of $size" "$(md5sum < "$scratch/long.txt")" "$(in_parts "$scratch/long" "$size" | "$bin/totext" | md5sum)"
+    check "the long text in parts of $size" "$(md5sum < "$scratch/long")" "$(in_parts "$scratch/long.txt" "$size" | "$bin/tobytes" | md5sum)"
+done
+
+# a line that is not in the form: all lines before it are written, and nothing after
+printf 'setup 2 2\nbegin 0\nwrite 0 0 x\ncut\n' > "$scratch/bad.txt"
+check 'a bad line' ' 00 02 02 00 01 00' "$("$bin/tobytes" < "$scratch/bad.txt" 2> "$scratch/said" | od -An -tx1)"
+check 'a bad line is named' 'line 3 is not in the form' "$(cat "$scratch/said")"
 echo "examples: $passed passed, $failed failed"
 [ "$failed" = 0 ]

@@ -1,16 +1,15 @@
 -- What the numbers of a row tell of its region, and what a store to them changes.
 use Prim.Native.Nat.{_+_, _/_, _<_, _≤_, ℕ}
 use mathlib.Core.Bool.{Bool, _&&_, _||_, cond, false, not, true}
-use mathlib.Core.List.{List, [], _∷_, map}
+use mathlib.Core.List.{List, [], _∷_}
 use mathlib.Core.Path.{_∙_, _≡_, ap, refl, sym}
 use lib.Dec.{eqb, ltb}
-use lib.ListN.{drop, getD, length, length-drop, length-map, replicate, set}
-use lib.Seq.{getD-drop}
+use lib.ListN.{getD, length, length-map, replicate, set}
 use native.Mathlib.Omega.{arith}
 use borrow.Author.Tests.{eq-eqb, eqb-false, eqb-true, le-ltb, lt-ltb, ne-eqb}
 use Rattle.undo.proofs.Laws.{or-right, test}
 use Rattle.undo.specs.Table.{any}
-use Rattle.rules.proofs.Places.{any-map, eqb-swap}
+use Rattle.rules.proofs.Places.{eqb-swap}
 use Rattle.rules.specs.Commit.{afterCommit, commits, doneRegion, withoutDep}
 use Rattle.rules.specs.Lists.{all}
 use Rattle.rules.specs.Slots.{hasSlot, isEmpty}
@@ -18,8 +17,8 @@ use Rattle.rules.specs.Tables.{noRegion}
 use Rattle.rules.specs.declared.Region.{Region}
 use Rattle.rules.specs.declared.Slot.{Slot}
 use Rattle.slots.proofs.Walk.{map-end, map-more, mapped}
-use Rattle.rows.proofs.Laws.{eight, got, map-set, or-false}
-use Rattle.rows.specs.Row.{regionOf, regionsOf, slotOf, slotsOf, word}
+use Rattle.rows.proofs.Laws.{got, map-set, or-false}
+use Rattle.rows.specs.Row.{regionOf, regionsOf, slotOf, word}
 use Rattle.commits.specs.Ripe.{ripe}
 
 -- ---- slots

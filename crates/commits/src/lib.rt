@@ -4,7 +4,7 @@ ghost use Prim.Native.Nat.{ℕ};
 ghost use mathlib.Core.Path.{_≡_};
 ghost use mathlib.Core.Bool.{Bool, _&&_};
 ghost use mathlib.Core.List.{List, map};
-ghost use lib.ListN.{getD};
+ghost use lib.ListN.{getD, length};
 ghost use lib.Dec.{eqb};
 ghost use Rattle.undo.specs.Table.{any};
 ghost use Rattle.rules.specs.Lists.{all};
@@ -206,7 +206,7 @@ fn commit_region(threads: &mut [[u64; 34]; 8], regions: &mut [[u32; 16]; 32], ke
 // Regions become done, then commit, the earliest ended first, until none can commit; the answer is how many did. Each commit frees a place of the list,
 // so there are at most 32. Mostly there is nothing to settle, and one look at the rows tells.
 pub fn settle(threads: &mut [[u64; 34]; 8], regions: &mut [[u32; 16]; 32]) -> u64
-    ensures { λ r. ⌜ ((h : Head) (owner : List ℕ) (lock : List Bool) → (tablesOf h (now (threads .exit)) (now (regions .exit)) owner lock ≡ settled (tablesOf h (now (threads .entry)) (now (regions .entry)) owner lock) .tables) × (r ≡ settled (tablesOf h (now (threads .entry)) (now (regions .entry)) owner lock) .commits)) ⌝ }
+    ensures { λ r. ⌜ ((h : Head) (owner : List ℕ) (lock : List Bool) → (tablesOf h (now (threads .exit)) (now (regions .exit)) owner lock ≡ settled (tablesOf h (now (threads .entry)) (now (regions .entry)) owner lock) .tables) × (r ≡ length (settled (tablesOf h (now (threads .entry)) (now (regions .entry)) owner lock) .keys))) ⌝ }
 {
     if !has_ripe(regions) {
         return 0;

@@ -19,7 +19,4 @@ calls-run (call {b = b} {r = r} {rs = rs} {a = a} e k) =
     )
 
 pub calls-recover : CallsRecover
-calls-recover m rs b as′ ss k bm br cut =
-    let e = calls-run k .0 in
-    let h = recovery-is-right m rs ss bm br (rw e at cut) in
-    rw e (h .accepts, h .recovers)
+calls-recover m rs b as′ ss k bm br cut = (calls-run k .0, recovery-is-right m rs ss bm br cut)

@@ -11,6 +11,7 @@ use borrow.Author.Tests.{eq-eqb, ne-eqb}
 use lib.Seq.{drop-append-seam, drop-cons, take-append-seam}
 use native.Mathlib.Nat.{zero-add}
 use Rattle.drill.specs.Drilled.{Drilled, Step, actOf, actsOf, ended, lastStep, stepOf, stepped}
+use Rattle.rules.proofs.Cuts.{cut-is}
 use Rattle.rules.proofs.Main.{recovery-is-right}
 use Rattle.rules.specs.Bytes.{paste}
 use Rattle.rules.specs.Claim.{Holds, boardAfter, isByte}
@@ -18,7 +19,7 @@ use Rattle.rules.specs.History.{memoryFound}
 use Rattle.rules.specs.Image.{image, imageCall, save}
 use Rattle.rules.specs.Lists.{all}
 use Rattle.rules.specs.Record.{bodyLength, isWhole, readRecord, recordsFrom, recordsOf}
-use Rattle.rules.specs.Recovery.{Recovering, act, acts, restore}
+use Rattle.rules.specs.Recovery.{Recovering, act, acts, isFinished, restore}
 use Rattle.rules.specs.Refusal.{isSetUp}
 use Rattle.rules.specs.Run.{Wrote, wroteInto}
 use Rattle.rules.specs.Tables.{Board, Lent}
@@ -113,6 +114,7 @@ module _ (file memory as′ d e : List ℕ) (a : Answer) (q : _≡_ {A = Wrote} 
         answers = λ z. absurd (n z);
         accepts = λ z. absurd (n z);
         recovers = λ z. absurd (n z);
+        holds = λ z. absurd (n z);
       }
 
   module _ (z : a .refusal ≡ 0) where
@@ -137,7 +139,8 @@ module _ (file memory as′ d e : List ℕ) (a : Answer) (q : _≡_ {A = Wrote} 
 
     module _ (bf : all isByte file ≡ true) (bm : all isByte memory ≡ true) where
       holds : Holds (Lent memory) (recordsOf file) (actsOf as′)
-      holds = recovery-is-right (Lent memory) (recordsOf file) (actsOf as′) bm (records-bytes 0 file bf) (accepted .0)
+      holds = recovery-is-right (Lent memory) (recordsOf file) (actsOf as′) bm (records-bytes 0 file bf)
+          (sym (cut-is (Lent memory) (recordsOf file)) ∙ accepted .0)
 
       -- the buffer's front was lent, and holds zs behind the last step
       pub drill-accepted : (l : Answer) (zs : List ℕ) → length zs ≡ length (take (a .value) e) → stepped l zs ≡ lastStep (take (a .value) e) as′
@@ -153,5 +156,6 @@ module _ (file memory as′ d e : List ℕ) (a : Answer) (q : _≡_ {A = Wrote} 
             restores = λ _. ap (λ bs. bs ++ drop (a .value) e) bytes ∙ ap (λ bs. ended file memory as′ .after .bytes ++ bs) back;
             answers = λ _. ap (λ (x : Step). x .answer) s;
             accepts = λ _. ap (λ (x : Step). x .answer .refusal) s ∙ holds .accepts;
-            recovers = λ _ f. ap memoryFound (t ∙ bytes) ∙ holds .recovers (sym (ap (λ (x : Step). x .answer .value) s) ∙ f);
+            recovers = λ _ f. ap memoryFound (t ∙ bytes) ∙ holds .recovers (sym (ap (λ (x : Step). isFinished (x .answer)) s) ∙ f);
+            holds = λ _. holds;
           }

@@ -2,16 +2,16 @@
 use Prim.Native.Nat.{ℕ}
 use mathlib.Core.Path.{_≡_}
 use mathlib.Core.Logic.{_≢_}
-use mathlib.Core.Bool.{cond}
+use mathlib.Core.Bool.{cond, true}
 use mathlib.Core.List.{List, _++_, map}
 use lib.Dec.{eqb}
 use lib.ListN.{drop, take}
 use Rattle.drill.specs.declared.DrillAnswers.{DrillAnswers}
-use Rattle.rules.specs.Claim.{recovering}
+use Rattle.rules.specs.Claim.{Holds, recovering}
 use Rattle.rules.specs.History.{expectedBytes, memoryFound}
 use Rattle.rules.specs.Image.{imageCall}
 use Rattle.rules.specs.Record.{recordsOf}
-use Rattle.rules.specs.Recovery.{Act, PowerCut, Recovering, Restore, Restored, acts, restore}
+use Rattle.rules.specs.Recovery.{Act, PowerCut, Recovering, Restore, Restored, acts, isFinished, restore}
 use Rattle.rules.specs.Tables.{Lent}
 use Rattle.rules.specs.declared.Answer.{Answer}
 
@@ -57,4 +57,6 @@ pub record Drilled (file memory as′ d e : List ℕ) (r : DrillAnswers) : Type 
   -- the last step is then accepted
   pub accepts : r .saved .refusal ≡ 0 → r .last .refusal ≡ 0
   -- and if it answers 'finished', the memory found in the buffer is the expected memory
-  pub recovers : r .saved .refusal ≡ 0 → r .last .value ≡ 0 → memoryFound (take (r .saved .value) e) ≡ expectedBytes (Lent memory) (recordsOf file)
+  pub recovers : r .saved .refusal ≡ 0 → isFinished (r .last) ≡ true → memoryFound (take (r .saved .value) e) ≡ expectedBytes (Lent memory) (recordsOf file)
+  -- and all of demand 3 holds of the file and the acts: a pass finishes in time, and what a committed region drew on had committed
+  pub holds : r .saved .refusal ≡ 0 → Holds (Lent memory) (recordsOf file) (actsOf as′)

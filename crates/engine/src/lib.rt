@@ -28,7 +28,7 @@ fn record_size(bytes: &[u8]) -> usize
 }
 
 // The number of records, and so of answers, of a file.
-pub fn record_count(file: &[u8]) -> usize
+fn record_count(file: &[u8]) -> usize
     ensures { λ r. ⌜ r ≡ length (recordsOf (now (file .entry))) ⌝ }
 {
     let mut n: usize = 0;

@@ -1,20 +1,38 @@
-// A line is eight words, taken and given by value. Words and lines as bytes, little-endian, in a lent slice.
+// A line is eight words, taken and given by value. Words and lines as bytes, little-endian, in a lent slice: what does not lie wholly in the slice is
+// read as 0, and is not written.
 ghost use Prim.Native.Nat.{_+_, _*_, _%_, _<_, _≤_};
 ghost use mathlib.Core.Path.{_≡_};
+ghost use lib.Dec.{leb};
 ghost use lib.ListN.{length, set, take, drop};
 ghost use lib.Seq.{sets};
-ghost use Rattle.rules.specs.Bytes.{bytesOf, numOf, lineBytes, lineAt, paste};
+ghost use Rattle.rules.specs.Bytes.{bytesOf, numOf, lineBytes, lineAt};
 ghost use Rattle.rules.specs.Run.{answerBytes};
-ghost use Rattle.rules.specs.Tables.{lentLine};
+ghost use Rattle.rules.specs.Tables.{lineOf};
+ghost use Rattle.lines.specs.Room.{lineIn, putAt, wordIn};
 
-// The line with the word w changed.
+// The line with the word w changed; there are eight.
 pub fn store_word(line: [u64; 8], w: usize, v: u64) -> [u64; 8]
-    requires { ⌜ w < 8 ⌝ }
     ensures { λ r. ⌜ r ≡ set line w v ⌝ }
 {
     let mut l = line;
-    l[w] = v;
+    if w < 8 {
+        l[w] = v;
+    }
     l
+}
+
+// Line l of a memory, taken whole.
+pub fn line_of(m: &[[u64; 8]; 256], l: u8) -> [u64; 8]
+    ensures { λ r. ⌜ r ≡ lineOf l (now (m .entry)) ⌝ }
+{
+    m[l as usize]
+}
+
+// Line l of a memory, given whole.
+pub fn set_line(m: &mut [[u64; 8]; 256], l: u8, line: [u64; 8])
+    ensures { λ _. ⌜ now (m .exit) ≡ set (now (m .entry)) l line ⌝ }
+{
+    m[l as usize] = line;
 }
 
 fn low(x: u64) -> u8
@@ -42,8 +60,19 @@ fn join32(lo: u32, hi: u32) -> u64
     (lo as u64) + 4294967296 * (hi as u64)
 }
 
-// The eight bytes of a word from `at` on.
-pub fn put_word(dst: &mut [u8], at: usize, x: u64)
+// Whether n bytes from `at` on lie in a slice.
+fn has_room(len: usize, at: usize, n: usize) -> bool
+    ensures { λ r. ⌜ r ≡ leb (at + n) len ⌝ }
+{
+    if len < n {
+        return false;
+    }
+    at <= len - n
+}
+
+// ---- a word
+
+fn set_word(dst: &mut [u8], at: usize, x: u64)
     requires { ⌜ at + 8 ≤ length (now dst) ⌝ }
     ensures { λ _. ⌜ now (dst .exit) ≡ sets (now (dst .entry)) at (bytesOf 8 x) ⌝ }
 {
@@ -56,8 +85,7 @@ pub fn put_word(dst: &mut [u8], at: usize, x: u64)
     }
 }
 
-// The word that the eight bytes from `at` on hold.
-pub fn take_word(src: &[u8], at: usize) -> u64
+fn word_at(src: &[u8], at: usize) -> u64
     requires { ⌜ at + 8 ≤ length (now src) ⌝ }
     ensures { λ r. ⌜ r ≡ numOf (take 8 (drop at (now (src .entry)))) ⌝ }
 {
@@ -68,70 +96,83 @@ pub fn take_word(src: &[u8], at: usize) -> u64
     join32(join16(a, b), join16(c, d))
 }
 
+// The eight bytes of a word from `at` on.
+pub fn put_word(dst: &mut [u8], at: usize, x: u64)
+    ensures { λ _. ⌜ now (dst .exit) ≡ putAt 8 (now (dst .entry)) at (bytesOf 8 x) ⌝ }
+{
+    if has_room(dst.len(), at, 8) {
+        set_word(dst, at, x);
+    }
+}
+
+// The word that the eight bytes from `at` on hold.
+pub fn take_word(src: &[u8], at: usize) -> u64
+    ensures { λ r. ⌜ r ≡ wordIn (now (src .entry)) at ⌝ }
+{
+    if has_room(src.len(), at, 8) {
+        word_at(src, at)
+    } else {
+        0
+    }
+}
+
+// ---- a line
+
 // A line's 64 bytes at the front of a part of a buffer.
-pub fn put_line(dst: &mut [u8], line: [u64; 8])
+fn put_line(dst: &mut [u8], line: [u64; 8])
     requires { ⌜ 64 ≤ length (now dst) ⌝ }
     ensures { λ _. ⌜ now (dst .exit) ≡ sets (now (dst .entry)) 0 (lineBytes line) ⌝ }
 {
     let mut w: usize = 0;
     while w < 8 {
-        put_word(dst, 8 * w, line[w]);
+        set_word(dst, 8 * w, line[w]);
         w += 1;
     }
 }
 
-// The line whose 64 bytes stand from `at` on.
-pub fn take_line(src: &[u8], at: usize) -> [u64; 8]
+fn line_at(src: &[u8], at: usize) -> [u64; 8]
     requires { ⌜ at + 64 ≤ length (now src) ⌝ }
     ensures { λ r. ⌜ r ≡ lineAt (now (src .entry)) at ⌝ }
 {
     [
-        take_word(src, at),
-        take_word(src, at + 8),
-        take_word(src, at + 16),
-        take_word(src, at + 24),
-        take_word(src, at + 32),
-        take_word(src, at + 40),
-        take_word(src, at + 48),
-        take_word(src, at + 56),
+        word_at(src, at),
+        word_at(src, at + 8),
+        word_at(src, at + 16),
+        word_at(src, at + 24),
+        word_at(src, at + 32),
+        word_at(src, at + 40),
+        word_at(src, at + 48),
+        word_at(src, at + 56),
     ]
+}
+
+// The line whose 64 bytes stand from `at` on.
+pub fn take_line(src: &[u8], at: usize) -> [u64; 8]
+    ensures { λ r. ⌜ r ≡ lineIn (now (src .entry)) at ⌝ }
+{
+    if has_room(src.len(), at, 64) {
+        line_at(src, at)
+    } else {
+        [0; 8]
+    }
 }
 
 // The 64 bytes from `a` on, in the middle of a buffer, lent on to be overwritten.
 pub fn put_line_at(dst: &mut [u8], a: usize, line: [u64; 8])
-    requires { ⌜ a + 64 ≤ length (now dst) ⌝ }
-    ensures { λ _. ⌜ now (dst .exit) ≡ sets (now (dst .entry)) a (lineBytes line) ⌝ }
+    ensures { λ _. ⌜ now (dst .exit) ≡ putAt 64 (now (dst .entry)) a (lineBytes line) ⌝ }
 {
-    let b = a + 64;
-    put_line(&mut dst[a..b], line);
-}
-
-// The same, said by the three parts of the image.
-pub fn restore_line(image: &mut [u8], a: usize, line: [u64; 8])
-    requires { ⌜ a + 64 ≤ length (now image) ⌝ }
-    ensures { λ _. ⌜ now (image .exit) ≡ paste (now (image .entry)) a (lineBytes line) ⌝ }
-{
-    let b = a + 64;
-    put_line(&mut image[a..b], line);
-}
-
-// Line i of lent memory, zero where the memory does not hold the whole line.
-pub fn lent_line(memory: &[u8], i: usize) -> [u64; 8]
-    requires { ⌜ i ≤ 255 ⌝ }
-    ensures { λ r. ⌜ r ≡ lentLine (now (memory .entry)) i ⌝ }
-{
-    let at = 64 * i;
-    if at + 64 <= memory.len() {
-        return take_line(memory, at);
+    if has_room(dst.len(), a, 64) {
+        let b = a + 64;
+        put_line(&mut dst[a..b], line);
     }
-    [0; 8]
 }
 
 // The nine bytes of an answer from `at` on: the refusal, then the value.
 pub fn put_answer(dst: &mut [u8], at: usize, refusal: u8, value: u64)
-    requires { ⌜ at + 9 ≤ length (now dst) ⌝ }
-    ensures { λ _. ⌜ now (dst .exit) ≡ sets (now (dst .entry)) at (answerBytes (record { refusal = refusal; value = value })) ⌝ }
+    ensures { λ _. ⌜ now (dst .exit) ≡ putAt 9 (now (dst .entry)) at (answerBytes (record { refusal = refusal; value = value })) ⌝ }
 {
-    dst[at] = refusal;
-    put_word(dst, at + 1, value);
+    if has_room(dst.len(), at, 9) {
+        dst[at] = refusal;
+        set_word(dst, at + 1, value);
+    }
 }

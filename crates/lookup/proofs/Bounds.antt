@@ -1,30 +1,24 @@
 -- The bounds that callers of the searches need, as laws of the definitions.
 use Prim.Native.Nat.{_+_, _<_, _≤_, suc, ℕ}
-use mathlib.Core.Path.{_∙_, _≡_, refl, sym}
-use mathlib.Core.Bool.{Bool, cond, false, not, true}
+use mathlib.Core.Path.{_∙_, _≡_, sym}
+use mathlib.Core.Bool.{Bool, cond, false, true}
 use mathlib.Core.List.{List, [], _∷_}
-use lib.Dec.{ltb}
 use lib.ListN.{getD, length}
 use native.Mathlib.Omega.{arith}
-use borrow.Author.Tests.{lt-ltb, ltb-false, ltb-true}
-use Rattle.lookup.proofs.Search.{any-place, place-le}
-use Rattle.rules.specs.Lists.{count, place}
+use borrow.Author.Tests.{ltb-false}
+use Rattle.lookup.proofs.Search.{any-place}
+use Rattle.rules.proofs.Places.{place-le}
+use Rattle.rules.specs.Lists.{place}
 use Rattle.rules.specs.Slots.{isEmpty, names, orAt, slotFor, slotFrom}
-use Rattle.rules.specs.Tables.{isHeld, isKey, placeOf}
 use Rattle.rules.specs.declared.Found.{Found}
 use Rattle.rules.specs.declared.Found.the-variants.{At, Full}
-use Rattle.rules.specs.declared.Region.{Region}
 use Rattle.rules.specs.declared.Slot.{Slot}
 use Rattle.undo.proofs.Laws.{test}
 use Rattle.undo.proofs.Shape.{rest}
 use Rattle.undo.specs.Table.{any}
 
 module _ {A : Type 0} (p : A → Bool) (xs : List A) where
-  -- the place is inside the list where an element passes
-  pub place-lt : any p xs ≡ true → place p xs < length xs
-  place-lt e = ltb-true _ _ (sym (any-place p xs) ∙ e)
-
-  -- and not where none does
+  -- no place is found where no element passes
   pub place-none : any p xs ≡ false → place p xs ≡ length xs
   place-none e = let h : length xs ≤ place p xs = ltb-false _ _ (sym (any-place p xs) ∙ e) in let k = place-le p xs in omega arith
 
@@ -36,23 +30,6 @@ module _ {A : Type 0} (p : A → Bool) where
   place-passes [] d h = absurd (omega arith)
   place-passes (x ∷ xs) d h =
       test (p x) (λ e. rw (e, e)) (λ e. rw e (place-passes xs d (let k : place p (x ∷ xs) < length (x ∷ xs) = h in omega (arith, rw e at k))))
-
-  -- some element passes where the count is not 0
-  pub any-count : (xs : List A) → any p xs ≡ ltb 0 (count p xs)
-  unfolding count
-  any-count [] = refl
-  any-count (x ∷ xs) = test (p x) (λ e. rw e (sym (lt-ltb 0 (suc (count p xs)) (omega arith)))) (λ e. rw e (any-count xs))
-
-  -- some element passes where fewer fail than there are
-  pub any-left : (xs : List A) → count (λ x. not (p x)) xs < length xs → any p xs ≡ true
-  unfolding count
-  any-left [] h = absurd (omega arith)
-  any-left (x ∷ xs) h =
-      test (p x) (λ e. rw e) (λ e. rw e (any-left xs (let k : suc (count (λ y. not (p y)) xs) < suc (length xs) = rw e at h in omega arith)))
-
--- a list that is not full has a free place
-pub free-place : (rs : List Region) → count isHeld rs < length rs → placeOf 0 rs < length rs
-free-place rs h = place-lt (isKey 0) rs (any-left (isKey 0) rs h)
 
 -- ---- the slot for a line
 

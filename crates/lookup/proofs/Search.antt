@@ -1,6 +1,6 @@
 -- One turn and the end of each search over a list, for any element type and any test: a loop at index i still has `drop i xs` before it.
 use lib.Dec.{ltb, leb·suc-suc}
-use Prim.Native.Nat.{_+_, _<_, _≤_, suc, zero, ℕ}
+use Prim.Native.Nat.{_+_, _<_, _≤_, suc, ℕ}
 use mathlib.Core.Path.{_∙_, _≡_, refl, sym}
 use mathlib.Core.Bool.{Bool, cond, false, true}
 use mathlib.Core.List.{List, [], _∷_}
@@ -17,19 +17,7 @@ use Rattle.rules.specs.declared.Slot.{Slot}
 use Rattle.undo.proofs.Laws.{test}
 use Rattle.undo.specs.Table.{any}
 
-module _ {A : Type 0} where
-  -- inside a list the default does not matter
-  pub getD-any : (xs : List A) (i : ℕ) (a b : A) → i < length xs → getD xs i a ≡ getD xs i b
-  getD-any [] i a b h = absurd (omega arith)
-  getD-any (x ∷ xs) zero a b h = refl
-  getD-any (x ∷ xs) (suc i) a b h = getD-any xs i a b (omega arith)
-
 module _ {A : Type 0} (p : A → Bool) where
-  pub place-le : (xs : List A) → place p xs ≤ length xs
-  unfolding place
-  place-le [] = omega arith
-  place-le (x ∷ xs) = let ih = place-le xs in test (p x) (λ e. rw e (omega arith)) (λ e. rw e (omega arith))
-
   pub count-le : (xs : List A) → count p xs ≤ length xs
   unfolding count
   count-le [] = omega arith

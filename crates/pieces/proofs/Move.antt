@@ -1,14 +1,16 @@
--- One byte more goes to the front.
-use Prim.Native.Nat.{_+_, _-_, _<_, _≤_, suc, ℕ}
-use mathlib.Core.Path.{_≡_, refl}
+-- One byte more goes to the front, and what stands there in the end.
+use Prim.Native.Nat.{_+_, _-_, _<_, _≤_, suc, zero, ℕ}
+use mathlib.Core.Path.{_∙_, _≡_, refl, sym}
+use mathlib.Core.Bool.{Bool, false, true}
 use mathlib.Core.List.{List, [], _∷_, append-assoc}
-use lib.ListN.{drop, getD, length, length-drop, set, take}
+use lib.Dec.{leb}
+use lib.ListN.{drop, getD, length, length-drop, length-take, set, take}
 use native.Mathlib.Omega.{arith}
 use native.Mathlib.Numerals.{add-one}
-use borrow.Author.Tests.{le-leb, lt-leb}
-use lib.Seq.{drop-cons, getD-append-add, getD-drop, length-take-le, set-at, take-suc}
+use borrow.Author.Tests.{le-leb, leb-false, leb-true, lt-leb}
+use lib.Seq.{drop-cons, getD-append-add, getD-drop, length-take-le, set-at, take-all, take-at, take-nil, take-suc, take-take}
 use native.Mathlib.Nat.{add-comm}
-use Rattle.pieces.specs.Shift.{moved, shifted}
+use Rattle.pieces.specs.Shift.{Refilled, moved, shifted}
 
 pub shifted-none : (d : List ℕ) (at : ℕ) → shifted d at 0 ≡ d
 unfolding shifted
@@ -43,3 +45,30 @@ moved-short d at n h = rw (lt-leb n (length d) h)
 pub moved-all : (d : List ℕ) (at n : ℕ) → n ≤ length d → moved d at n ≡ n - at
 unfolding moved
 moved-all d at n h = rw (le-leb n (length d) h)
+
+-- ---- what stands at the front of a buffer then
+
+drop-take : (a n : ℕ) (l : List ℕ) → drop a (take n l) ≡ take (n - a) (drop a l)
+drop-take zero n l = let e : n - 0 ≡ n = omega arith in rw e
+drop-take (suc a) zero l = let e : 0 - suc a ≡ 0 = omega arith in rw e
+drop-take (suc a) (suc n) [] = sym (take-nil (suc n - suc a))
+drop-take (suc a) (suc n) (x ∷ l) = let e : suc n - suc a ≡ n - a = omega arith in rw e (drop-take a n l)
+
+-- what was moved: the bytes from `at` on of the first n
+pub shifted-front : (d : List ℕ) (at n : ℕ) → n ≤ length d → take (moved d at n) (shifted d at (moved d at n)) ≡ drop at (take n d)
+unfolding shifted
+shifted-front d at n h =
+    let l : length (take (n - at) (drop at d)) ≡ n - at = simp (length-take, length-drop) (omega arith) in
+    rw (moved-all d at n h, take-at (take (n - at) (drop at d)) (drop (n - at) d) (n - at) l, drop-take at n d)
+
+either : {A : Type 0} (b : Bool) → (b ≡ true → A) → (b ≡ false → A) → A
+either true f g = f refl
+either false f g = g refl
+
+-- what counts of a refilled buffer begins with what was held
+pub refilled-front : (d d′ : List ℕ) (have r : ℕ) → Refilled d d′ have r → length d′ ≡ length d → take have (take r d′) ≡ take have d
+refilled-front d d′ have r f e =
+    either (leb have (length d))
+    (λ h. take-take have r d′ (f .grows (leb-true have (length d) h)) ∙ f .stays)
+    (λ h. let k : length d ≤ have = omega (arith, leb-false have (length d) h) in
+    rw (take-all r d′ (omega (arith, f .full k))) (f .stays))

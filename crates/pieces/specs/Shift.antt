@@ -1,5 +1,6 @@
--- What is left of a piece goes to the front of its buffer.
-use Prim.Native.Nat.{_-_, ℕ}
+-- What is left of a piece goes to the front of its buffer, and what is read comes behind it.
+use Prim.Native.Nat.{_-_, _≤_, ℕ}
+use mathlib.Core.Path.{_≡_}
 use mathlib.Core.Bool.{cond}
 use mathlib.Core.List.{List, _++_}
 use lib.Dec.{leb}
@@ -12,3 +13,11 @@ moved d at n = cond (leb n (length d)) (n - at) 0
 -- the buffer with k bytes from `at` on at its front, and its other bytes as they were
 unfoldable pub shifted : List ℕ → ℕ → ℕ → List ℕ
 shifted d at k = take k (drop at d) ++ drop k d
+
+-- the first bytes of a buffer stay, and r of its bytes count then: those, and as many as are read behind them.
+-- Which these are, and what stands behind them, is the input's and the system's choice
+pub record Refilled (d d′ : List ℕ) (have r : ℕ) : Type 0 where
+  pub stays : take have d′ ≡ take have d
+  pub counts : r ≤ length d′
+  pub grows : have ≤ length d → have ≤ r
+  pub full : length d ≤ have → r ≡ length d

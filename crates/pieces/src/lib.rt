@@ -1,17 +1,36 @@
 // Standard input in pieces through a lent buffer, and standard output from one.
+// No contract can say which bytes the system reads or writes. So the two calls that do it are private and ask what their callers must hand over.
 ghost use Prim.Native.Nat.{_≤_};
 ghost use mathlib.Core.Path.{_≡_};
-ghost use lib.ListN.{length};
-ghost use Rattle.pieces.specs.Shift.{moved, shifted};
+ghost use mathlib.Core.Bool.{true};
+ghost use lib.IntN.{pos};
+ghost use lib.ListN.{length, take};
+ghost use Rattle.io.specs.Counts.{Counts};
+ghost use Rattle.pieces.specs.Shift.{Refilled, moved, shifted};
+
+// Reads standard input until the buffer is full or the input ends. Answers how many bytes are read, to the front of the buffer.
+fn take_in(from: i32, buf: &mut [u8]) -> usize
+    requires { ⌜ from ≡ pos 0 ⌝ }
+    ensures { λ r. ⌜ Counts r (now (buf .exit)) ⌝ }
+{
+    io::read_full(from, buf)
+}
+
+// Writes bytes, which are the first n of a buffer, to standard output. Answers whether all went out.
+fn send(to: i32, bytes: &[u8], buf: &[u8], n: usize) -> bool
+    requires { ⌜ (to ≡ pos 1) × (now bytes ≡ take n (now buf)) ⌝ }
+{
+    io::write_all(to, bytes)
+}
 
 // Reads on behind the first `have` bytes of a buffer, until it is full or the input ends. Answers how many bytes the buffer then holds.
 pub fn refill(buf: &mut [u8], have: usize) -> usize
-    ensures { λ r. ⌜ r ≤ length (now (buf .exit)) ⌝ }
+    ensures { λ r. ⌜ Refilled (now (buf .entry)) (now (buf .exit)) have r ⌝ }
 {
     if buf.len() <= have {
         return buf.len();
     }
-    let got = io::read_full(libc::STDIN_FILENO, &mut buf[have..]);
+    let got = take_in(libc::STDIN_FILENO, &mut buf[have..]);
     have + got
 }
 
@@ -34,10 +53,12 @@ pub fn shift(buf: &mut [u8], from: usize, n: usize) -> usize
     count
 }
 
-// Writes the first n bytes of a buffer to standard output.
-pub fn flush(buf: &[u8], n: usize) -> bool {
+// Writes the first n bytes of a buffer to standard output; nothing where it is shorter. Answers whether all went out.
+pub fn flush(buf: &[u8], n: usize) -> bool
+    ensures { λ r. ⌜ (r ≡ true → n ≤ length (now (buf .entry))) ⌝ }
+{
     if buf.len() < n {
         return false;
     }
-    io::write_all(libc::STDOUT_FILENO, &buf[..n])
+    send(libc::STDOUT_FILENO, &buf[..n], buf, n)
 }

@@ -1,14 +1,14 @@
 -- The walk over the records: what the tables and counts hold after each.
 use Prim.Native.Nat.{_+_, _<_, _≤_, suc, zero, ℕ}
 use mathlib.Core.Path.{_∙_, _≡_, ap, refl, subst, sym}
-use mathlib.Core.Bool.{_&&_, false, false≢true, true}
+use mathlib.Core.Bool.{_&&_, false≢true, true}
 use mathlib.Core.List.{List, [], _++_, _∷_, map, map-append}
 use lib.Dec.{eqb, leb, ltb}
 use lib.ListN.{drop, getD, length, length-drop, length-map, length-replicate, replicate, set, take}
 use native.Mathlib.Omega.{arith}
 use native.Mathlib.Nat.{add-zero, zero-add}
 use borrow.Author.Tests.{eq-eqb, eqb-true, leb-true, ltb-true}
-use lib.Seq.{drop-cons, drop-drop, getD-drop, length-sets, take-at}
+use lib.Seq.{drop-cons, drop-drop, getD-drop, take-at}
 use Rattle.rules.specs.Bytes.{lineAt}
 use Rattle.rules.specs.Image.{Logged, Persistent}
 use Rattle.rules.specs.Lists.{count}
@@ -31,9 +31,6 @@ use Rattle.reading.proofs.Turns.{added, isOn, isSound, item-fits, item-
 
 pub filled-more : {A : Type 0} (n : ℕ) (z : A) (xs : List A) (x : A) → set (filled n z xs) (length xs) x ≡ filled n z (xs ++ (x ∷ []))
 filled-more n z xs x = sym (sets-join (replicate n z) 0 xs (x ∷ []) ∙ rw (zero-add (length xs)))
-
-pub length-filled : {A : Type 0} (n : ℕ) (z : A) (xs : List A) → length (filled n z xs) ≡ n
-length-filled n z xs = length-sets (replicate n z) 0 xs ∙ length-replicate n z
 
 -- ---- what holds of all that was read
 

@@ -21,7 +21,7 @@ pub struct Walked {
 }
 
 // The image's reading: 8 after all other refusals.
-pub fn read_image(src: &[u8]) -> Read
+fn read_image(src: &[u8]) -> Read
     ensures { λ r. ⌜ r ≡ readOf (readImage (now (src .entry))) ⌝ }
 {
     let read = reading::read_records(src);
@@ -51,7 +51,7 @@ fn put_back(image: &mut [u8], line: usize, from: usize)
     ensures { λ _. ⌜ now (image .exit) ≡ paste (now (image .entry)) (lineStart line) (lineBytes (lineAt (now (image .entry)) from)) ⌝ }
 {
     let old = lines::take_line(image, from);
-    lines::restore_line(image, 4 + (65 * line + 1), old);
+    lines::put_line_at(image, 4 + (65 * line + 1), old);
 }
 
 // The regions of an image in the order of the walk.
@@ -125,8 +125,8 @@ fn restore_read(image: &mut [u8], read: Read, at: u64) -> Walked
     }
 }
 
-// A recovery step at a place.
-pub fn step_at(image: &mut [u8], at: u64) -> Walked
+// A recovery step by value.
+fn restored(image: &mut [u8], at: u64) -> Walked
     ensures { λ r. ⌜ restoredOf (now (image .exit)) r ≡ restore (record { bytes = now (image .entry); at = at }) ⌝ }
 {
     let read = read_image(image);
@@ -143,9 +143,21 @@ pub fn step(image: &mut [u8], place: &mut Place) -> Answer
     ensures { λ r. ⌜ leftBy r (now (image .exit)) (now (place .exit)) ≡ restore (lentAt (now (image .entry)) (now (place .entry))) ⌝ }
 {
     let n = place.steps;
-    let s = step_at(image, n);
+    let s = restored(image, n);
     place.steps = s.at;
     s.answer
+}
+
+// A recovery step at a place of its own, which it lends to `step`.
+pub fn step_at(image: &mut [u8], at: u64) -> Walked
+    ensures { λ r. ⌜ restoredOf (now (image .exit)) r ≡ restore (record { bytes = now (image .entry); at = at }) ⌝ }
+{
+    let mut place = Place { steps: at };
+    let answer = step(image, &mut place);
+    Walked {
+        answer: answer,
+        at: place.steps,
+    }
 }
 
 // A recovery step for a caller whose place is eight lent bytes, little-endian: 6 for a place of another length, before any other check.

@@ -9,7 +9,7 @@ ghost use mathlib.Core.Path.{_≡_};
 ghost use mathlib.Core.Bool.{Bool, _&&_, not};
 ghost use mathlib.Core.List.{List};
 ghost use lib.Dec.{eqb, leb};
-ghost use lib.ListN.{getD, length};
+ghost use lib.ListN.{getD};
 ghost use Rattle.undo.specs.Table.{any};
 ghost use Rattle.rules.specs.Access.{isOf};
 ghost use Rattle.rules.specs.Tables.{noThread};
@@ -29,21 +29,6 @@ struct Writer {
 
 // ---- the conditions
 
-fn in_range(n: u8, l: u16) -> bool
-    ensures { λ r. ⌜ r ≡ inRange n l ⌝ }
-{
-    if n < 1 {
-        return false;
-    }
-    if 8 < n {
-        return false;
-    }
-    if l < 1 {
-        return false;
-    }
-    l <= 256
-}
-
 // The lent memory has 64 bytes for each line.
 fn memory_fits(z: Size, l: u16) -> bool
     ensures { λ r. ⌜ r ≡ fits l z ⌝ }
@@ -58,7 +43,7 @@ fn is_set_up(h: Head) -> bool
     ensures { λ r. ⌜ r ≡ inRange (h .size .threads) (h .size .lines) ⌝ }
 {
     let z = h.size;
-    in_range(z.threads, z.lines)
+    rows::in_range(z.threads, z.lines)
 }
 
 fn no_such_thread(h: Head, t: u8) -> bool
@@ -192,13 +177,17 @@ fn access_refusal(h: Head, threads: &[[u64; 34]; 8], t: u8, l: u8, w: u8) -> u8
 pub fn setup_refusal(z: Size, n: u8, l: u16) -> u8
     ensures { λ r. ⌜ ((ts : Tables) → ts .size ≡ z → r ≡ refusal ts (Setup n l)) ⌝ }
 {
-    if !in_range(n, l) {
+    if !rows::in_range(n, l) {
         return 6;
     }
     if !memory_fits(z, l) {
         return 6;
     }
-    if in_range(z.threads, z.lines) { 6 } else { 0 }
+    if rows::in_range(z.threads, z.lines) {
+        6
+    } else {
+        0
+    }
 }
 
 fn begin_refusal(h: Head, threads: &[[u64; 34]; 8], regions: &[[u32; 16]; 32], t: u8) -> u8

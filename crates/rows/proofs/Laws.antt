@@ -6,7 +6,7 @@ use mathlib.Core.Bool.{Bool, _&&_, _||_, cond, false, not, true}
 use lib.Arith.{digits-div, digits-mod}
 use lib.Dec.{eqb, ltb}
 use lib.ListN.{List·getD-eq-default, List·getD-map, drop, getD, length, length-drop, length-map, length-set, length-take, set, take}
-use lib.Seq.{getD-drop, getD-set-other, getD-set-same, getD-take, take-set-le, take-set-lt}
+use lib.Seq.{drop-set-add, getD-drop, getD-set-other, getD-set-same, getD-take, take-set-le, take-set-lt, set-out}
 use native.Mathlib.Omega.{arith}
 use native.Mathlib.Nat.{mod-eq-of-lt}
 use borrow.Author.Tests.{eq-eqb, eqb-false, eqb-true, ltb-false, ltb-true, ne-eqb}
@@ -17,7 +17,7 @@ use Rattle.rules.specs.Lists.{place}
 use Rattle.undo.specs.Table.{any}
 use Rattle.slots.proofs.Walk.{map-end, map-more, mapped}
 use Rattle.rules.specs.Refusal.{noRoomForDep}
-use Rattle.rules.specs.Slots.{carries, isEmpty, isFlight, isFull, names, orAt, slotFor, slotFrom}
+use Rattle.rules.specs.Slots.{carries, isEmpty, isFull, names, orAt, slotFor, slotFrom}
 use Rattle.rules.specs.Tables.{noEntry, noRegion, noSlot, noThread, withSlots}
 use Rattle.rules.specs.declared.Entry.{Entry}
 use Rattle.rules.specs.declared.Found.{Found}
@@ -36,12 +36,6 @@ module _ {A B : Type 0} (f : A → B) where
   map-set (y ∷ xs) zero x = refl
   map-set (y ∷ xs) (suc i) x = ap (_∷_ (f y)) (map-set xs i x)
 
--- behind the list nothing is stored
-pub set-behind : {A : Type 0} (xs : List A) (i : ℕ) (x : A) → length xs ≤ i → set xs i x ≡ xs
-set-behind [] i x h = refl
-set-behind (y ∷ xs) zero x h = absurd (omega arith)
-set-behind (y ∷ xs) (suc i) x h = ap (_∷_ y) (set-behind xs i x (omega arith))
-
 -- what lies behind the list is a free place
 pub free : regionOf [] ≡ noRegion
 unfolding regionOf
@@ -54,7 +48,7 @@ pub got-behind : (ws : List (List ℕ)) (i : ℕ) → length ws ≤ i → getD (
 got-behind ws i h = List·getD-eq-default (regionsOf ws) noRegion {n = i} (rw (length-map ws regionOf) h)
 
 pub put-behind : (ws : List (List ℕ)) (i : ℕ) (r : Region) → length ws ≤ i → regionsOf ws ≡ set (regionsOf ws) i r
-put-behind ws i r h = sym (set-behind (regionsOf ws) i r (rw (length-map ws regionOf) h))
+put-behind ws i r h = sym (set-out (regionsOf ws) i r (rw (length-map ws regionOf) h))
 
 pub rows-length : (ws : List (List ℕ)) → length ws ≡ 32 → length (regionsOf ws) ≡ 32
 rows-length ws h = length-map ws regionOf ∙ h
@@ -292,11 +286,6 @@ slots-length w = refl
 pub slot-at : (w : List ℕ) (i : ℕ) → length w ≡ 16 → getD (regionOf w .slots) i noSlot ≡ slotOf (word w (8 + i))
 slot-at w i h = rw (slots-row w h) (List·getD-map slotOf (drop 8 w) i 0 ∙ ap slotOf (getD-drop 8 w i 0))
 
-drop-set : {A : Type 0} (n : ℕ) (xs : List A) (j : ℕ) (x : A) → drop n (set xs (n + j) x) ≡ set (drop n xs) j x
-drop-set zero xs j x = let e : 0 + j ≡ j = omega arith in ap (λ i. set xs i x) e
-drop-set (suc n) [] j x = refl
-drop-set (suc n) (y ∷ xs) j x = let e : suc n + j ≡ suc (n + j) = omega arith in rw e (drop-set n xs j x)
-
 -- one slot emptied is one number of the row
 other-word : (w : List ℕ) (j i x : ℕ) → i < 8 → word (set w (8 + j) x) i ≡ word w i
 other-word w j i x h = getD-set-other w (8 + j) i x 0 (λ e. omega arith)
@@ -320,7 +309,7 @@ emptied w j h =
     slots-stored w j 0
     ∙ ap (λ ss. withSlots ss (regionOf w))
     (slots-row (set w (8 + j) 0) (length-set w (8 + j) 0 ∙ h)
-    ∙ ap (map slotOf) (drop-set 8 w j 0)
+    ∙ ap (map slotOf) (drop-set-add 8 w j 0)
     ∙ map-set slotOf (drop 8 w) j 0
     ∙ ap (λ ss. set ss j noSlot) (sym (slots-row w h)))
 

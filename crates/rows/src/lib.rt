@@ -7,7 +7,6 @@ use rules::SlotState;
 ghost use Prim.Native.Nat.{_/_, _<_};
 ghost use mathlib.Core.Path.{_≡_};
 ghost use mathlib.Core.Bool.{_||_, cond, false};
-ghost use mathlib.Core.List.{[], map};
 ghost use lib.Dec.{eqb};
 ghost use lib.ListN.{getD, length, set};
 ghost use Rattle.undo.specs.Table.{any};
@@ -17,7 +16,7 @@ ghost use Rattle.rules.specs.Slots.{carries, isFull, slotFor};
 ghost use Rattle.rules.specs.Access.{isOf};
 ghost use Rattle.rules.specs.Acknowledge.{flightPlace, kept, keptEntry, landed};
 ghost use Rattle.rules.specs.Commit.{freed, freedEntry};
-ghost use Rattle.rules.specs.Refusal.{isModified, isOfThread, noRoomForDep};
+ghost use Rattle.rules.specs.Refusal.{inRange, isModified, isOfThread, noRoomForDep};
 ghost use Rattle.rules.specs.declared.Thread.{Thread};
 ghost use Rattle.rows.specs.Row.{entryOf, regionOf, regionsOf, slotOf, stateOf, suits, threadOf, threadsOf, withLog};
 
@@ -26,6 +25,22 @@ pub struct Head {
     pub size: Size,
     pub cut: bool,
     pub clock: u32,
+}
+
+// Numbers T and L that a setup can have.
+pub fn in_range(n: u8, l: u16) -> bool
+    ensures { λ r. ⌜ r ≡ inRange n l ⌝ }
+{
+    if n < 1 {
+        return false;
+    }
+    if 8 < n {
+        return false;
+    }
+    if l < 1 {
+        return false;
+    }
+    l <= 256
 }
 
 // ---- a slot

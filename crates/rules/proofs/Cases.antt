@@ -8,7 +8,7 @@ use Rattle.rules.specs.Access.{joined, logged, read, stored, write, wrot
 use Rattle.rules.specs.Acknowledge.{dataAck, dropped, kept, keptEntry, landed, logAck, unlocked}
 use Rattle.rules.specs.Begin.{begin, opened}
 use Rattle.rules.specs.Bytes.{bytesOf, lineAt, numOf, wordsBytes, wordsOf}
-use Rattle.rules.specs.Claim.{boardAfter, passLength, recovering, restores}
+use Rattle.rules.specs.Claim.{boardAfter, entriesIn, passLength, recovering, restores}
 use Rattle.rules.specs.Commit.{afterCommit, commit, commits, doneRegion, earlier, earliestFrom, freed, settle, settled}
 use Rattle.rules.specs.Contradiction.{anyBroken, anyClash, contradicts, inOrder, reaches, reachesIn}
 use Rattle.rules.specs.End.{closed, endRegion}
@@ -144,15 +144,33 @@ cases =
     ∷ record { file = setup′ 1 4 ∷ (regions 0 4 ++ (begin′ 0 ∷ [])); refusals = times 13 0 ++ (15 ∷ []); values = times 14 0; imageLength = 0; words = [] }
     -- P9
     ∷ record {
-      file = setup′ 1 200 ∷ begin′ 0 ∷ write′ 0 199 0 7 ∷ write′ 0 200 0 7 ∷ [];
-      refusals = 0 ∷ 0 ∷ 0 ∷ 4 ∷ [];
-      values = times 4 0;
+      file =
+          setup′ 1 200
+          ∷ begin′ 0
+          ∷ write′ 0 199 0 7
+          ∷ write′ 0 200 0 7
+          ∷ read′ 0 199 0
+          ∷ read′ 0 200 0
+          ∷ logAck′ 199
+          ∷ logAck′ 200
+          ∷ end′ 0
+          ∷ dataAck′ 200
+          ∷ dataAck′ 199
+          ∷ [];
+      refusals = 0 ∷ 0 ∷ 0 ∷ 4 ∷ 0 ∷ 4 ∷ 0 ∷ 4 ∷ 0 ∷ 4 ∷ 0 ∷ [];
+      values = 0 ∷ 0 ∷ 0 ∷ 0 ∷ 7 ∷ 0 ∷ 0 ∷ 0 ∷ 0 ∷ 0 ∷ 1 ∷ [];
       imageLength = 0;
       words = [];
     }
     ∷ record { file = setup′ 1 256 ∷ begin′ 0 ∷ write′ 0 255 0 7 ∷ []; refusals = times 3 0; values = times 3 0; imageLength = 0; words = [] }
     -- P10
-    ∷ record { file = setup′ 1 1 ∷ begin′ 0 ∷ read′ 0 0 7 ∷ read′ 0 0 8 ∷ []; refusals = 0 ∷ 0 ∷ 0 ∷ 5 ∷ []; values = times 4 0; imageLength = 0; words = [] }
+    ∷ record {
+      file = setup′ 1 1 ∷ begin′ 0 ∷ read′ 0 0 7 ∷ read′ 0 0 8 ∷ write′ 0 0 7 9 ∷ write′ 0 0 8 9 ∷ [];
+      refusals = 0 ∷ 0 ∷ 0 ∷ 5 ∷ 0 ∷ 5 ∷ [];
+      values = times 6 0;
+      imageLength = 0;
+      words = [];
+    }
     -- P11
     ∷ record { file = setup′ 1 1 ∷ cut′ ∷ []; refusals = times 2 0; values = times 2 0; imageLength = 70; words = [] }
     -- the 33rd logged line
@@ -203,5 +221,5 @@ holds c =
 
 -- every case P1 to P11 and the 33rd logged line
 pub table : T (all holds cases)
-unfolding holds holdsCut acts recovered foundWords lineWords same cases p1 p2 p3 joined read logged wrote stored write dropped keptEntry kept unlocked logAck landed dataAck opened begin bytesOf numOf wordsBytes wordsOf restores doneRegion commits earlier earliestFrom afterCommit freed commit settle settled inOrder anyBroken reachesIn reaches anyClash contradicts closed endRegion flown savedRegion savedRegions savedEntry savedThread savedLog saved headRecord lineRecord regionRecord entryRecord encode image count place flat aboveFrom risingFrom headTurn lineTurn listedAt listedTurn loggedAt loggedTurn endTurn fieldsTurn turnOf recordsRead readImage eventOf readRecord restoreBy restore act testsOf refusal run slotFrom written flownSlots carried settledBoard setup fence apply stepBy stepEvent step lentLine lentFrom startLines fresh ownerOf nextPlace without walkFrom walk entriesOf entriesFrom walkEntries
+unfolding holds holdsCut acts recovered foundWords lineWords same cases p1 p2 p3 joined read logged wrote stored write dropped keptEntry kept unlocked logAck landed dataAck opened begin bytesOf numOf wordsBytes wordsOf entriesIn restores doneRegion commits earlier earliestFrom afterCommit freed commit settle settled inOrder anyBroken reachesIn reaches anyClash contradicts closed endRegion flown savedRegion savedRegions savedEntry savedThread savedLog saved headRecord lineRecord regionRecord entryRecord encode image count place flat aboveFrom risingFrom headTurn lineTurn listedAt listedTurn loggedAt loggedTurn endTurn fieldsTurn turnOf recordsRead readImage eventOf readRecord restoreBy restore act testsOf refusal run slotFrom written flownSlots carried settledBoard setup fence apply stepBy stepEvent step lentLine lentFrom startLines fresh ownerOf nextPlace without walkFrom walk entriesOf entriesFrom walkEntries
 table = tt

@@ -10,12 +10,11 @@ use Rattle.rules.proofs.CodecBytes.{all-set, isLine, length-bytes, leng
 use Rattle.rules.proofs.CodecTurns.{size-lines}
 use Rattle.rules.proofs.CodecValid.{Valid}
 use Rattle.rules.specs.Bytes.{bytesOf, lineBytes, numOf, paste}
-use Rattle.rules.specs.Contradiction.{contradicts}
 use Rattle.rules.specs.History.{foundFrom, memoryFound}
 use Rattle.rules.specs.Image.{Logged, Persistent, encode, entryRecord, headRecord, lineRecord, regionRecord}
 use Rattle.rules.specs.Lists.{flat}
 use Rattle.rules.specs.Recovery.{putBack}
-use Rattle.rules.specs.Walk.{walk, walkEntries}
+use Rattle.rules.specs.Walk.{walk}
 
 abbrev pub withMedium : List (List ℕ) → Persistent → Persistent
 withMedium m p = record { threads = p .threads; lines = p .lines; medium = m; regions = p .regions; log = p .log }
@@ -116,11 +115,3 @@ found p v =
     (rw (v .whole) at (found-from 0 (h ++ (flat lineRecord (p .medium) ++ t)) (p .medium) t d))
 
 -- ---- the lines bear on no contradiction and on no walk
-
-pub medium-clear : (m : List (List ℕ)) (p : Persistent) → contradicts (withMedium m p) ≡ contradicts p
-unfolding contradicts
-medium-clear m p = refl
-
-pub medium-walk : (m : List (List ℕ)) (p : Persistent) → walkEntries (withMedium m p) ≡ walkEntries p
-unfolding walkEntries walk
-medium-walk m p = refl

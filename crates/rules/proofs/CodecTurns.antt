@@ -1,4 +1,4 @@
--- A record that was written, read at the front of the bytes: it adds what it holds, and the reading isOn on behind it.
+-- A record that was written, read at the front of the bytes: it adds what it holds, and the reading goes on behind it.
 use Prim.Native.Nat.{_*_, _<_, _^_, _≤_, suc, zero, ℕ}
 use mathlib.Core.Path.{_∙_, _≡_, ap, refl}
 use mathlib.Core.Bool.{_&&_, false, true}

@@ -10,19 +10,25 @@ use mathlib.Core.Path.{_∙_, _≡_, sym}
 use mathlib.Core.Logic.{_≢_, ⊎-elim}
 use mathlib.Core.Bool.{true}
 use mathlib.Core.List.{List}
+use lib.Dec.{eqb}
 use native.Mathlib.Omega.{arith}
+use borrow.Author.Tests.{eqb-true}
 use Rattle.rules.proofs.CodecBack.{image-read}
+use Rattle.rules.proofs.Commits.{CommitsTold, commits-told}
+use Rattle.rules.proofs.Cuts.{cut-is}
+use Rattle.rules.proofs.FoundEntries.{entries-in}
 use Rattle.rules.proofs.FoundExpected.{committed-done, expected-length, expected-same}
 use Rattle.rules.proofs.FoundSound.{sound}
 use Rattle.rules.proofs.FoundSteps.{acts-stand, cut-stands, memory-found, pass-finishes, start-stands, step-accepted, step-ended, step-stands, walked-length}
 use Rattle.rules.proofs.FoundValid.{saved-valid}
 use Rattle.rules.specs.Acknowledge.{kept}
-use Rattle.rules.specs.Claim.{Demand3, Holds, ReadsBack, boardAfter, isByte, isByteMemory, passLength}
+use Rattle.rules.specs.Claim.{Demand3, Holds, ReadsBack, boardAfter, isByte, isByteMemory, passLength, recovering}
 use Rattle.rules.specs.Image.{image, saved}
 use Rattle.rules.specs.Lists.{all}
 use Rattle.rules.specs.Reader.{Reads, readImage}
-use Rattle.rules.specs.Recovery.{Act}
+use Rattle.rules.specs.Recovery.{Act, restore}
 use Rattle.rules.specs.Tables.{Memory, lineOf, startLines}
+use Rattle.undo.proofs.Laws.{and-true}
 use Rattle.undo.proofs.Shape.{rest}
 use Rattle.undo.specs.History.{History}
 use Rattle.undo.specs.Machine.{State}
@@ -31,14 +37,14 @@ use Rattle.undo.specs.Machine.{State}
 abbrev pub EveryKept : Type 0
 EveryKept = (m : Memory) (rs : List (List ℕ)) → isByteMemory m ≡ true → all (all isByte) rs ≡ true → Kept m (boardAfter m rs) (acceptedIn m rs)
 
-module _ (m : Memory) (rs : List (List ℕ)) {s : u.State (List ℕ)} {h : v.History (List ℕ)}
+module _ (m : Memory) (rs : List (List ℕ)) (told : CommitsTold m rs) {s : u.State (List ℕ)} {h : v.History (List ℕ)}
     (rc : Reach (λ l. lineOf l (startLines m)) s h) (i : Sim (boardAfter m rs) (acceptedIn m rs) s h) where
   -- what a committed region drew on had committed
   closed-by : (k q : ℕ) → drawsOn k q (usesIn (acceptedIn m rs)) ≡ true → q ≢ 0 → committed m rs k ≡ true → committed m rs q ≡ true
   closed-by k q e n d =
-      committed-done m rs rc i q
+      committed-done m rs told rc i q
       ∙ ⊎-elim
-      (λ p. closes (λ l. lineOf l (startLines m)) s h rc k q p (sym (committed-done m rs rc i k) ∙ d))
+      (λ p. closes (λ l. lineOf l (startLines m)) s h rc k q p (sym (committed-done m rs told rc i k) ∙ d))
       (λ p. p)
       (i .told .uses k q e n)
 
@@ -51,9 +57,11 @@ module _ (m : Memory) (rs : List (List ℕ)) {s : u.State (List ℕ)} {h : v.His
       let w = walked-length rc i up quiet in
       record {
         accepts = step-accepted rc i up quiet p;
-        recovers = λ f. memory-found rc i up quiet (expected m rs) (expected-length m rs) (expected-same m rs rc i) (step-stands rc i up quiet p) (step-ended rc i up quiet p f)
+        recovers = λ f. memory-found rc i up quiet (expected m rs) (expected-length m rs) (expected-same m rs told rc i) (step-stands rc i up quiet p)
+            (step-ended rc i up quiet p (eqb-true (restore (recovering m rs as′) .answer .value) 0
+            (and-true (eqb (restore (recovering m rs as′) .answer .refusal) 0) (eqb (restore (recovering m rs as′) .answer .value) 0) f .1)))
             ∙ rw (i .told .lines up);
-        finishes = pass-finishes rc i up quiet (passLength m rs - 1) (cut-stands rc i up quiet p) (omega arith);
+        finishes = pass-finishes rc i up quiet (passLength m rs - 1) (cut-stands rc i up quiet p) (omega (arith, entries-in (boardAfter m rs)));
         closed = closed-by;
       }
 
@@ -66,10 +74,10 @@ pub demand3 : EveryKept → Demand3
 demand3 kept m rs as′ bm br cut = go (kept m rs bm br .simulated)
   where
     go : Simulated m (boardAfter m rs) (acceptedIn m rs) → Holds m rs as′
-    go (by s h rc i) = holds m rs rc i (kept m rs bm br .rest) cut as′
+    go (by s h rc i) = holds m rs (commits-told m rs bm br) rc i (kept m rs bm br .rest) (cut-is m rs ∙ cut) as′
 
 pub reads-back-all : EveryKept → ReadsBack
 reads-back-all kept m rs bm br cut = go (kept m rs bm br .simulated)
   where
     go : Simulated m (boardAfter m rs) (acceptedIn m rs) → readImage (image (boardAfter m rs)) ≡ Reads (saved (boardAfter m rs))
-    go (by s h rc i) = reads-it m rs rc i (kept m rs bm br .rest) cut
+    go (by s h rc i) = reads-it m rs (commits-told m rs bm br) rc i (kept m rs bm br .rest) (cut-is m rs ∙ cut)

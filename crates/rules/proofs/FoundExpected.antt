@@ -4,20 +4,21 @@ use Rattle.undo.specs.History as v
 use Rattle.undo.specs.Claim.{Reach}
 use Rattle.rules.specs.History.{Change, applied, effects, committed, expected, acceptedIn, endsIn, writesIn}
 use Prim.Native.Nat.{_<_, ℕ}
-use mathlib.Core.Path.{_∙_, _≡_, refl}
-use mathlib.Core.Bool.{Bool, false, true}
+use mathlib.Core.Path.{_∙_, _≡_, refl, sym}
+use mathlib.Core.Bool.{Bool, _&&_, false, not, true}
 use mathlib.Core.List.{List, [], _∷_}
 use lib.Dec.{eqb}
 use lib.ListN.{length, length-set, set}
 use native.Mathlib.Omega.{arith}
 use borrow.Author.Tests.{eqb-false, eqb-true}
 use lib.Seq.{getD-set-other, getD-set-same}
+use Rattle.rules.proofs.Commits.{CommitsTold}
 use Rattle.rules.proofs.FoundLive.{whole}
 use Rattle.rules.proofs.Places.{eqb-swap}
 use Rattle.rules.proofs.Sim.{Sim, conv}
 use Rattle.rules.proofs.Start.{start-length}
 use Rattle.rules.specs.Claim.{boardAfter}
-use Rattle.rules.specs.Tables.{Memory, lineOf, startLines}
+use Rattle.rules.specs.Tables.{Memory, lineOf, listed, startLines}
 use Rattle.undo.proofs.Laws.{is-same, or-right, test}
 use Rattle.undo.specs.History.{History}
 use Rattle.undo.specs.Machine.{State}
@@ -78,19 +79,28 @@ effects-same n p q ws m f (k ∷ ks) e g t l h =
 
 -- ---- committed, by the event list and by the undo log
 
-module _ (m : Memory) (rs : List (List ℕ)) {s : u.State (List ℕ)} {h : v.History (List ℕ)}
+module _ (m : Memory) (rs : List (List ℕ)) (told : CommitsTold m rs) {s : u.State (List ℕ)} {h : v.History (List ℕ)}
     (rc : Reach (λ l. lineOf l (startLines m)) s h) (i : Sim (boardAfter m rs) (acceptedIn m rs) s h) where
   pub committed-done : (k : ℕ) → committed m rs k ≡ s .done k
-  unfolding committed
   committed-done k =
+      told k
+      ∙ rw (← i .told .born k, i .live k)
+      (test (s .done k)
+      (λ d. let bo : s .born k ≡ true = whole rc i .begun k (whole rc i .committed k d) in rw (d, bo))
+      (λ d. rw d (test (s .born k) (λ b. rw b) (λ b. rw b))))
+
+  -- committed is to have ended and to be listed no more
+  pub committed-ended : (k : ℕ) → committed m rs k ≡ (isIn k (endsIn (acceptedIn m rs)) && not (listed k (boardAfter m rs .tables .regions)))
+  committed-ended k =
       let o : isIn k (endsIn (acceptedIn m rs)) ≡ s .over k = rw (← i .told .ends) (whole rc i .ends k) in
-      test (s .done k)
+      committed-done k
+      ∙ sym (test (s .done k)
       (λ d. let ov : s .over k ≡ true = whole rc i .committed k d in
       let bo : s .born k ≡ true = whole rc i .begun k ov in
       rw (o, i .live k, d, ov, bo))
       (λ d. test (s .over k)
       (λ ov. let bo : s .born k ≡ true = whole rc i .begun k ov in rw (o, i .live k, d, ov, bo))
-      (λ ov. rw (o, ov, d)))
+      (λ ov. rw (o, ov, d))))
 
   pub expected-same : (l : ℕ) → l < 256 → lineOf l (expected m rs) ≡ v.expected (λ l. lineOf l (startLines m)) s h l
   unfolding expected

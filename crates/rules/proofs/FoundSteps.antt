@@ -5,7 +5,7 @@ use Rattle.undo.specs.Claim.{Reach, Structure, age}
 use Rattle.undo.specs.Recovery as w
 use Rattle.undo.specs.Recovery.{along, olds, persistent, Placed, begins, cuts}
 use Rattle.undo.proofs.Main.{finishes}
-use Rattle.rules.specs.Recovery.{Act, PowerCut, Recovering, Restore, act, acts, restore, restoreBy, putBack}
+use Rattle.rules.specs.Recovery.{Act, PowerCut, Recovering, Restore, act, acts, isFinished, putBack, restore, restoreBy}
 use Rattle.rules.specs.Claim.{restores}
 use Rattle.rules.proofs.CodecStore.{found}
 use Prim.Native.Nat.{_+_, _<_, _≤_, suc, zero, ℕ}
@@ -202,9 +202,9 @@ module _ {start : ℕ → List ℕ} {b : Board} {es : List Event} {s : u.State (
       go [] k = let z = step-left r [] k in omega arith
       go (e ∷ fs) k = omega arith
 
-  pub pass-finishes : (n : ℕ) {r : Recovering} → Standing r → length (walkEntries (saved b)) ≤ r .at + suc n → restore (restores n r) .answer .value ≡ 0
+  pub pass-finishes : (n : ℕ) {r : Recovering} → Standing r → length (walkEntries (saved b)) ≤ r .at + suc n → isFinished (restore (restores n r) .answer) ≡ true
   unfolding restores
-  pass-finishes zero {r} p l = step-last p (omega arith)
+  pass-finishes zero {r} p l = rw (step-accepted p, step-last p (omega arith))
   pass-finishes (suc n) {r} p l = pass-finishes n (step-stands p) (step-moves p (suc n) l)
 
   -- 'finished': nothing is step-left behind the step

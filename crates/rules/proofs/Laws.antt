@@ -8,7 +8,7 @@ use lib.Dec.{eqb, leb, ltb}
 use lib.ListN.{length, length-map}
 use native.Mathlib.Omega.{arith}
 use borrow.Author.Tests.{eqb-true, not-true}
-use Rattle.rules.specs.Commit.{Settled, afterCommit, commit, commits, doneRegion, earlier, earliest, earliestFrom, settle, settled, withoutDep}
+use Rattle.rules.specs.Commit.{Settled, afterCommit, before, commit, commits, doneRegion, earlier, earliest, earliestFrom, settle, settled, withoutDep}
 use Rattle.rules.specs.Lists.{all, count}
 use Rattle.rules.specs.Record.{bodyLength, eventOf, readRecord}
 use Rattle.rules.specs.Refusal.{Test, firstBad, refusal, testsOf}
@@ -20,7 +20,7 @@ use Rattle.rules.specs.declared.Reading.{Reading}
 use Rattle.rules.specs.declared.Reading.the-variants.{Refused, Whole}
 use Rattle.rules.specs.declared.Region.{Region}
 use Rattle.rules.specs.declared.Tables.{Tables}
-use Rattle.undo.proofs.Laws.{and-true, is-same, never, or-right, or-true, test}
+use Rattle.undo.proofs.Laws.{and-true, flip, is-same, never, or-false, or-right, or-true, test}
 use Rattle.undo.specs.Table.{any, isIn}
 
 -- ---- a refusal leaves the board and has the value 0
@@ -215,9 +215,72 @@ both true b f g = sym (f refl)
 both false true f g = g refl
 both false false f g = refl
 
--- what has committed when no region can commit any more does not depend on the order of choice
-pub any-order : {rs qs ps : List Region} {ks js : List ℕ} → Chain rs ks qs → any commits qs ≡ false → Chain rs js ps → any commits ps ≡ false → (k : ℕ) → isIn k ks ≡ isIn k js
-any-order {ks = ks} {js = js} c p d q k = both (isIn k ks) (isIn k js) (included c d q k) (included d c p k)
+-- no region commits twice, so that a chain has as many keys as regions
+
+left-out : (k j : ℕ) (rs : List Region) → eqb k 0 ≡ false → any (isKey k) rs ≡ false → any (isKey k) (map (afterCommit j) rs) ≡ false
+unfolding afterCommit
+left-out k j [] z e = refl
+left-out k j (r ∷ rs) z e =
+    let p = or-false (isKey k r) (any (isKey k) rs) e in
+    test (eqb (r .key) j) (λ f. rw (f, flip k 0 z) (left-out k j rs z (p .1))) (λ f. rw (f, p .0) (left-out k j rs z (p .1)))
+
+taken-out : (k : ℕ) (rs : List Region) → eqb k 0 ≡ false → any (isKey k) (map (afterCommit k) rs) ≡ false
+unfolding afterCommit
+taken-out k [] z = refl
+taken-out k (r ∷ rs) z = test (eqb (r .key) k) (λ f. rw (f, flip k 0 z) (taken-out k rs z)) (λ f. rw (f, f) (taken-out k rs z))
+
+-- a key that is chosen is a key of the list, and not 0
+chosen : (k : ℕ) (rs : List Region) → any (commitsAs k) rs ≡ true → (any (isKey k) rs ≡ true) × (eqb k 0 ≡ false)
+unfolding commits
+chosen k [] e = never e refl
+chosen k (r ∷ rs) e =
+    ⊎-elim
+    (λ a. let p = and-true (isKey k r) (commits r) a in
+    let h = not-true (eqb (r .key) 0) (and-true (isHeld r) (r .done && all (eqb 0) (r .deps)) (p .1) .0) in
+    (rw (p .0), rw (← eqb-true (r .key) k (p .0)) h))
+    (λ a. let z = chosen k rs a in (or-right (isKey k r) (z .0), z .1))
+    (or-true (commitsAs k r) (any (commitsAs k) rs) e)
+
+not-again : {rs qs : List Region} {ks : List ℕ} (k : ℕ) → eqb k 0 ≡ false → any (isKey k) rs ≡ false → Chain rs ks qs → isIn k ks ≡ false
+not-again k z e stop = refl
+not-again {rs} k z e (next {k = j} {ks = ks} p c) =
+    let y : eqb k j ≡ false = test (eqb k j) (λ f. never (rw (← eqb-true k j f) at (chosen j rs p .0)) e) (λ f. f) in
+    rw y (not-again k z (left-out k j rs z e) c)
+
+-- a list without its first k
+abbrev dropOne : ℕ → List ℕ → List ℕ
+dropOne k [] = []
+dropOne k (x ∷ xs) = cond (eqb k x) xs (x ∷ dropOne k xs)
+
+one-fewer : (k : ℕ) (xs : List ℕ) → isIn k xs ≡ true → length xs ≡ suc (length (dropOne k xs))
+one-fewer k [] e = never e refl
+one-fewer k (x ∷ xs) e = test (eqb k x) (λ f. rw f) (λ f. rw f (ap suc (one-fewer k xs (rw f at e))))
+
+still-in : (j k : ℕ) (xs : List ℕ) → eqb j k ≡ false → isIn j xs ≡ true → isIn j (dropOne k xs) ≡ true
+still-in j k [] n e = e
+still-in j k (x ∷ xs) n e =
+    test (eqb k x)
+    (λ f. let y : eqb j x ≡ false = rw (← eqb-true k x f) n in rw f (rw y at e))
+    (λ f. rw f (test (eqb j x) (λ g. rw g) (λ g. rw g (still-in j k xs n (rw g at e)))))
+
+-- a chain whose keys are all in a list is not longer than it
+no-longer : {rs qs : List Region} {ks : List ℕ} (js : List ℕ) → Chain rs ks qs → ((k : ℕ) → isIn k ks ≡ true → isIn k js ≡ true) → length ks ≤ length js
+no-longer js stop sub = omega arith
+no-longer {rs} js (next {k = k} {ks = ks} p c) sub =
+    let z = chosen k rs p in
+    let out : isIn k ks ≡ false = not-again k (z .1) (taken-out k rs (z .1)) c in
+    let there = one-fewer k js (sub k (rw (is-same k))) in
+    let ih = no-longer (dropOne k js) c
+    (λ j e. still-in j k js (test (eqb j k) (λ f. never (rw (eqb-true j k f) at e) out) (λ f. f)) (sub j (or-right (eqb j k) e))) in
+    omega arith
+
+-- what has committed when no region can commit any more does not depend on the order of choice, and neither does how many
+pub any-order : {rs qs ps : List Region} {ks js : List ℕ} → Chain rs ks qs → any commits qs ≡ false → Chain rs js ps → any commits ps ≡ false
+    → ((k : ℕ) → isIn k ks ≡ isIn k js) × (length ks ≡ length js)
+any-order {ks = ks} {js = js} c p d q =
+    let a = no-longer js c (included c d q) in
+    let b = no-longer ks d (included d c p) in
+    (λ k. both (isIn k ks) (isIn k js) (included c d q k) (included d c p k), omega arith)
 
 -- ---- the commits of a step are such a chain, and none is left: "until no region can commit"
 
@@ -301,42 +364,39 @@ count-length p (x ∷ xs) =
     let h = count-length p xs in
     test (p x) (λ e. rw e (omega arith)) (λ e. rw e (omega arith))
 
--- the commits of some regions, c of them made before: a chain, its number, and no region that can commit is left
-pub record Ends (rs : List Region) (c : ℕ) (s : Settled) : Type 0 where
-  pub keys : List ℕ
-  pub chain : Chain rs keys (s .tables .regions)
-  pub number : s .commits ≡ length keys + c
+-- the commits of some regions: a chain, and no region that can commit is left
+pub record Ends (rs : List Region) (s : Settled) : Type 0 where
+  pub chain : Chain rs (s .keys) (s .tables .regions)
   pub rest : any commits (s .tables .regions) ≡ false
 
-settle-yes : (n c : ℕ) (ts : Tables) → commits (earliest (ts .regions)) ≡ true → settle (suc n) c ts ≡ settle n (suc c) (commit (earliest (ts .regions) .key) ts)
+settle-yes : (n : ℕ) (ts : Tables) → commits (earliest (ts .regions)) ≡ true
+    → settle (suc n) ts ≡ before (earliest (ts .regions) .key) (settle n (commit (earliest (ts .regions) .key) ts))
 unfolding settle
-settle-yes n c ts e = rw (e, settle)
+settle-yes n ts e = rw (e, settle)
 
-settle-no : (n c : ℕ) (ts : Tables) → commits (earliest (ts .regions)) ≡ false → settle (suc n) c ts ≡ record { tables = ts; commits = c }
+settle-no : (n : ℕ) (ts : Tables) → commits (earliest (ts .regions)) ≡ false → settle (suc n) ts ≡ record { tables = ts; keys = [] }
 unfolding settle
-settle-no n c ts e = rw (e, settle)
+settle-no n ts e = rw (e, settle)
 
-ends : (n c : ℕ) (ts : Tables) → count isHeld (ts .regions) ≤ n → Ends (ts .regions) c (settle n c ts)
+ends : (n : ℕ) (ts : Tables) → count isHeld (ts .regions) ≤ n → Ends (ts .regions) (settle n ts)
 unfolding settle commit
-ends zero c ts h = record { keys = []; chain = stop; number = omega arith; rest = none-held (ts .regions) h }
-ends (suc n) c ts h =
+ends zero ts h = record { chain = stop; rest = none-held (ts .regions) h }
+ends (suc n) ts h =
     test (commits (earliest (ts .regions)))
     (λ e.
     let k = earliest (ts .regions) .key in
     let l = held-less k (ts .regions) (earliest-in (ts .regions) e) in
-    let i = ends n (suc c) (commit k ts) (omega arith) in
-    rw (settle-yes n c ts e)
-    (record { keys = k ∷ i .keys; chain = next (earliest-in (ts .regions) e) (i .chain); number = i .number ∙ omega arith; rest = i .rest }))
-    (λ e.
-    rw (settle-no n c ts e)
-    (record { keys = []; chain = stop; number = omega arith; rest = earliest-rest noRegion (ts .regions) e .1 }))
+    let i = ends n (commit k ts) (omega arith) in
+    rw (settle-yes n ts e) (record { chain = next (earliest-in (ts .regions) e) (i .chain); rest = i .rest }))
+    (λ e. rw (settle-no n ts e) (record { chain = stop; rest = earliest-rest noRegion (ts .regions) e .1 }))
 
-pub settled-ends : (ts : Tables) → Ends (map doneRegion (ts .regions)) 0 (settled ts)
+pub settled-ends : (ts : Tables) → Ends (map doneRegion (ts .regions)) (settled ts)
 unfolding settled
 settled-ends ts =
     let h = count-length isHeld (map doneRegion (ts .regions)) in
-    ends (length (ts .regions)) 0 (withRegions (map doneRegion (ts .regions)) ts) (omega (arith, length-map (ts .regions) doneRegion))
+    ends (length (ts .regions)) (withRegions (map doneRegion (ts .regions)) ts) (omega (arith, length-map (ts .regions) doneRegion))
 
--- the set that commits in a step does not depend on the order of choice among the committable
-pub step-order : (ts : Tables) {ps : List Region} {js : List ℕ} → Chain (map doneRegion (ts .regions)) js ps → any commits ps ≡ false → (k : ℕ) → isIn k js ≡ isIn k (settled-ends ts .keys)
-step-order ts c p k = any-order c p (settled-ends ts .chain) (settled-ends ts .rest) k
+-- what commits in a step does not depend on the order of choice among the committable, and neither does the value, which is its number
+pub step-order : (ts : Tables) {ps : List Region} {js : List ℕ} → Chain (map doneRegion (ts .regions)) js ps → any commits ps ≡ false
+    → ((k : ℕ) → isIn k js ≡ isIn k (settled ts .keys)) × (length js ≡ length (settled ts .keys))
+step-order ts c p = any-order c p (settled-ends ts .chain) (settled-ends ts .rest)

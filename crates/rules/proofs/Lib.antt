@@ -32,6 +32,9 @@ pub mod FoundValid
 pub mod FoundWalk
 pub mod FoundSteps
 pub mod FoundSound
+pub mod Commits
 pub mod FoundExpected
+pub mod FoundEntries
+pub mod Cuts
 pub mod Demand3
 pub mod Main

@@ -1,6 +1,6 @@
 -- Laws of the searches in a list (`place`, `any`, `count`) and of the list of regions (`placeOf`, `regionAt`, `listed`) after a `set` and a `map`.
 use Prim.Native.Nat.{_<_, _≤_, suc, zero, ℕ}
-use mathlib.Core.Path.{_∙_, _≡_, ap, refl, subst, sym}
+use mathlib.Core.Path.{_∙_, _≡_, ap, refl, sym}
 use mathlib.Core.Logic.{_≢_}
 use mathlib.Core.Bool.{Bool, _&&_, _||_, cond, false, false≢true, not, true}
 use mathlib.Core.List.{List, [], _∷_, map}
@@ -230,10 +230,6 @@ module _ {A B : Type 0} where
   unfolding count
   count-map p q f [] h = refl
   count-map p q f (x ∷ xs) h = simp (h x, count-map p q f xs h)
-
-  -- what f makes of each element, and of the default
-  pub each-map : (P : B → Type 0) (f : A → B) (xs : List A) (a : A) (b : B) → f a ≡ b → ((j : ℕ) → P (f (getD xs j a))) → (j : ℕ) → P (getD (map f xs) j b)
-  each-map P f xs a b e h j = subst P (sym (getD-map f xs j a b e)) (h j)
 
 -- ---- the list of regions
 

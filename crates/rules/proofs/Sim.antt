@@ -5,7 +5,7 @@ use Rattle.undo.specs.Claim as c
 use Prim.Native.Nat.{_*_, _+_, _<_, _≤_, ℕ}
 use mathlib.Core.Path.{_≡_}
 use mathlib.Core.Logic.{_≢_, _⊎_}
-use mathlib.Core.Bool.{Bool, _&&_, false, not, true}
+use mathlib.Core.Bool.{Bool, _&&_, _||_, false, not, true}
 use mathlib.Core.List.{List, [], _∷_}
 use lib.Dec.{eqb, ltb}
 use lib.ListN.{getD, length, set}
@@ -134,10 +134,16 @@ pub record Sim (b : Board) (es : List Event) (s : u.State (List ℕ)) (h : v.His
   -- a slot that waits is the owner's
   pub waits : (l k : ℕ) → s .slot l k ≡ u.Waits → newest (s .chain l) ≡ k
 
--- between two events nothing is left to be done: no slot that could fly waits, and no region can commit
+-- an ended region without slots is done
+abbrev pub Finished : Region → Type 0
+Finished r = r .ended ≡ true → hasSlot r ≡ false → r .done ≡ true
+
+-- between two events nothing is left to be done: no slot that could fly waits (its count is 4 or its region has ended, and its line is unlocked), every ended
+-- region without slots is done, and no region can commit
 pub record Rest (b : Board) : Type 0 where
-  pub flown : (k l c : ℕ) → regionAt k (b .tables .regions) .ended ≡ true → stateOf l (regionAt k (b .tables .regions) .slots) ≡ Waiting c
+  pub flown : (k l c : ℕ) → (eqb c 4 || regionAt k (b .tables .regions) .ended) ≡ true → stateOf l (regionAt k (b .tables .regions) .slots) ≡ Waiting c
       → getD (b .tables .lock) l false ≡ true
+  pub finished : (i : ℕ) → Finished (getD (b .tables .regions) i noRegion)
   pub settled : (i : ℕ) → commits (getD (b .tables .regions) i noRegion) ≡ false
 
 -- some reachable state of the undo log has the board's tables

@@ -16,7 +16,7 @@ use borrow.Author.Tests.{eq-eqb, eqb-false, eqb-true, ltb-false, ltb-true, not-f
 use lib.Seq.{set-getD}
 use Rattle.rules.proofs.FoundSound.{sound}
 use Rattle.rules.proofs.Places.{Once, any-none, any-put, any-set, each-set, getD-set, key-at, listed-key, listed-stored, place-lt, place-true, region-stored}
-use Rattle.rules.proofs.Sim.{GoodRegion, Keeps, Kept, Rest, Sim, Simulated, Told, by, none}
+use Rattle.rules.proofs.Sim.{Finished, GoodRegion, Keeps, Kept, Rest, Sim, Simulated, Told, by, none}
 use Rattle.rules.proofs.SimBase.{Unrefused, accepted, orZero, writer-same}
 use Rattle.rules.proofs.SimParts.{Owner, logs-kept, no-event, once-at, open-listed, owned, owner-is, owner-stored, part-stored, shape-stored, told-kept, unowned}
 use Rattle.rules.proofs.Views.{stateOf}
@@ -295,8 +295,10 @@ unfolding read
 rest-read {b} k l i o in′ r =
     record {
       flown = λ q x c e w. r .flown q x c
-          (sym (part-stored (b .tables) k r′ in′ (key-at k (b .tables .regions) in′) (λ y. y .ended) refl q) ∙ e)
+          (ap (λ y. eqb c 4 || y) (sym (part-stored (b .tables) k r′ in′ (key-at k (b .tables .regions) in′) (λ y. y .ended) refl q)) ∙ e)
           (ap (stateOf x) (sym (part-stored (b .tables) k r′ in′ (key-at k (b .tables .regions) in′) (λ y. y .slots) refl q)) ∙ w);
+      finished = each-set Finished (b .tables .regions) (placeOf k (b .tables .regions)) r′ noRegion
+          (λ e n. never e (i .ended k in′ ∙ o .goes-on)) (r .finished);
       settled = each-set (λ y. commits y ≡ false) (b .tables .regions) (placeOf k (b .tables .regions)) r′ noRegion
           (undone-stays r′ (open-undone k i o in′)) (r .settled);
     }

@@ -6,7 +6,7 @@ use Rattle.undo.specs.Machine.{act}
 use Rattle.undo.specs.History.{note}
 use Prim.Native.Nat.{_<_, ℕ}
 use mathlib.Core.Path.{_∙_, _≡_, ap, refl, sym}
-use mathlib.Core.Bool.{cond, false, true}
+use mathlib.Core.Bool.{_||_, cond, false, true}
 use mathlib.Core.List.{List, _∷_, map}
 use lib.Dec.{eqb, ltb}
 use lib.ListN.{getD, length-map, length-set}
@@ -321,7 +321,7 @@ module _ {b : Board} {es : List Event} {s : u.State (List ℕ)} {h : v.History (
       li = listed-mapped (dropped (e .rid) l) (b .tables .regions) (dropped-none′ (e .rid) l rid-nz) (dropped-key (e .rid) l rid-nz)
 
   -- what waits of the other regions waits on a locked line
-  ack-rest : Rest b → (q x n : ℕ) → eqb q (e .rid) ≡ false → regionAt q (unlocked (e .rid) l (b .tables) .regions) .ended ≡ true
+  ack-rest : Rest b → (q x n : ℕ) → eqb q (e .rid) ≡ false → (eqb n 4 || regionAt q (unlocked (e .rid) l (b .tables) .regions) .ended) ≡ true
       → stateOf x (regionAt q (unlocked (e .rid) l (b .tables) .regions) .slots) ≡ Waiting n → getD (unlocked (e .rid) l (b .tables) .lock) x false ≡ true
   unfolding unlocked
   ack-rest re q x n ne en w =
@@ -335,10 +335,11 @@ module _ {b : Board} {es : List Event} {s : u.State (List ℕ)} {h : v.History (
           ≡ cond (eqb q (e .rid)) (regionAt q (b .tables .regions) .slots) (map (droppedSlot l) (regionAt q (b .tables .regions) .slots))
       slots = dropped-slots (e .rid) l rid-nz q (b .tables .regions) (i .shape .good) in′
 
-      ended : regionAt q (b .tables .regions) .ended ≡ true
+      ended : (eqb n 4 || regionAt q (b .tables .regions) .ended) ≡ true
       ended =
-          sym (ap (λ r. r .ended) (region-mapped (dropped (e .rid) l) (b .tables .regions) (dropped-none′ (e .rid) l rid-nz) (dropped-key (e .rid) l rid-nz) q)
-          ∙ dropped-ended (e .rid) l rid-nz (regionAt q (b .tables .regions))) ∙ en
+          ap (λ z. eqb n 4 || z)
+          (sym (ap (λ r. r .ended) (region-mapped (dropped (e .rid) l) (b .tables .regions) (dropped-none′ (e .rid) l rid-nz) (dropped-key (e .rid) l rid-nz) q)
+          ∙ dropped-ended (e .rid) l rid-nz (regionAt q (b .tables .regions)))) ∙ en
 
   unlocked-listed : listed (e .rid) (unlocked (e .rid) l (b .tables) .regions) ≡ true
   unfolding unlocked

@@ -46,7 +46,7 @@ keeps-log l m b es q r k = let z = log-ack l m b es r k in settles (z .0) (z .1)
 
 -- ---- an event out of bytes has a value of 64 bits
 
-abbrev isSoundReading : Reading → Bool
+abbrev pub isSoundReading : Reading → Bool
 isSoundReading (Refused n) = true
 isSoundReading (Whole e) = isSound e
 
@@ -65,7 +65,7 @@ sound k body e h =
     test (eqb k 6) (λ d. rw (d0, d1, d2, d3, d4, d5, d)) (λ d6.
     test (eqb k 7) (λ d. rw (d0, d1, d2, d3, d4, d5, d6, d)) (λ d. rw (d0, d1, d2, d3, d4, d5, d6, d)))))))))
 
-sound-record : (bs : List ℕ) → all isByte bs ≡ true → isSoundReading (readRecord bs) ≡ true
+pub sound-record : (bs : List ℕ) → all isByte bs ≡ true → isSoundReading (readRecord bs) ≡ true
 unfolding readRecord
 sound-record [] e = refl
 sound-record (k ∷ body) e =
@@ -88,7 +88,7 @@ keeps (DataAck l) = keeps-data l
 keeps (Fence t) = keeps-fence t
 keeps Cut = keeps-cut
 
-step-kept : (m : Memory) (b : Board) (es : List Event) (x : Reading) → isSoundReading x ≡ true → Kept m b es
+pub step-kept : (m : Memory) (b : Board) (es : List Event) (x : Reading) → isSoundReading x ≡ true → Kept m b es
     → Kept m (stepRead b x .board) (noted (stepRead b x .answer .refusal) x es)
 unfolding stepEvent stepBy
 step-kept m b es (Refused zero) q k = k

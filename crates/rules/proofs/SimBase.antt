@@ -209,7 +209,7 @@ sim-alter {b} z c n ths sh lg tl i =
     }
 
 pub rest-alter : {b : Board} (z : Size) (c : Bool) (n : ℕ) (ths : List Thread) → Rest b → Rest (withTables (alter z c n ths (b .tables)) b)
-rest-alter z c n ths r = record { flown = r .flown; settled = r .settled }
+rest-alter z c n ths r = record { flown = r .flown; finished = r .finished; settled = r .settled }
 
 -- ---- a line's last writer, in both histories
 

@@ -13,7 +13,7 @@ use lib.ListN.{List·getD-eq-default, getD, length, length-map, length-set, repl
 use native.Mathlib.Omega.{arith}
 use borrow.Author.Tests.{eqb-false, eqb-true, leb-true, ltb-false, ltb-true, ne-eqb, not-false, not-true}
 use Rattle.rules.proofs.Places.{Once, Unique, any-map, any-none, at-commit, count-le, count-map, count-zero, getD-map, good-free, good-mapped, held-commit, key-at, listed-any, listed-at, listed-commit, listed-key, listed-mapped, once-mapped, once-one, region-at, region-commit, region-mapped, region-none, unique-commit, unique-mapped}
-use Rattle.rules.proofs.Sim.{GoodEntry, GoodRegion, Kept, Logs, Shape, Sim, Simulated, Told, by}
+use Rattle.rules.proofs.Sim.{Finished, GoodEntry, GoodRegion, Kept, Logs, Shape, Sim, Simulated, Told, by}
 use Rattle.rules.proofs.SimBase.{clear-waits, logs-same, memories-same, thread-stored, threads-8, told-alike}
 use Rattle.rules.proofs.SimParts.{Flown}
 use Rattle.rules.proofs.SimRegions.{free-slots, state-free}
@@ -21,7 +21,7 @@ use Rattle.rules.proofs.SlotLaws.{no-slots}
 use Rattle.rules.proofs.Views.{entryAt, newest}
 use Rattle.rules.specs.Access.{isOf, logged}
 use Rattle.rules.specs.Acknowledge.{isEntry}
-use Rattle.rules.specs.Commit.{Settled, afterCommit, commit, commits, doneRegion, earlier, earliest, earliestFrom, freed, freedEntry, settle, settled, withoutDep}
+use Rattle.rules.specs.Commit.{Settled, afterCommit, before, commit, commits, doneRegion, earlier, earliest, earliestFrom, freed, freedEntry, settle, settled, withoutDep}
 use Rattle.rules.specs.History.{openedIn}
 use Rattle.rules.specs.Lists.{all, count}
 use Rattle.rules.specs.Recovery.{act}
@@ -31,8 +31,9 @@ use Rattle.rules.specs.Tables.{Board, Memory, isHeld, isKey, listed, noE
 use Rattle.rules.specs.declared.Entry.{Entry}
 use Rattle.rules.specs.declared.Event.{Event}
 use Rattle.rules.specs.declared.Region.{Region}
+use Rattle.rules.specs.declared.SlotState.the-variants.{Empty, Waiting}
 use Rattle.undo.proofs.Inv.{Link, entries, held, no-entry, one-entry}
-use Rattle.undo.proofs.Laws.{and-true, any-of-keep, flip, is-same, never, or-false, or-true, test}
+use Rattle.undo.proofs.Laws.{and-true, any-of-keep, flip, is-same, never, or-false, or-right, or-true, test}
 use Rattle.undo.proofs.Shape.{rest}
 use Rattle.undo.proofs.Steps.{reached}
 use Rattle.undo.specs.Claim.{Reach, then}
@@ -118,6 +119,11 @@ module _ {b : Board} {es : List Event} {s : u.State (List ℕ)} {h : v.History (
   unfolding doneRegion
   flown-done f k l c e w = f k l c (rw (region-done k) at e) (rw (region-done k) at w)
 
+finished-done : (rs : List Region) (j : ℕ) → Finished (getD (map doneRegion rs) j noRegion)
+unfolding doneRegion
+finished-done rs j =
+    rw (getD-map doneRegion rs j noRegion noRegion done-free) (λ e n. or-right (getD rs j noRegion .done) (rw (e, n)))
+
 -- ---- which region commits next
 
 -- a region that does not commit is found only where none commits
@@ -145,7 +151,7 @@ earliest-in best (r ∷ rs) =
     (earliest-in (earlier best r) rs)
 
 -- the region that is found, where one commits
-ready : (rs : List Region) → Unique rs → commits (earliest rs) ≡ true
+pub ready : (rs : List Region) → Unique rs → commits (earliest rs) ≡ true
     → (listed (earliest rs .key) rs ≡ true) × (commits (regionAt (earliest rs .key) rs) ≡ true)
 unfolding commits
 ready rs un e =
@@ -477,8 +483,15 @@ module _ {m : ℕ → List ℕ} {b : Board} {es : List Event} {s : u.State (List
   unfolding commit
   flown-commit f j l c e w =
       test (eqb j k)
-      (λ d. absurd (false≢true (rw (region-after j, d) at e)))
+      (λ d. let v : Empty ≡ Waiting c = sym (state-free l) ∙ (rw (region-after j, d) at w) in let z : _≡_ {A = ℕ} 0 1 = cc in absurd (omega arith))
       (λ d. f j l c (rw (region-after j, d) at e) (rw (region-after j, d) at w))
+
+-- a commit leaves the other regions as they ended
+finished-commit : (k : ℕ) (rs : List Region) → eqb k 0 ≡ false → ((j : ℕ) → Finished (getD rs j noRegion))
+    → (j : ℕ) → Finished (getD (map (afterCommit k) rs) j noRegion)
+unfolding afterCommit
+finished-commit k rs nz f j =
+    rw (at-commit k rs nz j) (test (eqb (getD rs j noRegion .key) k) (λ d. rw d (λ e n. absurd (false≢true e))) (λ d. rw d (f j)))
 
 -- ---- the commits of a step
 
@@ -486,7 +499,7 @@ commits-one : {m : Memory} {b : Board} {es : List Event} (k : ℕ) → listed k 
     → Simulated m b es → Flown b → Simulated m (withTables (commit k (b .tables)) b) es × Flown (withTables (commit k (b .tables)) b)
 commits-one k in′ cm (by s h rc i) f = (by (u.act s (u.Commit k)) h (reach-commit rc i k in′ cm) (sim-commit rc i k in′ cm), flown-commit rc i k in′ cm f)
 
-unique-regions : {m : Memory} {b : Board} {es : List Event} → Simulated m b es → Unique (b .tables .regions)
+pub unique-regions : {m : Memory} {b : Board} {es : List Event} → Simulated m b es → Unique (b .tables .regions)
 unique-regions (by s h rc i) = i .shape .unique
 
 -- no region of the list commits
@@ -504,24 +517,32 @@ free-list [] e = refl
 free-list (r ∷ rs) e = let z = or-false (isHeld r) (any isHeld rs) e in rw (z .0) (free-list rs (z .1))
 
 -- n commits are enough where n regions are listed
-settle-kept : {m : Memory} {es : List Event} (n a : ℕ) (b : Board) → count isHeld (b .tables .regions) ≤ n → Simulated m b es → Flown b
-    → Kept m (withTables (settle n a (b .tables) .tables) b) es
+settle-kept : {m : Memory} {es : List Event} (n : ℕ) (b : Board) → count isHeld (b .tables .regions) ≤ n → Simulated m b es → Flown b
+    → ((j : ℕ) → Finished (getD (b .tables .regions) j noRegion)) → Kept m (withTables (settle n (b .tables) .tables) b) es
 unfolding settle commit
-settle-kept zero a b le k f =
+settle-kept zero b le k f g =
     record {
       simulated = k;
       rest = record {
         flown = f;
+        finished = g;
         settled = none-commits (b .tables .regions) (free-list (b .tables .regions) (count-zero isHeld (b .tables .regions) (omega arith)));
       };
     }
-settle-kept {m} {es} (suc n) a b le k f = go (commits (earliest (b .tables .regions))) refl (λ b′. settle-kept n (suc a) b′)
+settle-kept {m} {es} (suc n) b le k f g = go (commits (earliest (b .tables .regions))) refl (λ b′. settle-kept n b′)
   where
     go : (x : Bool) → commits (earliest (b .tables .regions)) ≡ x
-        → ((b′ : Board) → count isHeld (b′ .tables .regions) ≤ n → Simulated m b′ es → Flown b′ → Kept m (withTables (settle n (suc a) (b′ .tables) .tables) b′) es)
-        → Kept m (withTables ((elim x as (λ y. Settled) [ false ↦ record { tables = b .tables; commits = a } | true ↦ settle n (suc a) (commit (earliest (b .tables .regions) .key) (b .tables)) ]) .tables) b) es
+        → ((b′ : Board) → count isHeld (b′ .tables .regions) ≤ n → Simulated m b′ es → Flown b′ → ((j : ℕ) → Finished (getD (b′ .tables .regions) j noRegion))
+        → Kept m (withTables (settle n (b′ .tables) .tables) b′) es)
+        → Kept m (withTables ((elim x as (λ y. Settled) [
+          | false ↦ record { tables = b .tables; keys = [] }
+          | true ↦ before (earliest (b .tables .regions) .key) (settle n (commit (earliest (b .tables .regions) .key) (b .tables)))
+        ]) .tables) b) es
     go false e ih =
-        record { simulated = k; rest = record { flown = f; settled = none-commits (b .tables .regions) (earliest-none noRegion (b .tables .regions) e .1) } }
+        record {
+          simulated = k;
+          rest = record { flown = f; finished = g; settled = none-commits (b .tables .regions) (earliest-none noRegion (b .tables .regions) e .1) };
+        }
     go true e ih =
         let r = ready (b .tables .regions) (unique-regions k) e in
         let z = commits-one (earliest (b .tables .regions) .key) (r .0) (r .1) k f in
@@ -532,11 +553,12 @@ settle-kept {m} {es} (suc n) a b le k f = go (commits (earliest (b .tables .regi
               (listed-key (earliest (b .tables .regions) .key) (b .tables .regions) (r .0)) (listed-any (earliest (b .tables .regions) .key) (b .tables .regions) (r .0)),
         ))
         (z .0) (z .1)
+        (finished-commit (earliest (b .tables .regions) .key) (b .tables .regions) (listed-key (earliest (b .tables .regions) .key) (b .tables .regions) (r .0)) g)
 
 -- what the done pass and the commits make of a board
 pub settles : {m : Memory} {b : Board} {es : List Event} → Simulated m b es → Flown b → Kept m (settledBoard b .board) es
 unfolding settledBoard settled
 settles {b} (by s h rc i) f =
-    settle-kept (length (b .tables .regions)) 0 (afterDone b)
+    settle-kept (length (b .tables .regions)) (afterDone b)
     (omega (arith, count-le isHeld (map doneRegion (b .tables .regions)), length-map (b .tables .regions) doneRegion))
-    (by s h rc (sim-done i)) (flown-done i f)
+    (by s h rc (sim-done i)) (flown-done i f) (finished-done (b .tables .regions))

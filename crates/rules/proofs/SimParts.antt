@@ -5,7 +5,7 @@ use Rattle.undo.specs.Claim as c
 use Prim.Native.Nat.{ℕ}
 use mathlib.Core.Path.{_∙_, _≡_, refl, sym}
 use mathlib.Core.Logic.{_≢_, _⊎_}
-use mathlib.Core.Bool.{false, true}
+use mathlib.Core.Bool.{_||_, false, true}
 use mathlib.Core.List.{List, [], _∷_}
 use lib.Dec.{eqb}
 use lib.ListN.{getD, length-set, set}
@@ -29,7 +29,7 @@ use Rattle.undo.specs.Machine.{Open, State}
 
 -- between two events no slot that could fly waits
 abbrev pub Flown : Board → Type 0
-Flown b = (k l c : ℕ) → regionAt k (b .tables .regions) .ended ≡ true → stateOf l (regionAt k (b .tables .regions) .slots) ≡ Waiting c
+Flown b = (k l c : ℕ) → (eqb c 4 || regionAt k (b .tables .regions) .ended) ≡ true → stateOf l (regionAt k (b .tables .regions) .slots) ≡ Waiting c
     → getD (b .tables .lock) l false ≡ true
 
 -- the board with other regions and other lines in current memory, the medium and the flights

@@ -12,7 +12,7 @@ use native.Mathlib.Omega.{arith}
 use borrow.Author.Tests.{eqb-false, eqb-true, le-leb, leb-false, leb-true, lt-leb, ltb-false, ltb-true, ne-eqb, not-false, not-true}
 use Rattle.rules.proofs.FoundRising.{no-more}
 use Rattle.rules.proofs.Places.{count-room, each-set, eqb-swap, getD-set, good-free, good-new, good-stored, key-at, listed-key, listed-new, listed-stored, once-new, once-one, once-stored, region-new, region-none, region-stored, unique-new, unique-stored, unlisted-any}
-use Rattle.rules.proofs.Sim.{Distinct, GoodRegion, Keeps, Kept, Rest, Shape, Sim, Simulated, Told, by, more, none}
+use Rattle.rules.proofs.Sim.{Distinct, Finished, GoodRegion, Keeps, Kept, Rest, Shape, Sim, Simulated, Told, by, more, none}
 use Rattle.rules.proofs.SimBase.{Alike, Unrefused, accepted, alter, key-number, key-split, key-thread, logs-over, logs-same, memories-same, owner-born, rest-alter, shape-thread, sim-alter, thread-stored, threads-8, told-alike}
 use Rattle.rules.proofs.SimFlight.{flights, flown-rest}
 use Rattle.rules.proofs.SimParts.{Flown, once-at, open-listed}
@@ -240,10 +240,10 @@ pub state-free : (l : ℕ) → stateOf l (replicate 8 noSlot) ≡ Empty
 unfolding stateOf
 state-free l = refl
 
-abbrev newKey : ℕ → Tables → ℕ
+abbrev pub newKey : ℕ → Tables → ℕ
 newKey t ts = keyOf t (threadAt t ts .last + 1)
 
-abbrev newRegion : ℕ → Tables → Region
+abbrev pub newRegion : ℕ → Tables → Region
 newRegion t ts = begun (newKey t ts) (current t ts) (ts .regions)
 
 module _ {m : ℕ → List ℕ} {b : Board} {es : List Event} {s : u.State (List ℕ)} {h : v.History (List ℕ)} (rc : Reach m s h) (i : Sim b es s h) where
@@ -261,7 +261,7 @@ module _ {m : ℕ → List ℕ} {b : Board} {es : List Event} {s : u.State (List
     k-nz : eqb (newKey t (b .tables)) 0 ≡ false
     k-nz = ne-eqb (newKey t (b .tables)) 0 (λ q. omega arith)
 
-    unborn : s .born (newKey t (b .tables)) ≡ false
+    pub unborn : s .born (newKey t (b .tables)) ≡ false
     unborn =
         rw (i .told .born (newKey t (b .tables)), k-number, k-thread)
         (test (eqb (openedIn t es + 1) 0) (λ e. rw e) (λ e. rw e (lt-leb (openedIn t es + 1) (openedIn t es) (omega arith))))
@@ -295,7 +295,7 @@ module _ {m : ℕ → List ℕ} {b : Board} {es : List Event} {s : u.State (List
         ≡ cond (eqb j (newKey t (b .tables))) (newRegion t (b .tables)) (regionAt j (b .tables .regions))
     region-begun = region-new (newKey t (b .tables)) (b .tables .regions) (newRegion t (b .tables)) new k-nz free refl good-begun (i .shape .good)
 
-    listed-begun : (j : ℕ) → listed j (set (b .tables .regions) (placeOf 0 (b .tables .regions)) (newRegion t (b .tables)))
+    pub listed-begun : (j : ℕ) → listed j (set (b .tables .regions) (placeOf 0 (b .tables .regions)) (newRegion t (b .tables)))
         ≡ (eqb j (newKey t (b .tables)) || listed j (b .tables .regions))
     listed-begun = listed-new (newKey t (b .tables)) (b .tables .regions) (newRegion t (b .tables)) new k-nz free refl
 
@@ -333,7 +333,7 @@ module _ {m : ℕ → List ℕ} {b : Board} {es : List Event} {s : u.State (List
     unfolding openedIn
     number-begun j = rw (eqb-swap t j) (test (eqb j t) (λ d. rw (d, eqb-true j t d, d0)) (λ d. rw d))
 
-    born-begun : (j : ℕ) → put (newKey t (b .tables)) true (s .born) j ≡ isOpened (Begin t ∷ es) j
+    pub born-begun : (j : ℕ) → put (newKey t (b .tables)) true (s .born) j ≡ isOpened (Begin t ∷ es) j
     born-begun j =
         rw (number-begun (threadOf j))
         (test (eqb j (newKey t (b .tables)))
@@ -507,8 +507,10 @@ module _ {m : ℕ → List ℕ} {b : Board} {es : List Event} {s : u.State (List
     rest-begun r =
         record {
           flown = λ k l c e w. test (eqb k (newKey t (b .tables)))
-              (λ d. absurd (false≢true (rw (region-begun k, d) at e)))
+              (λ d. let v : Empty ≡ Waiting c = sym (state-free l) ∙ (rw (region-begun k, d) at w) in let z : _≡_ {A = ℕ} 0 1 = cc in absurd (omega arith))
               (λ d. r .flown k l c (rw (region-begun k, d) at e) (rw (region-begun k, d) at w));
+          finished = each-set Finished (b .tables .regions) (placeOf 0 (b .tables .regions)) (newRegion t (b .tables)) noRegion
+              (λ e n. absurd (false≢true e)) (r .finished);
           settled = each-set (λ x. commits x ≡ false) (b .tables .regions) (placeOf 0 (b .tables .regions)) (newRegion t (b .tables)) noRegion
               (test (isHeld (newRegion t (b .tables))) (λ d. rw d) (λ d. rw d)) (r .settled);
         }
@@ -675,7 +677,7 @@ module _ {m : ℕ → List ℕ} {b : Board} {es : List Event} {s : u.State (List
   reach-over = then rc (u.End (current t (b .tables))) (u.ends mine-open)
 
   -- the slots of the other regions are as they were
-  rest-over : Rest b → (q l c : ℕ) → eqb q (current t (b .tables)) ≡ false → regionAt q (over t (b .tables) .regions) .ended ≡ true
+  rest-over : Rest b → (q l c : ℕ) → eqb q (current t (b .tables)) ≡ false → (eqb c 4 || regionAt q (over t (b .tables) .regions) .ended) ≡ true
       → stateOf l (regionAt q (over t (b .tables) .regions) .slots) ≡ Waiting c → getD (over t (b .tables) .lock) l false ≡ true
   unfolding closed
   rest-over r q l c n e w = r .flown q l c (rw (region-over q, n) at e) (rw (region-over q, n) at w)

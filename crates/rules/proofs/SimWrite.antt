@@ -18,7 +18,7 @@ use Rattle.rules.proofs.CodecBytes.{isLine}
 use Rattle.rules.proofs.FoundLive.{live-listed}
 use Rattle.rules.proofs.FoundSound.{sound}
 use Rattle.rules.proofs.Places.{any-put, any-set, count-put, count-set, each-set, eqb-swap, getD-set, key-at, listed-key, listed-stored, place-lt, place-stored, place-true, region-stored}
-use Rattle.rules.proofs.Sim.{GoodEntry, GoodRegion, Keeps, Kept, Logs, Memories, Rest, Shape, Sim, Simulated, Told, by}
+use Rattle.rules.proofs.Sim.{Finished, GoodEntry, GoodRegion, Keeps, Kept, Logs, Memories, Rest, Shape, Sim, Simulated, Told, by}
 use Rattle.rules.proofs.SimAccess.{Joined, current-is, current-open, join, joins, open-undone, owner-ended, rest-read, undone-stays, uses-access}
 use Rattle.rules.proofs.SimBase.{Unrefused, accepted, key-thread, lines-256, shape-thread, threads-8}
 use Rattle.rules.proofs.SimFlight.{flights, flown-rest}
@@ -44,7 +44,7 @@ use Rattle.rules.specs.declared.SlotState.the-variants.{Empty, InFlight,
 use Rattle.rules.specs.declared.Tables.{Tables}
 use Rattle.rules.specs.declared.Thread.{Thread}
 use Rattle.undo.proofs.Inv.{held}
-use Rattle.undo.proofs.Laws.{and-true, cons-nil, flip, is-same, never, or-true, test}
+use Rattle.undo.proofs.Laws.{and-true, cons-nil, flip, is-same, never, or-right, or-true, test}
 use Rattle.undo.proofs.Main.{structured}
 use Rattle.undo.proofs.Media.{first}
 use Rattle.undo.specs.Claim.{Reach, then}
@@ -647,17 +647,21 @@ calm-line {m} {b} {es} {s} {h} t l rc i re deep fo own unl q e = go (owner-is rc
         let n : eqb (a .rid) (current t (b .tables)) ≡ false = rw (current-is t l rc i deep, ← k) own in
         let ov : s .over (a .rid) ≡ true = owner-ended t l rc i deep (a .rid) bo li (rw o at fo) n in
         let st = waits-state (b .car) l (stateOf l (regionAt q (b .tables .regions) .slots)) (sym (i .slot l q) ∙ e) in
-        never (re .flown q l (st .0) (rw (← g) (i .ended (a .rid) li ∙ ov)) (st .1)) unl
+        never (re .flown q l (st .0) (or-right (eqb (st .0) 4) (rw (← g) (i .ended (a .rid) li ∙ ov))) (st .1)) unl
 
 -- what is left to be done after the store and the flights of a region that goes on
 rest-wrote : (k l w y : ℕ) (b : Board) (ths : List Thread) (ow : List ℕ) (lo : List Bool) (ol : List (List ℕ))
     → ((x : ℕ) → getD (b .tables .lock) x false ≡ true → getD lo x false ≡ true) → listed k (b .tables .regions) ≡ true
-    → regionAt k (b .tables .regions) .done ≡ false → Rest b → Rest (flown k (stored k (slotted k l b) l w y (relogged ths ow lo ol b)))
+    → regionAt k (b .tables .regions) .ended ≡ false → regionAt k (b .tables .regions) .done ≡ false
+    → Rest b → Rest (flown k (stored k (slotted k l b) l w y (relogged ths ow lo ol b)))
 unfolding flown stored
-rest-wrote k l w y b ths ow lo ol grow in′ dn re =
+rest-wrote k l w y b ths ow lo ol grow in′ en dn re =
     record {
       flown = flown-rest k (stored k (slotted k l b) l w y (relogged ths ow lo ol b)) (rw (listed-stored k rs r′ in′ key k) in′)
           (λ q x c n e st. grow x (re .flown q x c (rw (at q, n) at e) (rw (at q, n) at st)));
+      finished = each-set Finished rs′ (placeOf k rs′) (withSlots (flownSlots lo (regionAt k rs′ .ended) (regionAt k rs′ .slots)) (regionAt k rs′)) noRegion
+          (λ e n. never e (rw (at k, is-same k) en))
+          (each-set Finished rs (placeOf k rs) r′ noRegion (λ e n. never e en) (re .finished));
       settled = each-set (λ x. commits x ≡ false) rs′ (placeOf k rs′) (withSlots (flownSlots lo (regionAt k rs′ .ended) (regionAt k rs′ .slots)) (regionAt k rs′)) noRegion
           (undone-stays (withSlots (flownSlots lo (regionAt k rs′ .ended) (regionAt k rs′ .slots)) (regionAt k rs′)) (rw (at k, is-same k) dn))
           (each-set (λ x. commits x ≡ false) rs (placeOf k rs) r′ noRegion (undone-stays r′ dn) (re .settled));
@@ -711,7 +715,7 @@ write-joined {m} {b} {es} t l w y rc i re op jo su inT inL so lo ro fr calm =
     finish ths ow lo ol grow (going s h rc′ i′ op′) =
         record {
           simulated = flights (regionIn t es) (open-listed rc′ i′ (regionIn t es) op′) (by s h rc′ i′);
-          rest = rest-wrote (regionIn t es) l w y b ths ow lo ol grow in′ (open-undone (regionIn t es) i op in′) re;
+          rest = rest-wrote (regionIn t es) l w y b ths ow lo ol grow in′ (i .ended (regionIn t es) in′ ∙ op .goes-on) (open-undone (regionIn t es) i op in′) re;
         }
 
 -- the slots are as before the join

@@ -2,7 +2,7 @@
 use Rattle.undo.specs.Machine as u
 use Rattle.undo.specs.History as v
 use Prim.Native.Nat.{_*_, _+_, _<_, suc, zero, ℕ}
-use mathlib.Core.Path.{_≡_, ap, refl, sym}
+use mathlib.Core.Path.{_∙_, _≡_, ap, refl, sym}
 use mathlib.Core.Bool.{Bool, false, false≢true, true}
 use mathlib.Core.List.{List, []}
 use lib.Dec.{eqb, leb}
@@ -19,6 +19,7 @@ use Rattle.rules.specs.Commit.{commits}
 use Rattle.rules.specs.History.{depthIn, endsIn, lastWriter, linesIn, openedIn, usesIn, writesIn}
 use Rattle.rules.specs.Lists.{all}
 use Rattle.rules.specs.Tables.{Lent, Memory, Zero, fresh, freshTables, isZero, lentFrom, lentLength, lentLine, lineOf, listed, noEntry, noRegion, noThread, numberOf, ownerOf, placeOf, regionAt, startLines}
+use Rattle.rules.specs.declared.SlotState.the-variants.{Empty, Waiting}
 use Rattle.undo.proofs.Laws.{flip, never, test}
 use Rattle.undo.specs.Claim.{start}
 use Rattle.undo.specs.History.{empty}
@@ -143,7 +144,8 @@ initially m e =
     record {
       simulated = by _ _ start (sim-fresh m e);
       rest = record {
-        flown = λ k l c x w. absurd (false≢true (rw (free-region k) at x));
+        flown = λ k l c x w. let v : Empty ≡ Waiting c = sym (state-free l) ∙ (rw (free-region k) at w) in let z : _≡_ {A = ℕ} 0 1 = cc in absurd (omega arith);
+        finished = λ j e n. absurd (false≢true (rw (getD-same 32 j noRegion) at e));
         settled = λ j. rw (getD-same 32 j noRegion);
       };
     }

@@ -1,16 +1,15 @@
 -- Demand 3, as one type about two whole lists, and the claims about an image. Their proofs stand in proofs/.
-use Prim.Native.Nat.{_-_, max, suc, zero, ℕ}
+use Prim.Native.Nat.{_+_, _-_, max, suc, zero, ℕ}
 use mathlib.Core.Path.{_≡_}
 use mathlib.Core.Logic.{_≢_}
-use mathlib.Core.Bool.{Bool, true}
-use mathlib.Core.List.{List}
-use lib.Dec.{ltb}
-use lib.ListN.{length}
-use Rattle.rules.specs.History.{acceptedIn, committed, drawsOn, expectedBytes, memoryFound, usesIn}
+use mathlib.Core.Bool.{Bool, cond, true}
+use mathlib.Core.List.{List, [], _∷_}
+use lib.Dec.{eqb, ltb}
+use Rattle.rules.specs.History.{acceptedIn, committed, drawsOn, expectedBytes, hasCut, memoryFound, usesIn}
 use Rattle.rules.specs.Image.{Persistent, encode, image, saved}
 use Rattle.rules.specs.Lists.{all}
-use Rattle.rules.specs.Reader.{Reads, readImage}
-use Rattle.rules.specs.Recovery.{Act, PowerCut, Recovering, act, acts, restore}
+use Rattle.rules.specs.Reader.{Reads, imageBody, readImage}
+use Rattle.rules.specs.Recovery.{Act, PowerCut, Recovering, act, acts, isFinished, restore}
 use Rattle.rules.specs.Run.{run}
 use Rattle.rules.specs.Tables.{Board, Lent, Memory, Zero, fresh}
 
@@ -27,17 +26,24 @@ unfoldable pub restores : ℕ → Recovering → Recovering
 restores zero r = r
 restores (suc n) r = restores n (restore r .after)
 
+-- how many log entries an image holds: its records of kind 35, where n bytes of a record before them are still to come
+unfoldable pub entriesIn : ℕ → List ℕ → ℕ
+entriesIn zero [] = 0
+entriesIn (suc n) [] = 0
+entriesIn zero (k ∷ bs) = cond (eqb k 35) 1 0 + entriesIn (imageBody k) bs
+entriesIn (suc n) (b ∷ bs) = entriesIn n bs
+
 -- how many steps a pass takes: "as many steps as the image holds log entries, or the first step if it holds none"
 abbrev pub passLength : Memory → List (List ℕ) → ℕ
-passLength m rs = max 1 (length (saved (boardAfter m rs) .log))
+passLength m rs = max 1 (entriesIn 0 (image (boardAfter m rs)))
 
 pub record Holds (m : Memory) (rs : List (List ℕ)) (as′ : List Act) : Type 0 where
   -- the next step is accepted
   pub accepts : restore (recovering m rs as′) .answer .refusal ≡ 0
   -- if it answers 'finished', the memory found is the expected memory
-  pub recovers : restore (recovering m rs as′) .answer .value ≡ 0 → memoryFound (restore (recovering m rs as′) .after .bytes) ≡ expectedBytes m rs
+  pub recovers : isFinished (restore (recovering m rs as′) .answer) ≡ true → memoryFound (restore (recovering m rs as′) .after .bytes) ≡ expectedBytes m rs
   -- from a cut here on, the last step of a pass answers 'finished'
-  pub finishes : restore (restores (passLength m rs - 1) (act (recovering m rs as′) PowerCut)) .answer .value ≡ 0
+  pub finishes : isFinished (restore (restores (passLength m rs - 1) (act (recovering m rs as′) PowerCut)) .answer) ≡ true
   -- what a committed region drew on had committed
   pub closed : (k q : ℕ) → drawsOn k q (usesIn (acceptedIn m rs)) ≡ true → q ≢ 0 → committed m rs k ≡ true → committed m rs q ≡ true
 
@@ -52,11 +58,12 @@ isByteMemory (Lent bs) = all isByte bs
 -- for every starting memory, every list of event records of any content in which a cut was accepted, every list of recovery steps and cuts
 abbrev pub Demand3 : Type 0
 Demand3 = (m : Memory) (rs : List (List ℕ)) (as′ : List Act) → isByteMemory m ≡ true → all (all isByte) rs ≡ true
-    → boardAfter m rs .tables .cut ≡ true → Holds m rs as′
+    → hasCut (acceptedIn m rs) ≡ true → Holds m rs as′
 
 -- "A saved image reads back to the same persistent state"
 abbrev pub ReadsBack : Type 0
-ReadsBack = (m : Memory) (rs : List (List ℕ)) → isByteMemory m ≡ true → all (all isByte) rs ≡ true → boardAfter m rs .tables .cut ≡ true → readImage (image (boardAfter m rs)) ≡ Reads (saved (boardAfter m rs))
+ReadsBack = (m : Memory) (rs : List (List ℕ)) → isByteMemory m ≡ true → all (all isByte) rs ≡ true → hasCut (acceptedIn m rs) ≡ true
+    → readImage (image (boardAfter m rs)) ≡ Reads (saved (boardAfter m rs))
 
 -- ".. and is the only image of it": bytes that are accepted are the image of what they read back to
 abbrev pub OnlyImage : Type 0

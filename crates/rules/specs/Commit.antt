@@ -49,17 +49,24 @@ freed k th = record { depth = th .depth; last = th .last; log = map (freedEntry 
 unfoldable pub commit : ℕ → Tables → Tables
 commit k ts = withThread (threadOf k) (freed k (threadAt (threadOf k) ts)) (withRegions (map (afterCommit k) (ts .regions)) ts)
 
--- the tables after a step's commits, and how many there were
+-- the tables after a step's commits, and the regions that committed, in their order
 pub record Settled : Type 0 where
   pub tables : Tables
-  pub commits : ℕ
+  pub keys : List ℕ
+
+-- region k committed before those
+abbrev pub before : ℕ → Settled → Settled
+before k s = record { tables = s .tables; keys = k ∷ s .keys }
 
 -- "This repeats within the same step until no region can commit": at most n times
-unfoldable pub settle : ℕ → ℕ → Tables → Settled
-settle zero c ts = record { tables = ts; commits = c }
-settle (suc n) c ts =
-    elim (commits (earliest (ts .regions))) [ false ↦ record { tables = ts; commits = c } | true ↦ settle n (suc c) (commit (earliest (ts .regions) .key) ts) ]
+unfoldable pub settle : ℕ → Tables → Settled
+settle zero ts = record { tables = ts; keys = [] }
+settle (suc n) ts =
+    elim (commits (earliest (ts .regions))) [
+      | false ↦ record { tables = ts; keys = [] }
+      | true ↦ before (earliest (ts .regions) .key) (settle n (commit (earliest (ts .regions) .key) ts))
+    ]
 
 -- done, then the commits: there are at most as many as the list has places
 unfoldable pub settled : Tables → Settled
-settled ts = settle (length (ts .regions)) 0 (withRegions (map doneRegion (ts .regions)) ts)
+settled ts = settle (length (ts .regions)) (withRegions (map doneRegion (ts .regions)) ts)

@@ -1,17 +1,20 @@
 -- The words of demand 3, by the event list alone. A list of events stands newest first here: what is behind an event came before it.
 use Prim.Native.Nat.{_+_, _-_, suc, zero, ℕ}
-use mathlib.Core.Bool.{Bool, _&&_, cond, not}
+use mathlib.Core.Bool.{Bool, _&&_, cond, false, true}
 use mathlib.Core.List.{List, [], _++_, _∷_}
 use lib.Dec.{eqb, ltb}
 use lib.ListN.{drop, take}
 use Rattle.rules.specs.Access.{storeWord}
+use Rattle.rules.specs.Acknowledge.{dataAck, logAck}
 use Rattle.rules.specs.Bytes.{lineBytes, numOf}
+use Rattle.rules.specs.Commit.{settled}
+use Rattle.rules.specs.End.{endRegion}
 use Rattle.rules.specs.Lists.{flat}
 use Rattle.rules.specs.Record.{readRecord}
 use Rattle.rules.specs.Recovery.{lineStart}
-use Rattle.rules.specs.Run.{run}
+use Rattle.rules.specs.Refusal.{depthOf}
 use Rattle.rules.specs.Step.{step}
-use Rattle.rules.specs.Tables.{Board, Memory, fresh, keyOf, listed, startLines}
+use Rattle.rules.specs.Tables.{Board, Memory, fresh, keyOf, startLines}
 use Rattle.rules.specs.declared.Event.{Event}
 use Rattle.rules.specs.declared.Event.the-variants.{Begin, Cut, DataAck, End, Fence, LogAck, Read, Setup, Write}
 use Rattle.rules.specs.declared.Reading.{Reading}
@@ -33,6 +36,21 @@ acceptedFrom b (r ∷ rs) es = acceptedFrom (step b r .board) rs (noted (step b 
 
 abbrev pub acceptedIn : Memory → List (List ℕ) → List Event
 acceptedIn m rs = acceptedFrom (fresh m) rs []
+
+-- a cut is among the accepted events
+abbrev pub isCut : Event → Bool
+isCut (Setup n l) = false
+isCut (Begin t) = false
+isCut (End t) = false
+isCut (Read t l w) = false
+isCut (Write t l w v) = false
+isCut (LogAck l) = false
+isCut (DataAck l) = false
+isCut (Fence t) = false
+isCut Cut = true
+
+abbrev pub hasCut : List Event → Bool
+hasCut es = any isCut es
 
 -- ---- "a thread's depth is its accepted begins less its accepted ends"
 
@@ -143,10 +161,32 @@ usesIn (e ∷ es) = usesOf e es (usesIn es)
 abbrev pub drawsOn : ℕ → ℕ → List Use → Bool
 drawsOn k q us = any (λ u. eqb (u .of) k && eqb (u .on) q) us
 
--- ---- "what is committed, the refusals and Steps give": ended, and not in the list of the uncommitted any more
+-- ---- "what is committed, the refusals and Steps give"
+
+-- the regions that commit in an accepted event, as its rule tells
+abbrev pub commitsOf : Event → Board → List ℕ
+commitsOf (Setup n l) b = []
+commitsOf (Begin t) b = []
+commitsOf (End t) b = cond (eqb (depthOf t (b .tables)) 1) (settled (endRegion t b .tables) .keys) []
+commitsOf (Read t l w) b = []
+commitsOf (Write t l w v) b = []
+commitsOf (LogAck l) b = settled (logAck l b .tables) .keys
+commitsOf (DataAck l) b = settled (dataAck l b .tables) .keys
+commitsOf (Fence t) b = []
+commitsOf Cut b = []
+
+abbrev pub commitsBy : ℕ → Reading → Board → List ℕ
+commitsBy zero (Whole e) b = commitsOf e b
+commitsBy zero (Refused n) b = []
+commitsBy (suc c) x b = []
+
+-- the regions that commit in a list of records, before those already noted
+unfoldable pub commitsFrom : Board → List (List ℕ) → List ℕ → List ℕ
+commitsFrom b [] ks = ks
+commitsFrom b (r ∷ rs) ks = commitsFrom (step b r .board) rs (commitsBy (step b r .answer .refusal) (readRecord r) b ++ ks)
 
 unfoldable pub committed : Memory → List (List ℕ) → ℕ → Bool
-committed m rs k = isIn k (endsIn (acceptedIn m rs)) && not (listed k (run (fresh m) rs .board .tables .regions))
+committed m rs k = isIn k (commitsFrom (fresh m) rs [])
 
 -- ---- the expected memory: "the starting memory with the accepted writes of the committed regions, region by region in the order they ended"
 

@@ -1,6 +1,6 @@
 -- "Recovery works inside the lent image. Each step restores one log entry to its line."
 use Prim.Native.Nat.{_*_, _+_, ℕ}
-use mathlib.Core.Bool.{cond}
+use mathlib.Core.Bool.{Bool, _&&_, cond}
 use mathlib.Core.List.{List, [], _∷_}
 use lib.Dec.{eqb}
 use lib.ListN.{drop, length}
@@ -29,6 +29,10 @@ putBack e bs = paste bs (lineStart (e .line)) (lineBytes (e .old))
 
 abbrev pub answered : ℕ → ℕ → Answer
 answered n v = record { refusal = n; value = v }
+
+-- 'finished': accepted, with the value 0
+abbrev pub isFinished : Answer → Bool
+isFinished a = eqb (a .refusal) 0 && eqb (a .value) 0
 
 -- "It answers 'more' (value 1) while entries remain after it, else 'finished' (value 0); with none left, or a place past the last, it changes nothing"
 unfoldable pub restoreBy : List Logged → Recovering → Restored

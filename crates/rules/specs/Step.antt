@@ -3,7 +3,7 @@ use Prim.Native.Nat.{suc, zero, ℕ}
 use mathlib.Core.Bool.{cond, true}
 use mathlib.Core.List.{List}
 use lib.Dec.{eqb}
-use lib.ListN.{getD}
+use lib.ListN.{getD, length}
 use Rattle.rules.specs.Access.{read, write}
 use Rattle.rules.specs.Acknowledge.{dataAck, logAck}
 use Rattle.rules.specs.Begin.{begin}
@@ -31,7 +31,7 @@ did v b = record { board = b; value = v }
 
 -- "of every other event the number of regions committed in that step"
 unfoldable pub settledBoard : Board → Did
-settledBoard b = did (settled (b .tables) .commits) (withTables (settled (b .tables) .tables) b)
+settledBoard b = did (length (settled (b .tables) .keys)) (withTables (settled (b .tables) .tables) b)
 
 -- "0 setup": T and L stand
 unfoldable pub setup : ℕ → ℕ → Tables → Tables

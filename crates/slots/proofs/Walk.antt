@@ -1,13 +1,11 @@
--- A loop over an array at its index i: what its turns before i have made of a map or of a search, and one turn more.
+-- A loop over an array at its index i: what its turns before i have made of a map, and one turn more.
 use Prim.Native.Nat.{_+_, _<_, _≤_, suc, ℕ}
 use mathlib.Core.Path.{_≡_}
-use mathlib.Core.Bool.{Bool, false, true}
 use mathlib.Core.List.{List, _++_, append-nil, map}
 use lib.ListN.{drop, drop-of-length-le, getD, length, set, take}
 use native.Mathlib.Omega.{arith}
 use native.Mathlib.Numerals.{add-one}
 use lib.Seq.{append-snoc, drop-cons, drop-set-lt, take-all, take-suc-set}
-use Rattle.undo.specs.Table.{any}
 
 module _ {A : Type 0} (f : A → A) where
   -- the array q with f put in place below i and still to come from i on
@@ -20,14 +18,3 @@ module _ {A : Type 0} (f : A → A) where
 
   pub map-end : (i : ℕ) (q : List A) → length q ≤ i → mapped i q ≡ q
   map-end i q h = rw (drop-of-length-le q h, append-nil, take-all i q h)
-
-module _ {A : Type 0} (p : A → Bool) where
-  -- a search that has passed i elements in vain
-  pub any-more : (i : ℕ) (q : List A) (d : A) → i < length q → p (getD q i d) ≡ false → any p (drop i q) ≡ any p (drop (i + 1) q)
-  any-more i q d h e = rw (add-one, drop-cons q i d h, e)
-
-  pub any-hit : (i : ℕ) (q : List A) (d : A) → i < length q → p (getD q i d) ≡ true → any p (drop i q) ≡ true
-  any-hit i q d h e = rw (drop-cons q i d h, e)
-
-  pub any-end : (i : ℕ) (q : List A) → length q ≤ i → any p (drop i q) ≡ false
-  any-end i q h = rw (drop-of-length-le q h)

@@ -161,9 +161,8 @@ fn carry(l: u8, f: bool, cur: &[[u64; 8]; 256], car: &mut [[u64; 8]; 256])
     ensures { λ _. ⌜ now (car .exit) ≡ cond f (set (now (car .entry)) l (lineOf l (now (cur .entry)))) (now (car .entry)) ⌝ }
 {
     if f {
-        let i = l as usize;
-        let x = cur[i];
-        car[i] = x;
+        let x = lines::line_of(cur, l);
+        lines::set_line(car, l, x);
     }
 }
 

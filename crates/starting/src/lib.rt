@@ -3,7 +3,7 @@ ghost use mathlib.Core.Path.{_≡_};
 ghost use mathlib.Core.Bool.{false};
 ghost use lib.ListN.{replicate};
 ghost use Rattle.rows.specs.Whole.{tablesOf};
-ghost use Rattle.rules.specs.Tables.{freshTables, startLines, Zero, Lent};
+ghost use Rattle.rules.specs.Tables.{freshTables, startLines, Lent};
 use rows::Head;
 use rules::Size;
 
@@ -31,7 +31,7 @@ fn lent_lines(memory: &[u8]) -> [[u64; 8]; 256]
     let mut m: [[u64; 8]; 256] = [[0; 8]; 256];
     let mut i: usize = 0;
     while i < 256 {
-        m[i] = lines::lent_line(memory, i);
+        m[i] = lines::take_line(memory, 64 * i);
         i += 1;
     }
     m
@@ -42,11 +42,4 @@ pub fn load(memory: &[u8], m: &mut [[u64; 8]; 256])
     ensures { λ _. ⌜ now (m .exit) ≡ startLines (Lent (now (memory .entry))) ⌝ }
 {
     *m = lent_lines(memory);
-}
-
-// A line memory begins as zero memory, whatever it held.
-pub fn clear(m: &mut [[u64; 8]; 256])
-    ensures { λ _. ⌜ now (m .exit) ≡ startLines Zero ⌝ }
-{
-    *m = [[0; 8]; 256];
 }

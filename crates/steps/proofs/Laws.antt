@@ -124,7 +124,7 @@ ack-law l k b b₃ ts ek e e₃ = rw (← ek, e₃, e)
 pub settled-law : (n : ℕ) (b b₁ b₂ : Board) (ts : Tables)
     → b₁ ≡ b
     → ts ≡ settled (b₁ .tables) .tables
-    → n ≡ settled (b₁ .tables) .commits
+    → n ≡ length (settled (b₁ .tables) .keys)
     → b₂ ≡ withTables ts b₁
     → did n b₂ ≡ settledBoard b
 unfolding settledBoard

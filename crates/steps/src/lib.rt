@@ -4,14 +4,14 @@ use rules::Answer;
 use rules::Entry;
 use rules::Event;
 use rules::Region;
-ghost use Prim.Native.Nat.{ℕ, _*_, _+_, _-_, _<_, _≤_};
+ghost use Prim.Native.Nat.{ℕ, _*_, _+_, _-_, _<_};
 ghost use mathlib.Core.Path.{_≡_};
 ghost use mathlib.Core.Bool.{Bool, _&&_, cond, false, not, true};
 ghost use mathlib.Core.List.{List, _∷_, map};
 ghost use lib.Dec.{eqb, leb};
 ghost use lib.ListN.{getD, replicate, set};
 ghost use Rattle.undo.specs.Table.{any};
-ghost use Rattle.rules.specs.Tables.{noRegion, noSlot, noThread, placeOf, regionAt, withDeps, withSlots};
+ghost use Rattle.rules.specs.Tables.{noRegion, noSlot, noThread, placeOf, withDeps, withSlots};
 ghost use Rattle.rules.specs.Access.{isOf, joined, logged, loggedOnce, read, storeWord, write};
 ghost use Rattle.rules.specs.Acknowledge.{dataAck, dropped, logAck};
 ghost use Rattle.rules.specs.Begin.{begin, opened};
@@ -93,7 +93,7 @@ fn log_line(
         persistent: false,
     };
     rows::put_entry(&mut threads[ti], i, e);
-    let before = cur[li];
+    let before = lines::line_of(cur, l);
     old[32 * ti + i] = before;
     owner[li] = k;
     lock[li] = true;
@@ -147,10 +147,9 @@ fn store(cur: &mut [[u64; 8]; 256], l: u8, w: u8, v: u64)
     requires { ⌜ w < 8 ⌝ }
     ensures { λ _. ⌜ now (cur .exit) ≡ storeWord l w v (now (cur .entry)) ⌝ }
 {
-    let li = l as usize;
-    let x = cur[li];
+    let x = lines::line_of(cur, l);
     let y = lines::store_word(x, w as usize, v);
-    cur[li] = y;
+    lines::set_line(cur, l, y);
 }
 
 // A write that needs a log entry has one free: refusal 21.
@@ -350,9 +349,8 @@ fn log_ack(
 fn data_ack(regions: &mut [[u32; 16]; 32], med: &mut [[u64; 8]; 256], car: &[[u64; 8]; 256], l: u8)
     ensures { λ _. ⌜ ((h : Head) (threads : List (List ℕ)) (owner : List ℕ) (lock : List Bool) (cur old : List (List ℕ)) → boardOf h threads (now (regions .exit)) owner lock cur (now (med .exit)) old (now (car .entry)) ≡ dataAck l (boardOf h threads (now (regions .entry)) owner lock cur (now (med .entry)) old (now (car .entry)))) ⌝ }
 {
-    let li = l as usize;
-    let x = car[li];
-    med[li] = x;
+    let x = lines::line_of(car, l);
+    lines::set_line(med, l, x);
     let i = rows::flight_place(regions, l);
     rows::land_at(regions, i, l);
 }

@@ -104,12 +104,12 @@ fields-back k f (w ∷ ws) bs (one e h fs) b l =
     got-one k f (numOf (take w bs)) (decimal (numOf (take w bs))) (map decimal (numbersOf ws (drop w bs))) n ∙ rw (e, ih, field-bytes w bs b t, behind-got (take w bs) (drop w bs), take-append-drop)
 
 -- the numbers of a body are in its own bytes, whatever stands behind
-numbers-front : (ws xs ys : List ℕ) → length xs ≡ total ws → numbersOf ws (xs ++ ys) ≡ numbersOf ws xs
+numbers-front : (ws xs ys : List ℕ) → total ws ≤ length xs → numbersOf ws (xs ++ ys) ≡ numbersOf ws xs
 unfolding numbersOf total
 numbers-front [] xs ys l = refl
 numbers-front (w ∷ ws) xs ys l =
     let t : w ≤ length xs = omega arith in
-    let d : length (drop w xs) ≡ total ws = rw (length-drop, l) (omega arith) in
+    let d : total ws ≤ length (drop w xs) = rw length-drop (omega arith) in
     rw (take-append-le w xs ys t, drop-append-le w xs ys t, numbers-front ws (drop w xs) ys d)
 
 -- ---- the kinds
@@ -120,19 +120,31 @@ record Kind (k : ℕ) : Type 0 where
   named : kindOf (nameOf k) ≡ k
   follows : Follows k 0 (widthsOf k)
   long : total (widthsOf k) ≡ bodyLength k
+  short : length (nameOf k) ≤ 8
+  few : length (widthsOf k) ≤ bodyLength k
 
 kinds : (k : ℕ) → k ≤ 8 → Kind k
 unfolding names plain kindOf place same widthsOf widths total widthAt complete
-kinds zero h = record { some = omega arith; pure = refl; named = refl; follows = (one refl width1 (one refl width2 (done refl))); long = refl }
-kinds (suc zero) h = record { some = omega arith; pure = refl; named = refl; follows = (one refl width1 (done refl)); long = refl }
-kinds (suc (suc zero)) h = record { some = omega arith; pure = refl; named = refl; follows = (one refl width1 (done refl)); long = refl }
-kinds (suc (suc (suc zero))) h = record { some = omega arith; pure = refl; named = refl; follows = (one refl width1 (one refl width1 (one refl width1 (done refl)))); long = refl }
-kinds (suc (suc (suc (suc zero)))) h = record { some = omega arith; pure = refl; named = refl; follows = (one refl width1 (one refl width1 (one refl width1 (one refl width8 (done refl))))); long = refl }
-kinds (suc (suc (suc (suc (suc zero))))) h = record { some = omega arith; pure = refl; named = refl; follows = (one refl width1 (done refl)); long = refl }
-kinds (suc (suc (suc (suc (suc (suc zero)))))) h = record { some = omega arith; pure = refl; named = refl; follows = (one refl width1 (done refl)); long = refl }
-kinds (suc (suc (suc (suc (suc (suc (suc zero))))))) h = record { some = omega arith; pure = refl; named = refl; follows = (one refl width1 (done refl)); long = refl }
-kinds (suc (suc (suc (suc (suc (suc (suc (suc zero)))))))) h = record { some = omega arith; pure = refl; named = refl; follows = (done refl); long = refl }
+kinds zero h = record { some = omega arith; pure = refl; named = refl; follows = (one refl width1 (one refl width2 (done refl))); long = refl; short = omega arith; few = omega arith }
+kinds (suc zero) h = record { some = omega arith; pure = refl; named = refl; follows = (one refl width1 (done refl)); long = refl; short = omega arith; few = omega arith }
+kinds (suc (suc zero)) h = record { some = omega arith; pure = refl; named = refl; follows = (one refl width1 (done refl)); long = refl; short = omega arith; few = omega arith }
+kinds (suc (suc (suc zero))) h = record { some = omega arith; pure = refl; named = refl; follows = (one refl width1 (one refl width1 (one refl width1 (done refl)))); long = refl; short = omega arith; few = omega arith }
+kinds (suc (suc (suc (suc zero)))) h = record { some = omega arith; pure = refl; named = refl; follows = (one refl width1 (one refl width1 (one refl width1 (one refl width8 (done refl))))); long = refl; short = omega arith; few = omega arith }
+kinds (suc (suc (suc (suc (suc zero))))) h = record { some = omega arith; pure = refl; named = refl; follows = (one refl width1 (done refl)); long = refl; short = omega arith; few = omega arith }
+kinds (suc (suc (suc (suc (suc (suc zero)))))) h = record { some = omega arith; pure = refl; named = refl; follows = (one refl width1 (done refl)); long = refl; short = omega arith; few = omega arith }
+kinds (suc (suc (suc (suc (suc (suc (suc zero))))))) h = record { some = omega arith; pure = refl; named = refl; follows = (one refl width1 (done refl)); long = refl; short = omega arith; few = omega arith }
+kinds (suc (suc (suc (suc (suc (suc (suc (suc zero)))))))) h = record { some = omega arith; pure = refl; named = refl; follows = (done refl); long = refl; short = omega arith; few = omega arith }
 kinds (suc (suc (suc (suc (suc (suc (suc (suc (suc k))))))))) h = absurd (omega arith)
+
+-- the numbers of a record are in its own bytes, whatever stands behind
+pub numbers-before : (k : ℕ) (body f : List ℕ) → k ≤ 8 → bodyLength k ≤ length body → numbersOf (widthsOf k) (body ++ f) ≡ numbersOf (widthsOf k) body
+numbers-before k body f h l = numbers-front (widthsOf k) body f (omega (arith, kinds k h .long))
+
+pub name-short : (k : ℕ) → k ≤ 8 → length (nameOf k) ≤ 8
+name-short k h = kinds k h .short
+
+pub few-numbers : (k : ℕ) → k ≤ 8 → length (widthsOf k) ≤ bodyLength k
+few-numbers k h = kinds k h .few
 
 -- ---- a line of an event
 
@@ -152,7 +164,7 @@ event-back k body h b l =
     let kd = kinds k h in
     let n = bodyLength k in
     let t : length (take n body) ≡ total (widthsOf k) = length-take-le n body l ∙ sym (kd .long) in
-    let f : numbersOf (widthsOf k) body ≡ numbersOf (widthsOf k) (take n body) = ap (numbersOf (widthsOf k)) (sym (take-append-drop n body)) ∙ numbers-front (widthsOf k) (take n body) (drop n body) t in
+    let f : numbersOf (widthsOf k) body ≡ numbersOf (widthsOf k) (take n body) = ap (numbersOf (widthsOf k)) (sym (take-append-drop n body)) ∙ numbers-front (widthsOf k) (take n body) (drop n body) (omega arith) in
     rw (f, line-words (nameOf k) (numbersOf (widthsOf k) (take n body)) (kd .some) (kd .pure), words-first, kd .named, kind-then k (map decimal (numbersOf (widthsOf k) (take n body))) h, fields-back k 0 (widthsOf k) (take n body) (kd .follows) (bytes-take n b) t, behind-got)
 
 -- ---- a line of bytes

@@ -8,4 +8,7 @@ pub mod Words
 pub mod Reading
 pub mod Back
 pub mod BackLines
+pub mod Pieces
+pub mod Lengths
+pub mod Lines
 pub mod Main

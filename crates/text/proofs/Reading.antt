@@ -1,6 +1,6 @@
 -- What is read of a line and of a text, one part after the other.
 use Prim.Native.Nat.{_+_, _-_, _<_, _≤_, suc, ℕ}
-use mathlib.Core.Path.{_∙_, _≡_, refl, sym}
+use mathlib.Core.Path.{_∙_, _≡_, ap, refl, sym}
 use mathlib.Core.Bool.{Bool, false, true}
 use mathlib.Core.List.{List, [], _++_, _∷_}
 use lib.Dec.{eqb}
@@ -13,9 +13,9 @@ use Rattle.rules.proofs.Places.{place-le}
 use Rattle.rules.specs.Bytes.{bytesOf}
 use Rattle.rules.specs.Lists.{place}
 use Rattle.text.proofs.Rooms.{puts-filled, puts-join}
-use Rattle.text.specs.Read.{Got, Text, behind, bytesOfText, complete, field, fieldsFrom, glued, got, kindBytes, kindOf, kindThen, lineThen, linesOf, linesRead, numberIn, readAs, stops, widthAt, wordsIn, wordsRead}
+use Rattle.text.specs.Read.{Got, Text, behind, bytesOfText, complete, field, fieldsFrom, glued, goodBytes, goodOf, goodThen, got, kindBytes, kindOf, kindThen, lineThen, linesOf, linesRead, numberIn, readAs, stops, widthAt, wordsIn, wordsRead}
 use Rattle.text.specs.Results.{ReadsAs, TextReadAs}
-use Rattle.text.specs.Room.{Room, puts, room}
+use Rattle.text.specs.Room.{Room, filled, puts, room}
 use Rattle.text.specs.declared.Cursor.{Cursor}
 use Rattle.text.specs.declared.LineRead.{LineRead}
 use Rattle.text.specs.declared.Number.the-variants.{Is, Not}
@@ -95,6 +95,34 @@ text-line text at end h e =
     let s : linesOf l ≡ take n l ∷ linesOf (drop (suc n) l) = rw (drop-cons text at 0 h) (lines-at (getD text at 0) (drop (suc at) text)) in
     rw (m, u, ← drop-drop (suc n) at text, s)
 
+-- the same of the lines in the form
+pub good-line : (text : List ℕ) (at end : ℕ) → at < length text → end ≡ at + place (stops 2) (drop at text) → goodBytes (drop at text) ≡ goodThen (wordsRead (wordsIn (take (end - at) (drop at text)))) (goodBytes (drop (end + 1) text))
+unfolding goodBytes goodOf
+good-line text at end h e =
+    let l = drop at text in
+    let n = place (stops 2) l in
+    let m : end - at ≡ n = omega arith in
+    let u : end + 1 ≡ at + suc n = omega arith in
+    let s : linesOf l ≡ take n l ∷ linesOf (drop (suc n) l) = rw (drop-cons text at 0 h) (lines-at (getD text at 0) (drop (suc at) text)) in
+    rw (m, u, ← drop-drop (suc n) at text, s)
+
+pub good-none : (text : List ℕ) (at : ℕ) → length text ≤ at → goodBytes (drop at text) ≡ []
+unfolding goodBytes linesOf goodOf
+good-none text at h = rw (drop-of-length-le text h)
+
+pub good-not : (g : Got) (bs : List ℕ) → g .ok ≡ false → goodThen g bs ≡ []
+unfolding goodThen
+good-not g bs e = rw e
+
+pub good-on : (g : Got) (bs : List ℕ) → g .ok ≡ true → goodThen g bs ≡ g .bytes ++ bs
+unfolding goodThen
+good-on g bs e = rw e
+
+-- where no line in the form is left, they are put
+pub good-stop : (d x bs ls : List ℕ) (q : Cursor) → bs ≡ [] → puts (room x q) bs ≡ puts (room d (record { at = 0; short = false })) ls → q .at ≡ filled d ls .cursor .at
+unfolding puts room
+good-stop d x bs ls q e h = ap (λ (r : Room). r .cursor .at) ((rw e at h) ∙ puts-filled d ls)
+
 pub record LeftText (t t₀ : Text) (r r₀ : Room) (n : ℕ) : Type 0 where
   pub same-bytes : puts r (t .bytes) ≡ puts r₀ (t₀ .bytes)
   pub same-lines : n + t .lines ≡ t₀ .lines
@@ -112,10 +140,11 @@ pub then-on : (g : Got) (t : Text) → g .ok ≡ true → lineThen g t ≡ readA
 unfolding lineThen
 then-on g t e = rw e
 
-pub text-stop : (t t₀ : Text) (r : Room) (d : List ℕ) (n : ℕ) (bs : List ℕ) (ok : Bool) (x : List ℕ) (q : Cursor) → t ≡ readAs bs 0 ok → LeftText t t₀ r (room d (record { at = 0; short = false })) n → room x q ≡ puts r bs → TextReadAs t₀ d x (record { cursor = q; lines = n; ok = ok })
+pub text-stop : (t t₀ : Text) (r : Room) (d : List ℕ) (n : ℕ) (bs : List ℕ) (ok : Bool) (x : List ℕ) (q : Cursor) (ls : List ℕ) (g : ℕ) → t ≡ readAs bs 0 ok → LeftText t t₀ r (room d (record { at = 0; short = false })) n → room x q ≡ puts r bs → g ≡ filled d ls .cursor .at → TextReadAs t₀ ls d x (record { cursor = q; good = g; lines = n; ok = ok })
 unfolding readAs
-text-stop t t₀ r d n bs ok x q e l p =
+text-stop t t₀ r d n bs ok x q ls g e l p z =
     record {
+      good-end = z;
       written = p ∙ ((rw e at (l .same-bytes)) ∙ puts-filled d (t₀ .bytes));
       counted = let k = rw e at (l .same-lines) in omega arith;
       told = rw e at (l .same-ok);

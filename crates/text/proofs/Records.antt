@@ -75,7 +75,7 @@ pub not-whole : (r : List ℕ) → recordLength r ≡ 0 → isWhole (readRecord 
 unfolding recordLength
 not-whole r e = test (isWhole (readRecord r)) (λ w. absurd (omega (arith, rw w at e))) (λ w. w)
 
-records-skip : (k : ℕ) (bs : List ℕ) → recordsFrom k bs ≡ recordsFrom 0 (drop k bs)
+pub records-skip : (k : ℕ) (bs : List ℕ) → recordsFrom k bs ≡ recordsFrom 0 (drop k bs)
 unfolding recordsFrom
 records-skip zero bs = refl
 records-skip (suc k) [] = refl
@@ -123,43 +123,9 @@ pub whole-line : (r : List ℕ) → 0 < recordLength r → recordText r ≡ line
 unfolding recordText
 whole-line r h = rw (stands r h .is-whole)
 
--- a text is the lines of the whole records, and a line for what is left
-rest-line : List ℕ → ℕ → List ℕ
-rest-line bs n = cond (ltb n (length bs)) (lineText 9 (drop n bs)) []
-
-ltb-suc : (n m : ℕ) → ltb (suc n) (suc m) ≡ ltb n m
-ltb-suc n m = test (ltb n m) (λ e. rw (lt-ltb (suc n) (suc m) (omega (arith, ltb-true n m e)), e)) (λ e. rw (le-ltb (suc n) (suc m) (omega (arith, ltb-false n m e)), e))
-
-rest-suc : (b : ℕ) (bs : List ℕ) (n : ℕ) → rest-line (b ∷ bs) (suc n) ≡ rest-line bs n
-unfolding rest-line
-rest-suc b bs n = rw (ltb-suc n (length bs))
-
-rest-all : (b : ℕ) (bs : List ℕ) → rest-line (b ∷ bs) 0 ≡ lineText 9 (b ∷ bs)
-unfolding rest-line
-rest-all b bs = rw (lt-ltb 0 (suc (length bs)) (omega arith))
-
 pub bytes-line : (r : List ℕ) → isWhole (readRecord r) ≡ false → recordText r ≡ lineText 9 r
 unfolding recordText
 bytes-line r w = rw w
-
-parts : (k : ℕ) (bs : List ℕ) → flat recordText (recordsFrom k bs) ≡ flat recordText (keep (λ r. isWhole (readRecord r)) (recordsFrom k bs)) ++ rest-line bs (wholeFrom k bs)
-unfolding recordsFrom wholeFrom flat rest-line
-parts k [] = refl
-parts (suc k) (b ∷ bs) = rw (rest-suc b bs (wholeFrom k bs)) (parts k bs)
-parts zero (b ∷ bs) =
-    let ih = parts (bodyLength b) bs in
-    test (isWhole (readRecord (b ∷ bs)))
-    (λ w. rw (w, rest-suc b bs (wholeFrom (bodyLength b) bs), append-assoc, ih))
-    (λ w. rw (w, append-nil, rest-all b bs) (bytes-line (b ∷ bs) w))
-
--- where bytes are left behind the whole records, and where none are
-pub text-rest : (file : List ℕ) → wholeLength file < length file → textOf file ≡ wholeText file ++ lineText 9 (drop (wholeLength file) file)
-unfolding textOf wholeText wholeLength rest-line
-text-rest file h = parts 0 file ∙ rw (lt-ltb (wholeFrom 0 file) (length file) h)
-
-pub text-all : (file : List ℕ) → length file ≤ wholeLength file → textOf file ≡ wholeText file
-unfolding textOf wholeText wholeLength rest-line
-text-all file h = parts 0 file ∙ rw (le-ltb (wholeFrom 0 file) (length file) h, append-nil)
 
 -- one whole record more, at a place of a file
 pub text-more : (q : Room) (file : List ℕ) (at n : ℕ) → n ≡ recordLength (drop at file) → 0 < n → puts q (wholeText (drop at file)) ≡ puts (puts q (recordText (drop at file))) (wholeText (drop (at + n) file))

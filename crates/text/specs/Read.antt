@@ -132,3 +132,21 @@ linesRead (l ∷ ls) = lineThen (wordsRead (wordsIn l)) (linesRead ls)
 
 unfoldable pub bytesOfText : List ℕ → Text
 bytesOfText text = linesRead (linesOf text)
+
+-- the bytes of the lines before the first one that is not in the form
+unfoldable pub goodThen : Got → List ℕ → List ℕ
+goodThen g bs = cond (g .ok) (g .bytes ++ bs) []
+
+unfoldable pub goodOf : List (List ℕ) → List ℕ
+goodOf [] = []
+goodOf (l ∷ ls) = goodThen (wordsRead (wordsIn l)) (goodOf ls)
+
+unfoldable pub goodBytes : List ℕ → List ℕ
+goodBytes text = goodOf (linesOf text)
+
+-- ---- a text in pieces
+
+-- the place behind the last newline; 0 where there is none
+unfoldable pub lastLine : List ℕ → ℕ
+lastLine [] = 0
+lastLine (c ∷ cs) = cond (eqb c 10 || ltb 0 (lastLine cs)) (suc (lastLine cs)) 0

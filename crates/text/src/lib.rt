@@ -8,10 +8,10 @@ ghost use Rattle.rules.specs.Bytes.{bytesOf};
 ghost use Rattle.rules.specs.Lists.{flat, place};
 ghost use Rattle.text.specs.Form.{nameOf, widthsOf};
 ghost use Rattle.text.specs.Room.{room, puts, filled};
-ghost use Rattle.text.specs.Write.{decimal, numberText, lineText, numbersOf, recordLength, recordText, wholeLength, wholeText, textOf};
-ghost use Rattle.text.specs.Claim.{RoundTrip};
+ghost use Rattle.text.specs.Write.{decimal, numberText, numbersOf, recordLength, recordText, wholeLength, wholeText};
+ghost use Rattle.text.specs.Claim.{InPieces, LinesInPieces, RoundTrip};
 ghost use Rattle.text.specs.Results.{PutWhole, NextWord, ReadsAs, TextReadAs};
-ghost use Rattle.text.specs.Read.{stops, same, kindOf, mostOf, withDigit, numberIn, widthAt, complete, wordsIn, fieldsFrom, kindBytes, wordsRead, bytesOfText};
+ghost use Rattle.text.specs.Read.{stops, same, kindOf, mostOf, withDigit, numberIn, widthAt, complete, wordsIn, fieldsFrom, kindBytes, wordsRead, bytesOfText, goodBytes, lastLine};
 
 // Where the next byte goes in a lent buffer, and whether a byte has found no room.
 pub struct Cursor {
@@ -43,16 +43,17 @@ pub struct LineRead {
     pub ok: bool,
 }
 
-// What is read of a text: the bytes up to the cursor, the number of lines in the form, and whether these are all.
+// What is read of a text: the bytes up to the cursor, the place behind those of the lines in the form, the number of these lines, and whether these are all.
 // If not, the next line is the first one that is not in the form.
 pub struct TextRead {
     pub cursor: Cursor,
+    pub good: usize,
     pub lines: u64,
     pub ok: bool,
 }
 
 // One byte.
-pub fn put_byte(out: &mut [u8], c: Cursor, b: u8) -> Cursor
+fn put_byte(out: &mut [u8], c: Cursor, b: u8) -> Cursor
     ensures { λ r. ⌜ room (now (out .exit)) r ≡ puts (room (now (out .entry)) c) (b ∷ []) ⌝ }
 {
     let at = c.at;
@@ -106,7 +107,7 @@ fn put_number(out: &mut [u8], c: Cursor, n: u64) -> Cursor
 }
 
 // The word of a kind.
-pub fn put_name(out: &mut [u8], c: Cursor, kind: u8) -> Cursor
+fn put_name(out: &mut [u8], c: Cursor, kind: u8) -> Cursor
     ensures { λ r. ⌜ room (now (out .exit)) r ≡ puts (room (now (out .entry)) c) (nameOf kind) ⌝ }
 {
     match kind {
@@ -220,35 +221,6 @@ pub fn put_whole(out: &mut [u8], c: Cursor, file: &[u8]) -> Passed
         at += n;
     }
     Passed { at, cursor: q }
-}
-
-// Bytes that are no whole record, as a line.
-fn put_rest(out: &mut [u8], c: Cursor, rest: &[u8]) -> Cursor
-    ensures { λ r. ⌜ room (now (out .exit)) r ≡ puts (room (now (out .entry)) c) (lineText 9 (now (rest .entry))) ⌝ }
-{
-    let q = put_name(out, c, 9);
-    let p = put_numbers(out, q, rest);
-    put_byte(out, p, 10)
-}
-
-// An event file as text, as much of it as there is room for.
-pub fn write_text(file: &[u8], out: &mut [u8]) -> Cursor
-    ensures { λ r. ⌜ room (now (out .exit)) r ≡ filled (now (out .entry)) (textOf (now (file .entry))) ⌝ }
-{
-    let p = put_whole(
-        out,
-        Cursor {
-            at: 0,
-            short: false,
-        },
-        file,
-    );
-    let at = p.at;
-    let c = p.cursor;
-    if at < file.len() {
-        return put_rest(out, c, &file[at..]);
-    }
-    c
 }
 
 // Whether a search stops at a byte.
@@ -536,7 +508,7 @@ fn read_line(line: &[u8], out: &mut [u8], c: Cursor) -> LineRead
 
 // A text as the bytes of an event file, as many of them as there is room for.
 pub fn read_text(text: &[u8], out: &mut [u8]) -> TextRead
-    ensures { λ r. ⌜ TextReadAs (bytesOfText (now (text .entry))) (now (out .entry)) (now (out .exit)) r ⌝ }
+    ensures { λ r. ⌜ TextReadAs (bytesOfText (now (text .entry))) (goodBytes (now (text .entry))) (now (out .entry)) (now (out .exit)) r ⌝ }
 {
     let mut q = Cursor {
         at: 0,
@@ -546,11 +518,13 @@ pub fn read_text(text: &[u8], out: &mut [u8]) -> TextRead
     let mut lines: u64 = 0;
     while at < text.len() {
         let end = find(text, at, 2);
+        let good = q.at;
         let r = read_line(&text[at..end], out, q);
         q = r.cursor;
         if !r.ok {
             return TextRead {
                 cursor: q,
+                good,
                 lines,
                 ok: false,
             };
@@ -560,12 +534,27 @@ pub fn read_text(text: &[u8], out: &mut [u8]) -> TextRead
     }
     TextRead {
         cursor: q,
+        good: q.at,
         lines,
         ok: true,
     }
 }
 
-// The text of every file is read back as that file.
+// The end of the last whole line.
+pub fn whole_lines(text: &[u8]) -> usize
+    ensures { λ r. ⌜ r ≡ lastLine (now (text .entry)) ⌝ }
+{
+    let mut i = text.len();
+    while 0 < i {
+        if text[i - 1] == 10 {
+            return i;
+        }
+        i -= 1;
+    }
+    0
+}
+
+// The text of every file is read back as that file. It is the same in whatever pieces the file comes, and so are the bytes of a text.
 pub fn text_is_right()
-    ensures { λ r. ⌜ RoundTrip ⌝ }
+    ensures { λ r. ⌜ RoundTrip × (InPieces × LinesInPieces) ⌝ }
 {}

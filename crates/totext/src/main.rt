@@ -1,77 +1,161 @@
-// Reads an event file on standard input and writes it in the readable form, one event a line.
+// Reads an event file on standard input and writes it in the readable form, one event a line. The file may have any length: it is read in pieces.
+// No contract can say what goes out: the functions that write ask it of their callers. In whatever pieces a file comes, these texts make its text (`InPieces`).
 use text::Cursor;
+ghost use Prim.Native.Nat.{_*_, _≤_};
+ghost use mathlib.Core.Path.{_≡_};
+ghost use lib.ListN.{length, take};
+ghost use Rattle.rules.specs.Lists.{flat};
+ghost use Rattle.text.specs.Form.{nameOf};
+ghost use Rattle.text.specs.Write.{numberText, recordLength, wholeLength, wholeText};
+ghost use Rattle.totext.specs.Results.{Pieced};
 
-fn start() -> Cursor {
-    Cursor {
-        at: 0,
-        short: false,
-    }
+// A piece of the file, and its text: a byte is at most 32 bytes of text.
+const PIECE: usize = 4096;
+
+const TEXT: usize = 32 * PIECE;
+
+// The bytes of the whole records of a piece, and whether their lines went out.
+struct Sent {
+    passed: usize,
+    sent: bool,
 }
 
-// What is left of the input after a piece of it.
-enum Step {
-    // The whole records are written, and so many bytes behind them are at the front of the buffer.
-    On(usize),
-    // The input has ended behind so many bytes that are no whole record.
-    Ended(usize),
+// What a piece leaves: how many bytes at the front of the buffer are no whole record, whether a whole record may still come, and whether its lines went out.
+struct Left {
+    held: usize,
+    more: bool,
+    sent: bool,
 }
 
-// Writes the whole records of one piece.
-fn piece(file: &mut [u8], have: usize, out: &mut [u8]) -> Step {
-    let n = pieces::refill(file, have);
-    if n <= have {
-        return Step::Ended(n);
-    }
-    let p = text::put_whole(out, start(), &file[..n]);
-    let at = p.at;
+// Writes the lines of the whole records of a piece.
+fn send_lines(piece: &[u8], out: &[u8], n: usize) -> bool
+    requires { ⌜ take n (now out) ≡ wholeText (now piece) ⌝ }
+{
+    pieces::flush(out, n)
+}
+
+// Writes bytes that are no whole record.
+fn send_numbers(piece: &[u8], out: &[u8], n: usize) -> bool
+    requires { ⌜ take n (now out) ≡ flat numberText (now piece) ⌝ }
+{
+    pieces::flush(out, n)
+}
+
+// Writes the word of a line of bytes.
+fn send_word(word: &[u8]) -> bool
+    requires { ⌜ now word ≡ nameOf 9 ⌝ }
+{
+    pieces::flush(word, word.len())
+}
+
+// Writes the whole records of a piece.
+fn records(piece: &[u8], out: &mut [u8]) -> Sent
+    requires { ⌜ 32 * length (now piece) ≤ length (now out) ⌝ }
+    ensures { λ r. ⌜ r .passed ≡ wholeLength (now (piece .entry)) ⌝ }
+{
+    let p = text::put_whole(
+        out,
+        Cursor {
+            at: 0,
+            short: false,
+        },
+        piece,
+    );
     let c = p.cursor;
     let end = c.at;
-    if pieces::flush(out, end) {
-        return Step::On(pieces::shift(file, at, n));
-    }
-    Step::Ended(0)
+    let sent = send_lines(piece, out, end);
+    Sent { passed: p.at, sent }
 }
 
-// Writes records as long as they are whole. Answers how many bytes of the buffer are left.
-// No record is longer than 12 bytes: from 12 on the bytes that are left begin with an unknown kind.
-fn records(file: &mut [u8], out: &mut [u8]) -> usize {
-    let mut have: usize = 0;
+// Whether the first byte is no kind of an event: then no whole record can come.
+fn is_unknown(file: &[u8]) -> bool {
+    if file.len() == 0 {
+        return false;
+    }
+    8 < file[0]
+}
+
+// Whether a whole record can come behind `held` bytes, where n bytes were there and `have` of them before.
+fn may_come(file: &[u8], held: usize, have: usize, n: usize) -> bool {
+    if n <= have {
+        return false;
+    }
+    if held == 0 {
+        return true;
+    }
+    !is_unknown(file)
+}
+
+// Reads a piece behind the bytes that are held, writes its whole records, and keeps what is left.
+fn piece(file: &mut [u8], have: usize, out: &mut [u8]) -> Left
+    requires { ⌜ 32 * length (now file) ≤ length (now out) ⌝ }
+    ensures { λ r. ⌜ Pieced (now (file .entry)) (now (file .exit)) have r ⌝ }
+{
+    let n = pieces::refill(file, have);
+    let s = records(&file[..n], out);
+    let held = pieces::shift(file, s.passed, n);
+    Left {
+        held,
+        more: may_come(file, held, have, n),
+        sent: s.sent,
+    }
+}
+
+fn goes_on(s: Left) -> bool {
+    if s.sent {
+        return s.more;
+    }
+    false
+}
+
+// Writes records as long as they are whole: none is at the front of what is left.
+fn run(file: &mut [u8], out: &mut [u8]) -> Left
+    requires { ⌜ 32 * length (now file) ≤ length (now out) ⌝ }
+    ensures { λ r. ⌜ recordLength (take (r .held) (now (file .exit))) ≡ 0 ⌝ }
+{
+    let mut s = Left {
+        held: 0,
+        more: true,
+        sent: true,
+    };
     let mut turns = u64::MAX;
     while turns > 0 {
-        let s = piece(file, have, out);
-        let Step::On(n) = s else {
-            return left(s);
-        };
-        have = n;
-        if 12 <= n {
-            return n;
+        if !goes_on(s) {
+            return s;
         }
+        s = piece(file, s.held, out);
         turns -= 1;
     }
-    0
+    s
 }
 
-fn left(s: Step) -> usize {
-    match s {
-        Step::On(n) => n,
-        Step::Ended(n) => n,
-    }
-}
-
-// Writes bytes as numbers.
-fn numbers(file: &[u8], n: usize, out: &mut [u8]) -> bool {
+// Writes the first n bytes of a buffer as numbers.
+fn numbers(file: &[u8], n: usize, out: &mut [u8]) -> bool
+    requires { ⌜ 32 * length (now file) ≤ length (now out) ⌝ }
+{
     if file.len() < n {
         return false;
     }
-    let c = text::put_numbers(out, start(), &file[..n]);
+    let c = text::put_numbers(
+        out,
+        Cursor {
+            at: 0,
+            short: false,
+        },
+        &file[..n],
+    );
     let end = c.at;
-    pieces::flush(out, end)
+    send_numbers(&file[..n], out, end)
 }
 
-// Writes the rest of the input as bytes.
-fn rest(file: &mut [u8], have: usize, out: &mut [u8]) {
-    io::write_all(libc::STDOUT_FILENO, b"bytes");
-    let mut n = have;
+// Writes what is left of the file as a line of bytes: those that are held, and all that is still to be read.
+fn rest(file: &mut [u8], held: usize, out: &mut [u8])
+    requires { ⌜ (recordLength (take held (now file)) ≡ 0) × (32 * length (now file) ≤ length (now out)) ⌝ }
+{
+    if !send_word(b"bytes") {
+        return;
+    }
+    let mut n = held;
     let mut turns = u64::MAX;
     while turns > 0 {
         if n == 0 {
@@ -83,15 +167,14 @@ fn rest(file: &mut [u8], have: usize, out: &mut [u8]) {
         n = pieces::refill(file, 0);
         turns -= 1;
     }
-    io::write_all(libc::STDOUT_FILENO, b"\n");
+    pieces::flush(b"\n", 1);
 }
 
-// A byte of a record is at most seven bytes of text, so the text of a piece has room.
 fn main() {
-    let mut file = io::buffer();
-    let mut out = io::large_buffer();
-    let n = records(&mut file, &mut out);
-    if 0 < n {
-        rest(&mut file, n, &mut out);
+    let mut file = [0u8; PIECE];
+    let mut out = [0u8; TEXT];
+    let s = run(&mut file, &mut out);
+    if s.sent && 0 < s.held {
+        rest(&mut file, s.held, &mut out);
     }
 }

@@ -14,7 +14,6 @@ use Rattle.rules.specs.Step.{Stepped, step}
 use Rattle.rules.specs.Tables.{Board}
 use Rattle.rules.specs.declared.Answer.{Answer}
 use Rattle.saving.proofs.Whole.{set-up-lines}
-use Rattle.tracing.proofs.Digits.{either-short}
 use Rattle.tracing.proofs.Texts.{answer-short, event-said, memory-short}
 use Rattle.tracing.specs.Text.{answerText, behindText, cutText, eventText, imageBuffer, memoryText, recovered, recoveredText}
 use Rattle.undo.proofs.Laws.{test}
@@ -65,41 +64,3 @@ cut-said b d e = ap (λ (x : List ℕ). recoveredText (b .tables .size .lines) (
 
 pub taken : (n : ℕ) (l : List ℕ) → n ≤ length l → n ≡ length (take n l)
 taken n l h = simp length-take (omega arith)
-
--- ---- the length of the text of one event
-
-saved-short : (b : Board) (d : List ℕ) → length (recoveredText (b .tables .size .lines) (save b d)) ≤ 133120
-saved-short b d =
-    let r = save b d .answer in
-    let d′ = save b d .buffer in
-    let n = b .tables .size .lines in
-    test (eqb (r .refusal) 0)
-    (λ q. let h = eqb-true (r .refusal) 0 q in
-    rw (some-saved b d d′ r refl n h) (omega (arith, memory-short n (recovered (take (r .value) d′)), saved-lines b d d′ r refl h)))
-    (λ q. rw (none-saved b d d′ r refl n (eqb-false (r .refusal) 0 q)) (omega arith))
-
-cut-short : (b : Board) → length (cutText b) ≤ 133120
-cut-short b = omega (arith, saved-short b imageBuffer, ap length (cut-said b imageBuffer refl))
-
-behind-short : (k : ℕ) (s : Stepped) → length (behindText k s) ≤ 133120
-unfolding behindText
-behind-short k s =
-    either-short (eqb k 8) (cond (eqb (s .answer .refusal) 0) (cutText (s .board)) []) [] 133120
-    (either-short (eqb (s .answer .refusal) 0) (cutText (s .board)) [] 133120 (cut-short (s .board)) (omega arith))
-    (omega arith)
-
-event-short : (b : Board) (bs : List ℕ) → length (eventText b bs) ≤ 133183
-event-short b bs =
-    let k = getD bs 0 0 in
-    let s = step b bs in
-    omega (
-      arith,
-      ap length (event-said b bs),
-      length-append (answerText k (s .answer)) (behindText k s),
-      answer-short k (s .answer),
-      behind-short k s,
-    )
-
--- the text of an event, or nothing where there is no room for it
-pub traced-short : (room : Bool) (b : Board) (bs : List ℕ) → length (cond room (eventText b bs) []) ≤ 133183
-traced-short room b bs = either-short room (eventText b bs) [] 133183 (event-short b bs) (omega arith)

@@ -1,2 +1,4 @@
 pub mod Text
 pub mod Results
+pub mod Pieces
+pub mod Claim

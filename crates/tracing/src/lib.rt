@@ -6,15 +6,17 @@ use rules::Answer;
 use text::Cursor;
 ghost use Prim.Native.Nat.{ℕ, _*_, _+_, _≤_};
 ghost use mathlib.Core.Path.{_≡_};
-ghost use mathlib.Core.Bool.{Bool, true};
+ghost use mathlib.Core.Bool.{Bool, cond, true};
 ghost use mathlib.Core.List.{List, [], _∷_};
-ghost use lib.Dec.{leb};
+ghost use lib.Dec.{leb, ltb};
 ghost use lib.ListN.{getD, length};
 ghost use Rattle.rules.specs.Image.{save};
 ghost use Rattle.rows.specs.Whole.{boardOf};
-ghost use Rattle.text.specs.Write.{decimal};
+ghost use Rattle.text.specs.Write.{decimal, recordLength};
 ghost use Rattle.tracing.specs.Text.{answerText, behindText, cutText, imageBuffer, imageLine, lineText, memoryText, numberText, recovered, recoveredText, wordText};
 ghost use Rattle.tracing.specs.Results.{Put, TracedEvent};
+ghost use Rattle.tracing.specs.Pieces.{GoesOn, Ran};
+ghost use Rattle.tracing.specs.Claim.{WordsExpected};
 
 fn put_byte(dst: &mut [u8], at: usize, x: u8) -> usize
     requires { ⌜ at + length (x ∷ []) ≤ length (now dst) ⌝ }
@@ -86,11 +88,7 @@ fn image_line(image: &[u8], l: usize) -> [u64; 8]
     requires { ⌜ l ≤ 255 ⌝ }
     ensures { λ r. ⌜ r ≡ imageLine (now (image .entry)) l ⌝ }
 {
-    let at = 4 + (65 * l + 1);
-    if at + 64 <= image.len() {
-        return lines::take_line(image, at);
-    }
-    [0; 8]
+    lines::take_line(image, 4 + (65 * l + 1))
 }
 
 // The lines of the words of an image's first n lines.
@@ -257,18 +255,21 @@ fn trace_step(
     }
 }
 
-// Whether a buffer of n bytes has room from `at` on for the longest text of an event: a line of 63 bytes, and behind a cut 256 lines of eight words, 65 bytes each.
+// The longest text of an event: a line of 63 bytes, and behind a cut 256 lines of eight words, 65 bytes each.
+pub const LONGEST_TEXT: usize = 133183;
+
+// Whether a buffer of n bytes has room from `at` on for the longest text of an event.
 fn has_room(n: usize, at: usize) -> bool
     ensures { λ r. ⌜ r ≡ leb (at + 133183) n ⌝ }
 {
-    if n < 133183 {
+    if n < LONGEST_TEXT {
         return false;
     }
-    at <= n - 133183
+    at <= n - LONGEST_TEXT
 }
 
 // One event of a file: its step, and its text from `at` on. Without room nothing is done.
-pub fn trace_event(
+fn trace_event(
     h: Head,
     threads: &mut [[u64; 34]; 8],
     regions: &mut [[u32; 16]; 32],
@@ -307,3 +308,97 @@ pub fn trace_event(
         room: false,
     }
 }
+
+// Whether a record is due at the front of a piece: a whole one, or in the last piece any.
+fn is_due(rest: &[u8], last: bool) -> bool
+    ensures { λ r. ⌜ r ≡ cond last (ltb 0 (length (now (rest .entry)))) (ltb 0 (recordLength (now (rest .entry)))) ⌝ }
+{
+    if last {
+        return 0 < rest.len();
+    }
+    0 < text::record_length(rest)
+}
+
+// What a piece leaves: the numbers beside the rows, the place behind its text, the bytes that are run, and whether the next record found no room.
+pub struct TracedPiece {
+    pub head: Head,
+    pub at: usize,
+    pub passed: usize,
+    pub full: bool,
+}
+
+// The records of a piece of a file, one after the other, as long as there is room for their text. More bytes may come behind it, unless it is the last one.
+pub fn trace_piece(
+    h: Head,
+    threads: &mut [[u64; 34]; 8],
+    regions: &mut [[u32; 16]; 32],
+    owner: &mut [u32; 256],
+    lock: &mut [bool; 256],
+    cur: &mut [[u64; 8]; 256],
+    med: &mut [[u64; 8]; 256],
+    old: &mut [[u64; 8]; 256],
+    car: &mut [[u64; 8]; 256],
+    piece: &[u8],
+    last: bool,
+    dst: &mut [u8],
+    at: usize,
+) -> TracedPiece
+    ensures { λ r. ⌜ Ran last (boardOf h (now (threads .entry)) (now (regions .entry)) (now (owner .entry)) (now (lock .entry)) (now (cur .entry)) (now (med .entry)) (now (old .entry)) (now (car .entry))) (boardOf (r .head) (now (threads .exit)) (now (regions .exit)) (now (owner .exit)) (now (lock .exit)) (now (cur .exit)) (now (med .exit)) (now (old .exit)) (now (car .exit))) (now (piece .entry)) (now (dst .entry)) (now (dst .exit)) at r ⌝ }
+{
+    let mut next = h;
+    let mut p = at;
+    let mut i: usize = 0;
+    loop {
+        if !is_due(&piece[i..], last) {
+            return TracedPiece {
+                head: next,
+                at: p,
+                passed: i,
+                full: false,
+            };
+        }
+        let r = trace_event(
+            next,
+            threads,
+            regions,
+            owner,
+            lock,
+            cur,
+            med,
+            old,
+            car,
+            &piece[i..],
+            dst,
+            p,
+        );
+        next = r.head;
+        p = r.at;
+        if !r.room {
+            return TracedPiece {
+                head: next,
+                at: p,
+                passed: i,
+                full: true,
+            };
+        }
+        if r.passed == 0 {
+            return TracedPiece {
+                head: next,
+                at: p,
+                passed: piece.len(),
+                full: false,
+            };
+        }
+        i += r.passed;
+    }
+}
+
+// In whatever pieces a file comes, what is printed is the text of its records.
+pub fn pieces_are_right()
+    ensures { λ r. ⌜ GoesOn ⌝ }
+{}
+
+// The words behind an accepted cut are those of the expected memory.
+pub fn words_are_right()
+    ensures { λ r. ⌜ WordsExpected ⌝ }
+{}

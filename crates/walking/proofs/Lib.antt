@@ -1,3 +1,4 @@
 pub mod Turns
 pub mod Indices
 pub mod Walked
+pub mod Held

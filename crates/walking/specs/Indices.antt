@@ -1,9 +1,9 @@
 -- The log entries in the order in which they are restored, by their indices in the log.
-use Prim.Native.Nat.{suc, zero, ℕ}
+use Prim.Native.Nat.{_-_, suc, zero, ℕ}
 use mathlib.Core.Bool.{cond}
 use mathlib.Core.List.{List, [], _++_, _∷_, map}
 use lib.Dec.{eqb}
-use lib.ListN.{getD, length, take}
+use lib.ListN.{getD, length, replicate, take}
 use Rattle.rules.specs.declared.Found.the-variants.{At, Full}
 use Rattle.rules.specs.declared.Found.{Found}
 use Rattle.rules.specs.declared.Mark.{Mark}
@@ -12,6 +12,10 @@ use Rattle.walking.specs.declared.Order.{Order}
 -- the regions in the order of the walk, as the program holds them
 abbrev pub orderOf : Order → List ℕ
 orderOf o = take (o .count) (o .keys)
+
+-- and as it makes them: behind the keys there are zeros
+abbrev pub heldOrder : List ℕ → Order
+heldOrder ks = record { count = length ks; keys = ks ++ replicate (32 - length ks) 0 }
 
 -- the indices below n of the entries of region k, last entry first, in a log with these keys
 unfoldable pub lastFirst : ℕ → ℕ → List ℕ → List ℕ

@@ -14,7 +14,7 @@ ghost use lib.ListN.{length, take};
 ghost use Rattle.undo.specs.Table.{any};
 ghost use Rattle.rules.specs.Lists.{count, place};
 ghost use Rattle.rules.specs.Walk.{walkFrom};
-ghost use Rattle.walking.specs.Indices.{entryAt, indicesOf, nth, orderOf, walkIndices};
+ghost use Rattle.walking.specs.Indices.{entryAt, heldOrder, indicesOf, nth, orderOf, walkIndices};
 ghost use Rattle.walking.specs.Rest.{Removed};
 
 // The keys of the regions in the order of the walk: the first `count` of them.
@@ -91,7 +91,7 @@ fn remove(keys: &mut [u32; 32], deps: &mut [[u32; 4]; 32], n: usize, at: usize)
 
 // The regions in the order of the walk: always the first on which no remaining region depends.
 pub fn walk_order(held: usize, regions: [Listed; 32]) -> Order
-    ensures { λ r. ⌜ orderOf r ≡ walkFrom (length (take held regions)) (take held regions) ⌝ }
+    ensures { λ r. ⌜ r ≡ heldOrder (walkFrom (length (take held regions)) (take held regions)) ⌝ }
 {
     let mut left = least(held, 32);
     let mut keys = keys_of(regions);

@@ -5,7 +5,7 @@ use native.Mathlib.Omega.{arith}
 use borrow.Author.Needs.{needs}
 use Rattle.undo.specs.Table.{any}
 use Rattle.rules.specs.Tables.{noRegion}
-use Rattle.slots.proofs.Walk.{any-end, any-hit, any-more}
+use Rattle.lookup.proofs.Search.{any-end, any-hit, any-on}
 use Rattle.rows.proofs.Laws.{got, rows-length}
 use Rattle.rows.specs.Row.{regionsOf}
 use Rattle.commits.specs.Ripe.{ripe}
@@ -53,7 +53,7 @@ loop-again c =
     let s = at .before .before .args .regions .now in
     let n = rows-length s (at .before .rows32 .ensures) in (
       search needs,
-      sym (any-more ripe (at .loop .i) (regionsOf s) noRegion (omega (arith, n)) (rw (got s (at .loop .i)) (sym (c .before .is-ripe .ensures) ∙ c .if1 .left)))
+      (any-on ripe (at .loop .i) (regionsOf s) noRegion (omega (arith, n)) (rw (got s (at .loop .i)) (sym (c .before .is-ripe .ensures) ∙ c .if1 .left)))
           ∙ at .loop .inv .1,
     )
 

@@ -1,30 +1,34 @@
 use Prim.Native.Nat.{_-_, _≤_, ℕ}
 use mathlib.Core.Bool.{Bool}
 use mathlib.Core.List.{List}
-use mathlib.Core.Path.{_∙_, _≡_, refl, sym}
+use mathlib.Core.Path.{_∙_, _≡_, ap, refl, sym}
 use lib.ListN.{getD}
 use borrow.Author.Needs.{needs}
 use borrow.Author.Tests.{not-false, not-true}
-use Rattle.rules.specs.Commit.{settle, settled}
+use Rattle.rules.specs.Commit.{Settled, settle, settled}
 use Rattle.rules.specs.Tables.{noRegion}
 use Rattle.rows.proofs.Laws.{rows-length}
 use Rattle.rows.specs.Row.{regionsOf}
 use Rattle.rows.specs.Whole.{tablesOf}
 use Rattle.rows.specs.declared.Head.{Head}
-use Rattle.commits.proofs.Turns.{parts, settle-full, settle-more, settle-stop, settled-from, settled-none}
+use Rattle.commits.proofs.Turns.{counted, parts, settle-full, settle-more, settle-stop, settled-from, settled-none}
 use Rattle.commits.proofs.settle.Statement.{statement}
 use Rattle.commits.proofs.settle.Tie as tie
 
 abbrev Inv-loop : tie.InvT-loop
-Inv-loop threads₀ regions₀ n₀ threads regions n = (n ≤ 32) × ((h : Head) (owner : List ℕ) (lock : List Bool) → settle (32 - n) n (tablesOf h threads regions owner lock) ≡ settle 32 0 (tablesOf h threads₀ regions₀ owner lock))
+Inv-loop threads₀ regions₀ n₀ threads regions n = (n ≤ 32) × ((h : Head) (owner : List ℕ) (lock : List Bool) → counted n (settle (32 - n) (tablesOf h threads regions owner lock)) ≡ counted 0 (settle 32 (tablesOf h threads₀ regions₀ owner lock)))
 
 abbrev μ-loop : tie.MeasureT-loop
 μ-loop threads₀ regions₀ n₀ threads regions n = 32 - n
 
--- what the loop settles is what is to be settled
+-- what is to be settled
+abbrev wanted : (c : tie.After-done-all Inv-loop μ-loop) (h : Head) (owner : List ℕ) (lock : List Bool) → Settled
+wanted c h owner lock =
+    let s = c .before .before .before .before .before .before .before .args in settled (tablesOf h (s .threads .now) (s .regions .now) owner lock)
+
+-- what the loop settles is that
 whole : (c : tie.After-done-all Inv-loop μ-loop) (h : Head) (owner : List ℕ) (lock : List Bool)
-    → settle 32 0 (tablesOf h (c .before .before .before .before .before .before .before .args .threads .now) (c .done-all .last .0) owner lock)
-    ≡ settled (tablesOf h (c .before .before .before .before .before .before .before .args .threads .now) (c .before .before .before .before .before .before .before .args .regions .now) owner lock)
+    → settle 32 (tablesOf h (c .before .before .before .before .before .before .before .args .threads .now) (c .done-all .last .0) owner lock) ≡ wanted c h owner lock
 whole c h owner lock =
     let s = c .before .before .before .before .before .before .before .args in
     settled-from (tablesOf h (s .threads .now) (s .regions .now) owner lock) (regionsOf (c .done-all .last .0)) (rows-length (s .regions .now) (c .before .before .rows32 .ensures)) (c .done-all .ensures)
@@ -37,7 +41,8 @@ returns c =
     λ h owner lock.
     let s = c .before .before .before .args in
     let e = sym (c .before .has-ripe .ensures) ∙ not-true _ (c .if1 .taken) in
-    parts _ 0 _ (sym (settled-none (tablesOf h (s .threads .now) (s .regions .now) owner lock) e))
+    parts _ 0 (settled (tablesOf h (s .threads .now) (s .regions .now) owner lock))
+    (sym (settled-none (tablesOf h (s .threads .now) (s .regions .now) owner lock) e))
 
 rows32-requires : tie.Need-rows32-requires Inv-loop μ-loop
 rows32-requires c κs = search needs
@@ -81,7 +86,8 @@ returns-2 : tie.Need-returns-2 Inv-loop μ-loop
 returns-2 c =
     λ h owner lock.
     let at = c .before in
-    parts _ _ _ (sym (settle-full (at .loop .n) (tablesOf h (at .loop .threads) (at .loop .regions) owner lock) (search needs)) ∙ (at .loop .inv .1 h owner lock ∙ whole (at .before) h owner lock))
+    parts _ _ (wanted (at .before) h owner lock)
+    (sym (settle-full (at .loop .n) (tablesOf h (at .loop .threads) (at .loop .regions) owner lock) (search needs)) ∙ (at .loop .inv .1 h owner lock ∙ ap (counted 0) (whole (at .before) h owner lock)))
 
 returns-3 : tie.Need-returns-3 Inv-loop μ-loop
 returns-3 c =
@@ -89,7 +95,8 @@ returns-3 c =
     let x = c .before .before .before in
     let at = x .before .before .before in
     let e = rw (x .next-commit .ensures) at (sym (c .before .commits-at .ensures) ∙ not-true _ (c .if2 .taken)) in
-    parts _ _ _ (sym (settle-stop (32 - at .loop .n) (at .loop .n) (tablesOf h (at .loop .threads) (at .loop .regions) owner lock) e) ∙ (at .loop .inv .1 h owner lock ∙ whole (at .before) h owner lock))
+    parts _ _ (wanted (at .before) h owner lock)
+    (sym (settle-stop (32 - at .loop .n) (at .loop .n) (tablesOf h (at .loop .threads) (at .loop .regions) owner lock) e) ∙ (at .loop .inv .1 h owner lock ∙ ap (counted 0) (whole (at .before) h owner lock)))
 
 pub settle-spec : {M : Type 1} → statement M
 settle-spec =

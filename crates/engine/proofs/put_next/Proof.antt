@@ -1,5 +1,5 @@
-use lib.Seq.{length-sets}
-use mathlib.Core.Path.{refl}
+use mathlib.Core.Path.{_∙_, refl}
+use Rattle.lines.proofs.Room.{length-put, put-room}
 use native.Mathlib.Omega.{arith}
 use borrow.Author.Needs.{needs}
 use Rattle.engine.proofs.put_next.Statement.{statement}
@@ -34,7 +34,7 @@ same-length c = search needs
 
 -- src/lib.rt:192:1
 returns-3 : tie.Need-returns-3
-returns-3 c = (rw (c .before .before .put-answer .ensures, length-sets) refl, λ h. (refl, c .before .before .put-answer .ensures))
+returns-3 c = (rw (c .before .before .put-answer .ensures, length-put) refl, λ h. (refl, c .before .before .put-answer .ensures ∙ put-room 9 _ _ _ h))
 
 pub put-next-spec : {M : Type 1} → statement M
 put-next-spec =

@@ -1,4 +1,5 @@
 use Rattle.rules.specs.Record.{eventOf}
+use Rattle.lines.proofs.Room.{word-room}
 use borrow.Author.Needs.{needs}
 use Rattle.events.proofs.write_of.Statement.{statement}
 use Rattle.events.proofs.write_of.Tie as tie
@@ -17,7 +18,7 @@ take-word-requires c κs = search needs
 
 returns : tie.Need-returns
 unfolding eventOf
-returns c = rw (c .take-word .ensures)
+returns c = let s = c .before .before .before .before .before in rw (c .take-word .ensures, word-room (s .args .body .now) 3 (search needs))
 
 pub write-of-spec : {M : Type 1} → statement M
 write-of-spec =

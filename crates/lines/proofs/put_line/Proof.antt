@@ -17,17 +17,17 @@ abbrev μ-loop : tie.MeasureT-loop
 loop-holds : tie.Need-loop-holds Inv-loop μ-loop
 loop-holds c = (search needs, (refl, refl))
 
-mul-put-word : tie.Need-mul-put-word Inv-loop μ-loop
-mul-put-word c = search needs
+mul-set-word : tie.Need-mul-set-word Inv-loop μ-loop
+mul-set-word c = search needs
 
-mul-put-word-2 : tie.Need-mul-put-word-2 Inv-loop μ-loop
-mul-put-word-2 c = search needs
+mul-set-word-2 : tie.Need-mul-set-word-2 Inv-loop μ-loop
+mul-set-word-2 c = search needs
 
-array-read-put-word : tie.Need-array-read-put-word Inv-loop μ-loop
-array-read-put-word c = search needs
+array-read-set-word : tie.Need-array-read-set-word Inv-loop μ-loop
+array-read-set-word c = search needs
 
-put-word-requires : tie.Need-put-word-requires Inv-loop μ-loop
-put-word-requires c κs = search needs
+set-word-requires : tie.Need-set-word-requires Inv-loop μ-loop
+set-word-requires c κs = search needs
 
 add-w : tie.Need-add-w Inv-loop μ-loop
 add-w c = search needs
@@ -36,7 +36,7 @@ loop-less : tie.Need-loop-less Inv-loop μ-loop
 loop-less c = search needs
 
 loop-again : tie.Need-loop-again Inv-loop μ-loop
-loop-again c = let at = c .before .before .before .before .before .loop in let s = c .before .before .before .before .before .before .before in (search needs, (rw (c .before .before .put-word .ensures, length-sets (at .dst) (8 * at .w) (bytesOf 8 (getD (s .args .t2) (at .w) 0))) (at .inv .1 .0), rw (c .before .before .put-word .ensures) (sym (line-more (at .dst) 8 (at .w) (s .args .t2) (search needs)) ∙ at .inv .1 .1)))
+loop-again c = let at = c .before .before .before .before .before .loop in let s = c .before .before .before .before .before .before .before in (search needs, (rw (c .before .before .set-word .ensures, length-sets (at .dst) (8 * at .w) (bytesOf 8 (getD (s .args .t2) (at .w) 0))) (at .inv .1 .0), rw (c .before .before .set-word .ensures) (sym (line-more (at .dst) 8 (at .w) (s .args .t2) (search needs)) ∙ at .inv .1 .1)))
 
 same-length : tie.Need-same-length Inv-loop μ-loop
 same-length c = c .before .loop .inv .1 .0
@@ -51,10 +51,10 @@ put-line-spec =
     Inv-loop
     μ-loop
     loop-holds
-    mul-put-word
-    mul-put-word-2
-    array-read-put-word
-    put-word-requires
+    mul-set-word
+    mul-set-word-2
+    array-read-set-word
+    set-word-requires
     add-w
     loop-less
     loop-again

@@ -1,59 +1,43 @@
-use native.Mathlib.Nat.{add-zero}
-use lib.ListN.{length, length-set}
-use Prim.Native.Nat.{_+_, _-_, _≤_}
-use mathlib.Core.Path.{_∙_, _≡_, refl, sym}
-use lib.Seq.{sets}
+use Prim.Native.Nat.{_+_, _≤_}
+use mathlib.Core.Path.{_∙_, sym}
+use lib.ListN.{length}
+use borrow.Author.Tests.{leb-true}
+use lib.Seq.{length-sets}
+use Rattle.lines.proofs.Room.{put-room}
+use Rattle.lines.specs.Room.{putAt}
 use Rattle.rules.specs.Bytes.{bytesOf}
-use Rattle.lines.proofs.Words.{word-end, word-more}
 use borrow.Author.Needs.{needs}
 use Rattle.lines.proofs.put_word.Statement.{statement}
 use Rattle.lines.proofs.put_word.Tie as tie
+use Rattle.lines.proofs.put_word.Reads as reads
+use Rattle.lines.proofs.put_word.Lts as lts
+use Rattle.lines.proofs.has_room.Reads as has-room-reads
+use Rattle.lines.proofs.set_word.Reads as set-word-reads
 
-abbrev Inv-loop : tie.InvT-loop
-Inv-loop dst₀ at x y₀ k₀ dst y k = (k ≤ 8) × ((length dst ≡ length dst₀) × (sets dst (at + k) (bytesOf (8 - k) y) ≡ sets dst₀ at (bytesOf 8 x)))
+room : (c : tie.Then1) → c .before .before .before .args .at + 8 ≤ length (c .before .before .before .args .dst .now)
+room c = leb-true _ _ (sym (c .before .has-room .ensures) ∙ c .if1 .taken)
 
-abbrev μ-loop : tie.MeasureT-loop
-μ-loop dst₀ at x y₀ k₀ dst y k = 8 - k
+-- src/lib.rt:88:8
+has-room-requires : tie.Need-has-room-requires
+has-room-requires c κs = search needs
 
-loop-holds : tie.Need-loop-holds Inv-loop μ-loop
-loop-holds c = (search needs, (refl, rw add-zero))
+-- src/lib.rt:89:9
+set-word-requires : tie.Need-set-word-requires
+set-word-requires c κs = room (c .before)
 
-low-requires : tie.Need-low-requires Inv-loop μ-loop
-low-requires c κs = search needs
+-- src/lib.rt:85:1
+same-length : tie.Need-same-length
+same-length c = rw (c .before .before .set-word .ensures, length-sets)
 
-add-dst : tie.Need-add-dst Inv-loop μ-loop
-add-dst c = search needs
+-- src/lib.rt:85:1
+returns : tie.Need-returns
+returns c = let s = c .before .before .before .before .before .before .before .args in c .before .before .set-word .ensures ∙ sym (put-room 8 (s .dst .now) (s .at) (bytesOf 8 (s .x)) (room (c .before .before .before .before)))
 
-slice-write-dst : tie.Need-slice-write-dst Inv-loop μ-loop
-slice-write-dst c = search needs
-
-add-k : tie.Need-add-k Inv-loop μ-loop
-add-k c = search needs
-
-loop-less : tie.Need-loop-less Inv-loop μ-loop
-loop-less c = search needs
-
-loop-again : tie.Need-loop-again Inv-loop μ-loop
-loop-again c = let s = c .before .before .before .before in let at = c .before .before .loop in (search needs, (simp length-set (at .inv .1 .0), rw (c .low .ensures) (sym (word-more (at .dst) (s .args .at) 8 (at .k) (at .y) (search needs)) ∙ at .inv .1 .1)))
-
-same-length : tie.Need-same-length Inv-loop μ-loop
-same-length c = c .before .loop .inv .1 .0
-
-returns : tie.Need-returns Inv-loop μ-loop
-returns c = let s = c .before .before .before in let at = c .before .loop in sym (word-end (at .dst) (s .args .at + at .k) 8 (at .k) (at .y) (search needs)) ∙ at .inv .1 .1
+-- src/lib.rt:85:1
+returns-2 : tie.Need-returns-2
+unfolding putAt
+returns-2 c = rw (sym (c .before .has-room .ensures) ∙ c .if1 .left)
 
 pub put-word-spec : {M : Type 1} → statement M
 put-word-spec =
-    tie.close
-    (tie.spec
-    Inv-loop
-    μ-loop
-    loop-holds
-    low-requires
-    add-dst
-    slice-write-dst
-    add-k
-    loop-less
-    loop-again
-    same-length
-    returns)
+    tie.close (tie.spec has-room-requires set-word-requires same-length returns returns-2)

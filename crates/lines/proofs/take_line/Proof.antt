@@ -1,73 +1,36 @@
-use Rattle.lines.proofs.Words.{line-eight}
+use Prim.Native.Nat.{_+_, _≤_}
+use mathlib.Core.Path.{_∙_, sym}
+use lib.ListN.{length}
+use borrow.Author.Tests.{leb-true}
+use Rattle.lines.proofs.Room.{line-room}
+use Rattle.lines.specs.Room.{lineIn}
 use borrow.Author.Needs.{needs}
 use Rattle.lines.proofs.take_line.Statement.{statement}
 use Rattle.lines.proofs.take_line.Tie as tie
+use Rattle.lines.proofs.take_line.Reads as reads
+use Rattle.lines.proofs.take_line.Lts as lts
+use Rattle.lines.proofs.has_room.Reads as has-room-reads
+use Rattle.lines.proofs.line_at.Reads as line-at-reads
 
-take-word-requires : tie.Need-take-word-requires
-take-word-requires c κs = search needs
+room : (c : tie.Then1) → c .before .before .before .args .at + 64 ≤ length (c .before .before .before .args .src .now)
+room c = leb-true _ _ (sym (c .before .has-room .ensures) ∙ c .if1 .taken)
 
-add-take-word : tie.Need-add-take-word
-add-take-word c = search needs
+-- src/lib.rt:138:8
+has-room-requires : tie.Need-has-room-requires
+has-room-requires c κs = search needs
 
-take-word-requires-2 : tie.Need-take-word-requires-2
-take-word-requires-2 c κs = search needs
+-- src/lib.rt:139:9
+line-at-requires : tie.Need-line-at-requires
+line-at-requires c κs = room c
 
-add-take-word-2 : tie.Need-add-take-word-2
-add-take-word-2 c = search needs
-
-take-word-requires-3 : tie.Need-take-word-requires-3
-take-word-requires-3 c κs = search needs
-
-add-take-word-3 : tie.Need-add-take-word-3
-add-take-word-3 c = search needs
-
-take-word-requires-4 : tie.Need-take-word-requires-4
-take-word-requires-4 c κs = search needs
-
-add-take-word-4 : tie.Need-add-take-word-4
-add-take-word-4 c = search needs
-
-take-word-requires-5 : tie.Need-take-word-requires-5
-take-word-requires-5 c κs = search needs
-
-add-take-word-5 : tie.Need-add-take-word-5
-add-take-word-5 c = search needs
-
-take-word-requires-6 : tie.Need-take-word-requires-6
-take-word-requires-6 c κs = search needs
-
-add-take-word-6 : tie.Need-add-take-word-6
-add-take-word-6 c = search needs
-
-take-word-requires-7 : tie.Need-take-word-requires-7
-take-word-requires-7 c κs = search needs
-
-add-take-word-7 : tie.Need-add-take-word-7
-add-take-word-7 c = search needs
-
-take-word-requires-8 : tie.Need-take-word-requires-8
-take-word-requires-8 c κs = search needs
-
+-- src/lib.rt:135:1
 returns : tie.Need-returns
-returns c = let s = c .before .before .before .before .before .before .before .before .before in rw (line-eight (s .args .src .now) (s .args .at)) cc
+returns c = let s = c .before .before .before .before .args in c .line-at .ensures ∙ sym (line-room (s .src .now) (s .at) (room (c .before)))
+
+-- src/lib.rt:135:1
+returns-2 : tie.Need-returns-2
+unfolding lineIn
+returns-2 c = rw (sym (c .before .has-room .ensures) ∙ c .if1 .left)
 
 pub take-line-spec : {M : Type 1} → statement M
-take-line-spec =
-    tie.close
-    (tie.spec
-    take-word-requires
-    add-take-word
-    take-word-requires-2
-    add-take-word-2
-    take-word-requires-3
-    add-take-word-3
-    take-word-requires-4
-    add-take-word-4
-    take-word-requires-5
-    add-take-word-5
-    take-word-requires-6
-    add-take-word-6
-    take-word-requires-7
-    add-take-word-7
-    take-word-requires-8
-    returns)
+take-line-spec = tie.close (tie.spec has-room-requires line-at-requires returns returns-2)

@@ -1,102 +1,36 @@
-use native.Mathlib.Omega.{arith}
-use Rattle.lines.proofs.Words.{num-eight}
+use Prim.Native.Nat.{_+_, _≤_}
+use mathlib.Core.Path.{_∙_, sym}
+use lib.ListN.{length}
+use borrow.Author.Tests.{leb-true}
+use Rattle.lines.proofs.Room.{word-room}
+use Rattle.lines.specs.Room.{wordIn}
 use borrow.Author.Needs.{needs}
 use Rattle.lines.proofs.take_word.Statement.{statement}
 use Rattle.lines.proofs.take_word.Tie as tie
+use Rattle.lines.proofs.take_word.Reads as reads
+use Rattle.lines.proofs.take_word.Lts as lts
+use Rattle.lines.proofs.has_room.Reads as has-room-reads
+use Rattle.lines.proofs.word_at.Reads as word-at-reads
 
-shared-slice-read-join8 : tie.Need-shared-slice-read-join8
-shared-slice-read-join8 c = search needs
+room : (c : tie.Then1) → c .before .before .before .args .at + 8 ≤ length (c .before .before .before .args .src .now)
+room c = leb-true _ _ (sym (c .before .has-room .ensures) ∙ c .if1 .taken)
 
-add-join8 : tie.Need-add-join8
-add-join8 c = search needs
+-- src/lib.rt:97:8
+has-room-requires : tie.Need-has-room-requires
+has-room-requires c κs = search needs
 
-shared-slice-read-join8-2 : tie.Need-shared-slice-read-join8-2
-shared-slice-read-join8-2 c = search needs
+-- src/lib.rt:98:9
+word-at-requires : tie.Need-word-at-requires
+word-at-requires c κs = room c
 
-join8-requires : tie.Need-join8-requires
-join8-requires c κs = search needs
-
-add-join8-2 : tie.Need-add-join8-2
-add-join8-2 c = search needs
-
-shared-slice-read-join8-3 : tie.Need-shared-slice-read-join8-3
-shared-slice-read-join8-3 c = search needs
-
-add-join8-3 : tie.Need-add-join8-3
-add-join8-3 c = search needs
-
-shared-slice-read-join8-4 : tie.Need-shared-slice-read-join8-4
-shared-slice-read-join8-4 c = search needs
-
-join8-requires-2 : tie.Need-join8-requires-2
-join8-requires-2 c κs = search needs
-
-add-join8-4 : tie.Need-add-join8-4
-add-join8-4 c = search needs
-
-shared-slice-read-join8-5 : tie.Need-shared-slice-read-join8-5
-shared-slice-read-join8-5 c = search needs
-
-add-join8-5 : tie.Need-add-join8-5
-add-join8-5 c = search needs
-
-shared-slice-read-join8-6 : tie.Need-shared-slice-read-join8-6
-shared-slice-read-join8-6 c = search needs
-
-join8-requires-3 : tie.Need-join8-requires-3
-join8-requires-3 c κs = search needs
-
-add-join8-6 : tie.Need-add-join8-6
-add-join8-6 c = search needs
-
-shared-slice-read-join8-7 : tie.Need-shared-slice-read-join8-7
-shared-slice-read-join8-7 c = search needs
-
-add-join8-7 : tie.Need-add-join8-7
-add-join8-7 c = search needs
-
-shared-slice-read-join8-8 : tie.Need-shared-slice-read-join8-8
-shared-slice-read-join8-8 c = search needs
-
-join8-requires-4 : tie.Need-join8-requires-4
-join8-requires-4 c κs = search needs
-
-join16-requires : tie.Need-join16-requires
-join16-requires c κs = search needs
-
-join16-requires-2 : tie.Need-join16-requires-2
-join16-requires-2 c κs = search needs
-
-join32-requires : tie.Need-join32-requires
-join32-requires c κs = search needs
-
+-- src/lib.rt:94:1
 returns : tie.Need-returns
-returns c = let s = c .before .before .before .before .before .before .before .before .before .before .before .before .before .before .before .before in omega (arith, num-eight (s .args .src .now) (s .args .at) (s .pre))
+returns c = let s = c .before .before .before .before .args in c .word-at .ensures ∙ sym (word-room (s .src .now) (s .at) (room (c .before)))
+
+-- src/lib.rt:94:1
+returns-2 : tie.Need-returns-2
+unfolding wordIn
+returns-2 c = rw (sym (c .before .has-room .ensures) ∙ c .if1 .left)
 
 pub take-word-spec : {M : Type 1} → statement M
-take-word-spec =
-    tie.close
-    (tie.spec
-    shared-slice-read-join8
-    add-join8
-    shared-slice-read-join8-2
-    join8-requires
-    add-join8-2
-    shared-slice-read-join8-3
-    add-join8-3
-    shared-slice-read-join8-4
-    join8-requires-2
-    add-join8-4
-    shared-slice-read-join8-5
-    add-join8-5
-    shared-slice-read-join8-6
-    join8-requires-3
-    add-join8-6
-    shared-slice-read-join8-7
-    add-join8-7
-    shared-slice-read-join8-8
-    join8-requires-4
-    join16-requires
-    join16-requires-2
-    join32-requires
-    returns)
+take-word-spec = tie.close (tie.spec has-room-requires word-at-requires returns returns-2)

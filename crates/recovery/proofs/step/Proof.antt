@@ -1,5 +1,5 @@
--- `recovery::step` meets its contract: a walk of its MIR, by hand. The borrow of the place is opened and its number read; the slice is given up for good to `step_at`, at its own lifetime, share and name; of what `step_at` returned the number is stored in the place and the answer is returned; and the borrow of the place is closed at the new record.
--- All that the proof knows of `step_at` is that it meets its contract.
+-- `recovery::step` meets its contract: a walk of its MIR, by hand. The borrow of the place is opened and its number read; the slice is given up for good to `restored`, at its own lifetime, share and name; of what `restored` returned the number is stored in the place and the answer is returned; and the borrow of the place is closed at the new record.
+-- All that the proof knows of `restored` is that it meets its contract.
 -- Assumes nothing.
 use mathlib.Core.Path.{_≡_, refl, ap}
 use Prim.Native.Nat.{ℕ, _<_, _^_}
@@ -52,10 +52,10 @@ use Rattle.rules.proofs.Answer as R
 use Rattle.rules.proofs.Answer.Laws as R′
 use Rattle.recovery.proofs.Walked as S
 use Rattle.recovery.proofs.Walked.Laws as S′
-use Rattle.recovery.proofs.step_at as step-at
-use Rattle.recovery.proofs.step_at.Symbol as step-at-def
-use Rattle.recovery.proofs.step_at.Symbol.{name as #recovery·step-at}
-use Rattle.recovery.proofs.step_at.Met as step-at-thm
+use Rattle.recovery.proofs.restored as restored
+use Rattle.recovery.proofs.restored.Symbol as restored-def
+use Rattle.recovery.proofs.restored.Symbol.{name as #recovery·restored}
+use Rattle.recovery.proofs.restored.Met as restored-thm
 use Rattle.recovery.proofs.step.Key.{name as #recovery·step}
 use Rattle.recovery.proofs.step as step
 use Rattle.recovery.proofs.step.Statement as stated
@@ -65,8 +65,8 @@ abbrev stayed : Stays (step.ended .signature .params) (step.ended .kept)
 stayed = (gave-slice (0 ∷ []) tt (plain (λ _. u8)), (stay-ref (1 ∷ []) tt (plain (λ _. P.the-row)), tt))
 
 -- the contract that the proof cites
-abbrev StepAt : {M : Type 1} (𝓤 : URA M) (H : Heap 𝓤) (A : Atoms 𝓤) (mem : Memory → SProp 𝓤) (run : Routine → Fun 𝓤) → Contract 𝓤
-StepAt 𝓤 H A mem run = tripleOf 𝓤 H A step-at.signature (step-at.spec 𝓤 H A mem run)
+abbrev Restored : {M : Type 1} (𝓤 : URA M) (H : Heap 𝓤) (A : Atoms 𝓤) (mem : Memory → SProp 𝓤) (run : Routine → Fun 𝓤) → Contract 𝓤
+Restored 𝓤 H A mem run = tripleOf 𝓤 H A restored.signature (restored.spec 𝓤 H A mem run)
 
 module _ {M : Type 1} (𝓤 : URA M) (H : Heap 𝓤) (A : Atoms 𝓤) (W : Given 𝓤 H A) (at-mem : Memory → SProp 𝓤) (run : Routine → Fun 𝓤) (κ κ′ : Lft) (bounds : AllOutlive 2 (step.signature .outlives) (κ, (κ′, tt))) (q q′ : Share) (b o : ℕ) (γ : GName) (ys : List ℕ) (b′ o′ : ℕ) (γ′ : GName) (h : Place) where
   abbrev n : ℕ
@@ -101,23 +101,23 @@ module _ {M : Type 1} (𝓤 : URA M) (H : Heap 𝓤) (A : Atoms 𝓤) (W : Given
   n-fits : Is P.the-row h (mach n ∷ []) → n < 2 ^ 64
   n-fits g = LL.owed P.the-type P′.the-laws h _ g .0 .1
 
-  -- what `step_at`'s result says of its answer
+  -- what `restored`'s result says of its answer
   answered : (r : Walked) (w : Val) → Is S.the-row r (w ∷ []) → Is R.the-row (r .answer) (R′.lowered (r .answer) ∷ [])
   answered r w is = LL.owed S.the-type S′.the-laws r _ is .0
 
   abbrev Post : Val → SProp 𝓤
   Post = walkOf 𝓤 H A step.ended stayed (step.clauses 𝓤 H A at-mem run) .post (((κ, (κ′, tt)), (q, (q′, tt)), bounds, a, vals), tt)
 
-  -- what `step_at`'s triple binds outside: the borrow's own lifetime, share and value
-  abbrev to-step : StepAt 𝓤 H A at-mem run .Ghost
+  -- what `restored`'s triple binds outside: the borrow's own lifetime, share and value
+  abbrev to-step : Restored 𝓤 H A at-mem run .Ghost
   to-step = (((κ, tt), (q, tt), tt, (x, (n, tt)), (s ∷ [], (vint w64 n ∷ [], tt))), tt)
 
-  goes : n < 2 ^ 64 → ent 𝓤 (sep 𝓤 (A .lft κ q) (sem 𝓤 H A (MutSlice (named 0) κ u8 .own x (s ∷ [])))) (StepAt 𝓤 H A at-mem run .pre to-step)
+  goes : n < 2 ^ 64 → ent 𝓤 (sep 𝓤 (A .lft κ q) (sem 𝓤 H A (MutSlice (named 0) κ u8 .own x (s ∷ [])))) (Restored 𝓤 H A at-mem run .pre to-step)
   goes fits =
       qed W (‵ (flft κ q) ∷ ‵ (MutSlice (named 0) κ u8 .own x (s ∷ [])) ∷ []) ∵ nothing ! $ move ! (1 ∷ 0 ∷ []) $ join ! $
       nothing ! $ owned ! u64 (Is u64) (uint-makes 𝓤 H A W w64) n _ (refl, fits) $ fjoin ! $ move ! (2 ∷ 0 ∷ []) $ fjoin ! $ move ! (1 ∷ 0 ∷ []) $ join ! $ frame ! $ done !
 
-  -- what `step_at` ensures
+  -- what `restored` ensures
   abbrev Did : Walked → List ℕ → Type 0
   Did r zs = restoredOf zs r ≡ restore (lentAt ys h)
 
@@ -132,7 +132,7 @@ module _ {M : Type 1} (𝓤 : URA M) (H : Heap 𝓤) (A : Atoms 𝓤) (W : Given
       feqI ! (List Val) (vptr b′ o′ ∷ []) (vptr b′ o′ ∷ []) refl $ fjoin3 ! $ nothing ! $ move ! (1 ∷ 0 ∷ []) $ fjoin ! $ move ! (1 ∷ 0 ∷ []) $ fjoin ! $
       owned ! R.the-row (Is R.the-row) ((LL.makes R.the-type R′.the-plain) 𝓤 H A) (r .answer) _ is $ move ! (1 ∷ 0 ∷ []) $ done !
 
-  module _ (C : Calls 𝓤 H) (Λ : Loops 𝓤 H) (fm : FmC 𝓤 H (W .laws) C) (known : Triple 𝓤 (C #recovery·step-at) (StepAt 𝓤 H A at-mem run)) where
+  module _ (C : Calls 𝓤 H) (Λ : Loops 𝓤 H) (fm : FmC 𝓤 H (W .laws) C) (known : Triple 𝓤 (C #recovery·restored) (Restored 𝓤 H A at-mem run)) where
     walk : Room u8 (length ys) → ent 𝓤 (onEntry 𝓤 H A step.signature (κ, (κ′, tt)) (q, (q′, tt)) a vals) (WpFn 𝓤 H C Λ code.function (s ∷ vptr b′ o′ ∷ []) Post)
     walk room =
         qed W ((‵ (flft κ q) ⊛ ‵ (flft κ′ q′) ⊛ ‵ ftrue) ∷ ‵ (owns (MutSlice (named 0) κ u8 ∷ MutRef (named 1) κ′ P.the-row ∷ []) a vals) ∷ []) ∵ enter ! C Λ code.function (s ∷ vptr b′ o′ ∷ []) _ $
@@ -148,10 +148,10 @@ module _ {M : Type 1} (𝓤 : URA M) (H : Heap 𝓤) (A : Atoms 𝓤) (W : Given
         assigns ! (addr ! (from ! (fld ! refl (hop ! (look-in ! 19 (sub ! 0 refl (whole !))) (stop !))))) (from ! (stop !)) (init ! 11 refl (tt, tt)) $
         assigns ! (agg ! (and-then ! (load ! (from ! (stop !)) (look ! 11 refl)) (and-then ! (load ! (from ! (fld ! refl (stop !))) (look-in ! 19 (sub ! 1 refl (whole !)))) (no-more !)))) (from ! (stop !)) (init ! 9 refl (tt, (tt, (record { fits = room .0 }, tt)))) $
         -- the call
-        move ! (6 ∷ 8 ∷ []) $ use2 W (raw (StepAt 𝓤 H A at-mem run .pre to-step)) (goes (n-fits g)) $
-        calls-at ! fm (StepAt 𝓤 H A at-mem run) known to-step (and-then ! (load ! (from ! (stop !)) (look ! 8 refl)) (and-then ! (load ! (from ! (stop !)) (look ! 14 refl)) (no-more !))) (λ w.
-        use1 W (later (some (λ (r : Walked). ((‵ (flft κ q) ⊛ ‵ ftrue) ⊛ ‵ (S.the-row .own r (w ∷ []))) ⊛ raw (ensured 𝓤 H A step-at.ended (step-at.clauses 𝓤 H A at-mem run) (κ, tt) (x, (n, tt)) tt r)))) (id⊢ 𝓤 _) $ await ! tt $ pick ! (λ r.
-        split ! $ move ! (1 ∷ []) $ use1 W (some (λ (zs : List ℕ × (Unit {0} × Unit {0})). ‵ (lasts step-at.ended (κ, tt) (x, (n, tt)) zs) ⊛ raw (fact 𝓤 (Did r (zs .0))))) (id⊢ 𝓤 _) $ pick ! (λ zs.
+        move ! (6 ∷ 8 ∷ []) $ use2 W (raw (Restored 𝓤 H A at-mem run .pre to-step)) (goes (n-fits g)) $
+        calls-at ! fm (Restored 𝓤 H A at-mem run) known to-step (and-then ! (load ! (from ! (stop !)) (look ! 8 refl)) (and-then ! (load ! (from ! (stop !)) (look ! 14 refl)) (no-more !))) (λ w.
+        use1 W (later (some (λ (r : Walked). ((‵ (flft κ q) ⊛ ‵ ftrue) ⊛ ‵ (S.the-row .own r (w ∷ []))) ⊛ raw (ensured 𝓤 H A restored.ended (restored.clauses 𝓤 H A at-mem run) (κ, tt) (x, (n, tt)) tt r)))) (id⊢ 𝓤 _) $ await ! tt $ pick ! (λ r.
+        split ! $ move ! (1 ∷ []) $ use1 W (some (λ (zs : List ℕ × (Unit {0} × Unit {0})). ‵ (lasts restored.ended (κ, tt) (x, (n, tt)) zs) ⊛ raw (fact 𝓤 (Did r (zs .0))))) (id⊢ 𝓤 _) $ pick ! (λ zs.
         split ! $ move ! (1 ∷ []) $ heard ! (Did r (zs .0)) (λ e. fsplit ! $ fsplit ! $ move ! (1 ∷ []) $ feqL ! (λ l.
         -- [the last list; …; the token and the result; …]
         move ! (2 ∷ []) $ split ! $ move ! (1 ∷ []) $ peeks ! S.the-row (Is S.the-row) (shows 𝓤 H A S.the-row) r (w ∷ []) (λ is.
@@ -169,11 +169,11 @@ module _ {M : Type 1} (𝓤 : URA M) (H : Heap 𝓤) (A : Atoms 𝓤) (W : Given
         keep ! (0 ∷ 1 ∷ 2 ∷ 4 ∷ 5 ∷ []) $ by ! (exits r (zs .0) e l (answered r w is)))))))))))))))))
 
 module _ {M : Type 1} (𝓤 : URA M) (H : Heap 𝓤) (A : Atoms 𝓤) (W : Given 𝓤 H A) (mem : Memory → SProp 𝓤) (run : Routine → Fun 𝓤) where
-  step-walks : (C : Calls 𝓤 H) (Λ : Loops 𝓤 H) → FmC 𝓤 H (W .laws) C → Triple 𝓤 (C #recovery·step-at) (StepAt 𝓤 H A mem run) → Walks 𝓤 H A step.ended stayed (WpFn 𝓤 H C Λ code.function) (step.clauses 𝓤 H A mem run)
+  step-walks : (C : Calls 𝓤 H) (Λ : Loops 𝓤 H) → FmC 𝓤 H (W .laws) C → Triple 𝓤 (C #recovery·restored) (Restored 𝓤 H A mem run) → Walks 𝓤 H A step.ended stayed (WpFn 𝓤 H C Λ code.function) (step.clauses 𝓤 H A mem run)
   step-walks C Λ fm known = walked 𝓤 H A step.ended stayed (step.clauses 𝓤 H A mem run) (WpFn 𝓤 H C Λ code.function) (λ κs. (slice-vals, (ptr-vals, tt))) (λ κs. (mut-slice-tells (named 0) (κs .0) u8, (mut-tells (named 1) (κs .1 .0) P.the-row, tt)))
       (λ κs qs bounds a g are. via 𝓤 _ (fst∗ 𝓤 _ (emp 𝓤)) (walk 𝓤 H A W mem run (κs .0) (κs .1 .0) bounds (qs .0) (qs .1 .0) (a .0 .ptr .0) (a .0 .ptr .1) (a .0 .name) (a .0 .now) (a .1 .0 .ptr .0) (a .1 .0 .ptr .1) (a .1 .0 .name) (a .1 .0 .now) C Λ fm known (are .0 .0 .1)))
 
-step-meets : {M : Type 1} (𝓤 : URA M) (H : Heap 𝓤) (A : Atoms 𝓤) → Given 𝓤 H A → (mem : Memory → SProp 𝓤) (run : Routine → Fun 𝓤) (𝓣 : Tables 𝓤 H) → Triple 𝓤 (𝓣 .C #recovery·step-at) (StepAt 𝓤 H A mem run)
+step-meets : {M : Type 1} (𝓤 : URA M) (H : Heap 𝓤) (A : Atoms 𝓤) → Given 𝓤 H A → (mem : Memory → SProp 𝓤) (run : Routine → Fun 𝓤) (𝓣 : Tables 𝓤 H) → Triple 𝓤 (𝓣 .C #recovery·restored) (Restored 𝓤 H A mem run)
     → Meets 𝓤 H A step.signature (WpFn 𝓤 H (𝓣 .C) (𝓣 .Λ) code.function) (step.spec 𝓤 H A mem run)
 step-meets 𝓤 H A W mem run 𝓣 known =
     walk-meets 𝓤 H A step.ended stayed W (goes-gave-slice 𝓤 H A W 2 0 tt (plain (λ _. u8)), (goes-ref 𝓤 H A W 2 1 tt (plain (λ _. P.the-row)), tt)) (step.clauses 𝓤 H A mem run)
@@ -185,4 +185,4 @@ step-spec 𝓤 H 𝓜 𝓖 𝓡 =
     entered 𝓤 H (tripleOf 𝓤 H (𝓖 .A) step.signature (step.spec 𝓤 H (𝓖 .A) (𝓜 .mem) (𝓡 .run)))
     (tables 𝓤 H 𝓜 𝓡 code.env .C) (tables 𝓤 H 𝓜 𝓡 code.env .Λ) #recovery·step code.function (code.unfolded 𝓤 H 𝓜 𝓡)
     (step-meets 𝓤 H (𝓖 .A) (givenOf 𝓤 H 𝓜 𝓖) (𝓜 .mem) (𝓡 .run) (tablesOf 𝓤 H 𝓜 (tables 𝓤 H 𝓜 𝓡 code.env))
-    (cited 𝓤 H (StepAt 𝓤 H (𝓖 .A) (𝓜 .mem) (𝓡 .run)) 𝓜 𝓡 code.env #recovery·step-at step-at-def.routine code.calls-recovery·step-at (step-at-thm.met 𝓤 H 𝓜 𝓖 𝓡)))
+    (cited 𝓤 H (Restored 𝓤 H (𝓖 .A) (𝓜 .mem) (𝓡 .run)) 𝓜 𝓡 code.env #recovery·restored restored-def.routine code.calls-recovery·restored (restored-thm.met 𝓤 H 𝓜 𝓖 𝓡)))

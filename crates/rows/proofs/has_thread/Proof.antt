@@ -2,7 +2,7 @@ use Prim.Native.Nat.{_-_, _≤_}
 use mathlib.Core.Path.{_∙_, _≡_, refl, sym}
 use lib.ListN.{drop}
 use native.Mathlib.Omega.{arith}
-use Rattle.slots.proofs.Walk.{any-end, any-hit, any-more}
+use Rattle.lookup.proofs.Search.{any-end, any-hit, any-on}
 use Rattle.undo.specs.Table.{any}
 use Rattle.rules.specs.Tables.{noRegion}
 use Rattle.rules.specs.Refusal.{isOfThread}
@@ -48,7 +48,7 @@ loop-less c = search needs
 
 -- src/lib.rt:277:5
 loop-again : tie.Need-loop-again Inv-loop μ-loop
-loop-again c = let at = c .before .before .before in let s = at .before .before .args in let n = rows-length (s .regions .now) (at .before .rows32 .ensures) in (search needs, sym (any-more (isOfThread (s .t)) (at .loop .i) (regionsOf (s .regions .now)) noRegion (omega (arith, n)) (sym (c .before .is-of-thread .ensures) ∙ c .if1 .left)) ∙ at .loop .inv .1)
+loop-again c = let at = c .before .before .before in let s = at .before .before .args in let n = rows-length (s .regions .now) (at .before .rows32 .ensures) in (search needs, (any-on (isOfThread (s .t)) (at .loop .i) (regionsOf (s .regions .now)) noRegion (omega (arith, n)) (sym (c .before .is-of-thread .ensures) ∙ c .if1 .left)) ∙ at .loop .inv .1)
 
 -- src/lib.rt:272:1
 returns-2 : tie.Need-returns-2 Inv-loop μ-loop

@@ -1,7 +1,8 @@
+use lib.Seq.{set-out}
 use Prim.Native.Nat.{_/_}
 use mathlib.Core.Path.{sym}
 use lib.ListN.{length-map}
-use Rattle.rows.proofs.Laws.{map-set, set-behind, thread-at}
+use Rattle.rows.proofs.Laws.{map-set, thread-at}
 use Rattle.rows.specs.Row.{threadOf, threadsOf}
 use borrow.Author.Needs.{needs}
 use Rattle.rows.proofs.keep_of.Statement.{statement}
@@ -37,7 +38,7 @@ returns c = let s = c .before .before .before .before .before .args in rw (map-s
 
 -- src/lib.rt:598:1
 returns-2 : tie.Need-returns-2
-returns-2 c = let s = c .before .before .before .args in sym (set-behind (threadsOf (s .threads .now)) (s .k / 65536) _ (rw (length-map (s .threads .now) threadOf) (search needs)))
+returns-2 c = let s = c .before .before .before .args in sym (set-out (threadsOf (s .threads .now)) (s .k / 65536) _ (rw (length-map (s .threads .now) threadOf) (search needs)))
 
 pub keep-of-spec : {M : Type 1} → statement M
 keep-of-spec =

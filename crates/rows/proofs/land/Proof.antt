@@ -1,3 +1,4 @@
+use lib.Seq.{set-out}
 use mathlib.Core.Path.{ap, sym}
 use native.Mathlib.Omega.{arith}
 use Rattle.rules.specs.Acknowledge.{landed}
@@ -5,7 +6,7 @@ use Rattle.rules.specs.Lists.{place}
 use Rattle.rules.specs.Slots.{carries}
 use Rattle.rules.specs.Tables.{noSlot, withSlots}
 use Rattle.rows.specs.Row.{regionOf}
-use Rattle.rows.proofs.Laws.{emptied, set-behind, slots-length}
+use Rattle.rows.proofs.Laws.{emptied, slots-length}
 use borrow.Author.Needs.{needs}
 use Rattle.rows.proofs.land.Statement.{statement}
 use Rattle.rows.proofs.land.Tie as tie
@@ -42,7 +43,7 @@ returns c = let s = c .before .before .before .before .before .args in let w = s
 -- src/lib.rt:420:1
 returns-2 : tie.Need-returns-2
 unfolding landed
-returns-2 c = let s = c .before .before .before .before .before .args in let w = s .row .now in let f = c .before .flight-slot in sym (ap (λ ss. withSlots ss (regionOf w)) (set-behind (regionOf w .slots) (place (carries (s .l)) (regionOf w .slots)) noSlot (omega (arith, f .ensures, c .if1 .left, slots-length w))))
+returns-2 c = let s = c .before .before .before .before .before .args in let w = s .row .now in let f = c .before .flight-slot in sym (ap (λ ss. withSlots ss (regionOf w)) (set-out (regionOf w .slots) (place (carries (s .l)) (regionOf w .slots)) noSlot (omega (arith, f .ensures, c .if1 .left, slots-length w))))
 
 pub land-spec : {M : Type 1} → statement M
 land-spec =

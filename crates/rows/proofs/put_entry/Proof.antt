@@ -1,4 +1,5 @@
-use Rattle.rows.proofs.Laws.{entry-stored, log-length, set-behind}
+use lib.Seq.{set-out}
+use Rattle.rows.proofs.Laws.{entry-stored, log-length}
 use mathlib.Core.Path.{sym}
 use Rattle.rows.specs.Row.{threadOf}
 use borrow.Author.Needs.{needs}
@@ -32,7 +33,7 @@ returns c = let s = c .before .before .before .before .args in rw (entry-stored 
 -- src/lib.rt:497:1
 returns-2 : tie.Need-returns-2
 unfolding threadOf
-returns-2 c = let s = c .before .before .before .args in rw (set-behind (threadOf (s .row .now) .log) (s .i) (s .e) (rw (log-length (s .row .now) (c .before .words34 .ensures)) (search needs)))
+returns-2 c = let s = c .before .before .before .args in rw (set-out (threadOf (s .row .now) .log) (s .i) (s .e) (rw (log-length (s .row .now) (c .before .words34 .ensures)) (search needs)))
 
 pub put-entry-spec : {M : Type 1} → statement M
 put-entry-spec =

@@ -1,6 +1,7 @@
+use lib.Seq.{set-out}
 use mathlib.Core.Path.{sym}
 use lib.ListN.{length-map}
-use Rattle.rows.proofs.Laws.{map-set, set-behind, thread-at}
+use Rattle.rows.proofs.Laws.{map-set, thread-at}
 use Rattle.rows.specs.Row.{threadOf, threadsOf}
 use borrow.Author.Needs.{needs}
 use Rattle.rows.proofs.set_thread.Statement.{statement}
@@ -32,7 +33,7 @@ returns c = let s = c .before .before .before .before .before .args in rw (map-s
 
 -- src/lib.rt:587:1
 returns-2 : tie.Need-returns-2
-returns-2 c = let s = c .before .before .before .args in sym (set-behind (threadsOf (s .threads .now)) (s .t) _ (rw (length-map (s .threads .now) threadOf) (search needs)))
+returns-2 c = let s = c .before .before .before .args in sym (set-out (threadsOf (s .threads .now)) (s .t) _ (rw (length-map (s .threads .now) threadOf) (search needs)))
 
 pub set-thread-spec : {M : Type 1} → statement M
 set-thread-spec =

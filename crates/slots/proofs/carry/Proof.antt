@@ -1,26 +1,26 @@
+use borrow.Author.Needs.{needs}
 use Rattle.slots.proofs.carry.Statement.{statement}
 use Rattle.slots.proofs.carry.Tie as tie
-use mathlib.Core.Path.{refl}
-use borrow.Author.Needs.{needs}
+use Rattle.slots.proofs.carry.Reads as reads
+use Rattle.slots.proofs.carry.Lts as lts
+use Rattle.lines.proofs.line_of.Reads as line-of-reads
+use Rattle.lines.proofs.set_line.Reads as set-line-reads
 
-mul-x : tie.Need-mul-x
-mul-x c = search needs
+-- src/lib.rt:164:13
+line-of-requires : tie.Need-line-of-requires
+line-of-requires c κs = search needs
 
-element-copy-out-x : tie.Need-element-copy-out-x
-element-copy-out-x c = search needs
+-- src/lib.rt:165:9
+set-line-requires : tie.Need-set-line-requires
+set-line-requires c κs = search needs
 
-mul-x-2 : tie.Need-mul-x-2
-mul-x-2 c = search needs
-
-element-set-from-x : tie.Need-element-set-from-x
-element-set-from-x c = search needs
-
+-- src/lib.rt:160:1
 returns : tie.Need-returns
-returns c = rw (c .before .if1 .taken) refl
+returns c = rw (c .set-line .ensures, c .before .before .line-of .ensures, c .before .before .before .if1 .taken)
 
+-- src/lib.rt:160:1
 returns-2 : tie.Need-returns-2
 returns-2 c = search needs
 
 pub carry-spec : {M : Type 1} → statement M
-carry-spec =
-    tie.close (tie.spec mul-x element-copy-out-x mul-x-2 element-set-from-x returns returns-2)
+carry-spec = tie.close (tie.spec line-of-requires set-line-requires returns returns-2)

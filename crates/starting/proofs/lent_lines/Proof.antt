@@ -4,6 +4,7 @@ use mathlib.Core.List.{_++_}
 use lib.ListN.{length, length-set, take}
 use Rattle.rules.specs.Tables.{Lent, lentFrom, startLines}
 use Rattle.starting.proofs.Laws.{all-lines, fill-end, fill-more}
+use Rattle.lines.proofs.Room.{lent-in}
 use borrow.Author.Needs.{needs}
 use Rattle.starting.proofs.lent_lines.Statement.{statement}
 use Rattle.starting.proofs.lent_lines.Tie as tie
@@ -17,8 +18,11 @@ abbrev μ-loop : tie.MeasureT-loop
 loop-holds : tie.Need-loop-holds Inv-loop μ-loop
 loop-holds c = (search needs, (refl, all-lines (c .before .args .memory .now)))
 
-lent-line-requires : tie.Need-lent-line-requires Inv-loop μ-loop
-lent-line-requires c κs = search needs
+mul-take-line : tie.Need-mul-take-line Inv-loop μ-loop
+mul-take-line c = search needs
+
+take-line-requires : tie.Need-take-line-requires Inv-loop μ-loop
+take-line-requires c κs = search needs
 
 mul-m : tie.Need-mul-m Inv-loop μ-loop
 mul-m c = search needs
@@ -33,7 +37,7 @@ loop-less : tie.Need-loop-less Inv-loop μ-loop
 loop-less c = search needs
 
 loop-again : tie.Need-loop-again Inv-loop μ-loop
-loop-again c = let s = c .before .before .before .before in let at = c .before .before .loop in (search needs, (simp length-set (at .inv .1 .0), rw (c .lent-line .ensures) (sym (fill-more (s .args .memory .now) (at .m) 256 (at .i) (search needs) (at .inv .1 .0)) ∙ at .inv .1 .1)))
+loop-again c = let s = c .before .before .before .before in let at = c .before .before .loop in (search needs, (simp length-set (at .inv .1 .0), rw (c .take-line .ensures, lent-in (s .args .memory .now) (at .i)) (sym (fill-more (s .args .memory .now) (at .m) 256 (at .i) (search needs) (at .inv .1 .0)) ∙ at .inv .1 .1)))
 
 returns : tie.Need-returns Inv-loop μ-loop
 returns c = let s = c .before .before .before in let at = c .before .loop in sym (fill-end (s .args .memory .now) (at .m) 256 (at .i) (search needs) (at .inv .1 .0)) ∙ at .inv .1 .1
@@ -45,7 +49,8 @@ lent-lines-spec =
     Inv-loop
     μ-loop
     loop-holds
-    lent-line-requires
+    mul-take-line
+    take-line-requires
     mul-m
     array-set-from-m
     add-i

@@ -7,91 +7,88 @@ use Rattle.steps.proofs.log_line.Statement.{statement}
 use Rattle.steps.proofs.log_line.Tie as tie
 use Rattle.steps.proofs.log_line.Reads as reads
 use Rattle.steps.proofs.log_line.Lts as lts
+use Rattle.lines.proofs.line_of.Reads as line-of-reads
 use Rattle.rows.proofs.entry_count.Reads as entry-count-reads
 use Rattle.rows.proofs.free_entry.Reads as free-entry-reads
 use Rattle.rows.proofs.put_entry.Reads as put-entry-reads
 use Rattle.rows.proofs.threads8.Reads as threads8-reads
 
--- src/lib.rt:57:5
+-- src/lib.rt:85:5
 threads8-requires : tie.Need-threads8-requires
 threads8-requires c κs = search needs
 
--- src/lib.rt:60:30
+-- src/lib.rt:88:30
 mul-free-entry : tie.Need-mul-free-entry
 mul-free-entry c = search needs
 
--- src/lib.rt:60:30
+-- src/lib.rt:88:30
 index-1-free-entry : tie.Need-index-1-free-entry
 index-1-free-entry c = search needs
 
--- src/lib.rt:60:9
+-- src/lib.rt:88:9
 free-entry-requires : tie.Need-free-entry-requires
 free-entry-requires c κs = search needs
 
--- src/lib.rt:64:33
+-- src/lib.rt:92:33
 mul-entry-count : tie.Need-mul-entry-count
 mul-entry-count c = search needs
 
--- src/lib.rt:64:33
+-- src/lib.rt:92:33
 index-1-entry-count : tie.Need-index-1-entry-count
 index-1-entry-count c = search needs
 
--- src/lib.rt:64:15
+-- src/lib.rt:92:15
 entry-count-requires : tie.Need-entry-count-requires
 entry-count-requires c κs = search needs
 
--- src/lib.rt:67:21
+-- src/lib.rt:95:21
 mul-put-entry : tie.Need-mul-put-entry
 mul-put-entry c = search needs
 
--- src/lib.rt:67:21
+-- src/lib.rt:95:21
 index-1-put-entry : tie.Need-index-1-put-entry
 index-1-put-entry c = search needs
 
--- src/lib.rt:67:5
+-- src/lib.rt:95:5
 put-entry-requires : tie.Need-put-entry-requires
 put-entry-requires c κs = search needs
 
--- src/lib.rt:68:13
+-- src/lib.rt:96:9
+line-of-requires : tie.Need-line-of-requires
+line-of-requires c κs = search needs
+
+-- src/lib.rt:97:9
 mul-before : tie.Need-mul-before
 mul-before c = search needs
 
--- src/lib.rt:68:13
-element-copy-out-before : tie.Need-element-copy-out-before
-element-copy-out-before c = search needs
-
--- src/lib.rt:69:9
-mul-before-2 : tie.Need-mul-before-2
-mul-before-2 c = search needs
-
--- src/lib.rt:69:9
+-- src/lib.rt:97:9
 add-before : tie.Need-add-before
 add-before c = let s = c .before .before .before .before .before .before .before .before .before in let h = free-below (s .args .threads .now) (s .args .t) (omega (arith, s .pre .0, c .before .before .before .before .before .before .before .threads8 .ensures)) (s .pre .1) in omega (arith, h, s .pre .0, c .before .before .before .before .before .free-entry .ensures)
 
--- src/lib.rt:69:5
-mul-before-3 : tie.Need-mul-before-3
-mul-before-3 c = let s = c .before .before .before .before .before .before .before .before .before in let h = free-below (s .args .threads .now) (s .args .t) (omega (arith, s .pre .0, c .before .before .before .before .before .before .before .threads8 .ensures)) (s .pre .1) in omega (arith, h, s .pre .0, c .before .before .before .before .before .free-entry .ensures)
+-- src/lib.rt:97:5
+mul-before-2 : tie.Need-mul-before-2
+mul-before-2 c = let s = c .before .before .before .before .before .before .before .before .before in let h = free-below (s .args .threads .now) (s .args .t) (omega (arith, s .pre .0, c .before .before .before .before .before .before .before .threads8 .ensures)) (s .pre .1) in omega (arith, h, s .pre .0, c .before .before .before .before .before .free-entry .ensures)
 
--- src/lib.rt:69:5
+-- src/lib.rt:97:5
 element-set-from-before : tie.Need-element-set-from-before
 element-set-from-before c = let s = c .before .before .before .before .before .before .before .before .before in let h = free-below (s .args .threads .now) (s .args .t) (omega (arith, s .pre .0, c .before .before .before .before .before .before .before .threads8 .ensures)) (s .pre .1) in omega (arith, h, s .pre .0, c .before .before .before .before .before .free-entry .ensures)
 
--- src/lib.rt:70:5
+-- src/lib.rt:98:5
 mul-owner : tie.Need-mul-owner
 mul-owner c = search needs
 
--- src/lib.rt:70:5
+-- src/lib.rt:98:5
 element-write-owner : tie.Need-element-write-owner
 element-write-owner c = search needs
 
--- src/lib.rt:71:5
+-- src/lib.rt:99:5
 element-write-lock : tie.Need-element-write-lock
 element-write-lock c = search needs
 
--- src/lib.rt:44:1
+-- src/lib.rt:72:1
 returns : tie.Need-returns
 unfolding logged
-returns c = λ h regions med car. let s = c .before .before .before .before .before .before .before .before .before in rw (map-set threadOf _ _ _, c .before .put-entry .ensures, c .before .before .before .entry-count .ensures, c .before .before .before .before .before .free-entry .ensures, thread-at (s .args .threads .now) (s .args .t) (omega (arith, s .pre .0, c .before .before .before .before .before .before .before .threads8 .ensures)))
+returns c = λ h regions med car. let s = c .before .before .before .before .before .before .before .before .before in rw (map-set threadOf _ _ _, c .line-of .ensures, c .before .put-entry .ensures, c .before .before .before .entry-count .ensures, c .before .before .before .before .before .free-entry .ensures, thread-at (s .args .threads .now) (s .args .t) (omega (arith, s .pre .0, c .before .before .before .before .before .before .before .threads8 .ensures)))
 
 pub log-line-spec : {M : Type 1} → statement M
 log-line-spec =
@@ -107,11 +104,10 @@ log-line-spec =
     mul-put-entry
     index-1-put-entry
     put-entry-requires
+    line-of-requires
     mul-before
-    element-copy-out-before
-    mul-before-2
     add-before
-    mul-before-3
+    mul-before-2
     element-set-from-before
     mul-owner
     element-write-owner

@@ -1,5 +1,6 @@
 use Rattle.text.proofs.Fields.{write-text}
-use mathlib.Core.Path.{sym}
+use mathlib.Core.Path.{_∙_, sym}
+use Rattle.lines.proofs.Room.{word-room}
 use native.Mathlib.Omega.{arith}
 use lib.Seq.{length-take-le}
 use borrow.Author.Needs.{needs}
@@ -22,7 +23,7 @@ same-length : tie.Need-same-length
 same-length c = search needs
 
 returns : tie.Need-returns
-returns c = let s = c .before .before .before .before .before .before .before .before .before .before .before .before in rw (write-text _ (s .args .body .now) (s .pre)) (rw (c .before .before .put-number .ensures) cc)
+returns c = let s = c .before .before .before .before .before .before .before .before .before .before .before .before in rw (write-text _ (s .args .body .now) (s .pre)) (let w = c .before .before .before .take-word .ensures ∙ word-room (s .args .body .now) 3 (omega (arith, s .pre)) in rw (c .before .before .put-number .ensures) cc)
 
 pub put-write-spec : {M : Type 1} → statement M
 put-write-spec =

@@ -1,9 +1,11 @@
 use Rattle.text.proofs.Main.{round-trip}
+use Rattle.text.proofs.Lines.{lines-in-pieces}
+use Rattle.text.proofs.Pieces.{in-pieces}
 use Rattle.text.proofs.text_is_right.Statement.{statement}
 use Rattle.text.proofs.text_is_right.Tie as tie
 
 returns : tie.Need-returns
-returns c = round-trip
+returns c = (round-trip, (in-pieces, lines-in-pieces))
 
 pub text-is-right-spec : {M : Type 1} → statement M
 text-is-right-spec = tie.close (tie.spec returns)

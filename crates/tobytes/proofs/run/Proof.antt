@@ -1,26 +1,21 @@
+use mathlib.Core.Path.{_≡_, refl}
 use lib.ListN.{length}
-use mathlib.Core.Path.{_≡_}
+use native.Mathlib.Omega.{arith}
 use borrow.Author.Needs.{needs}
 use Rattle.tobytes.proofs.run.Statement.{statement}
 use Rattle.tobytes.proofs.run.Tie as tie
 
 abbrev Inv-loop : tie.InvT-loop
-Inv-loop text₀ out₀ have₀ before₀ turns₀ text out have before turns = (length text ≡ length text₀) × (length out ≡ length out₀)
+Inv-loop text₀ out₀ s₀ turns₀ text out s turns = (length text ≡ length text₀) × (length out ≡ length out₀)
 
 abbrev μ-loop : tie.MeasureT-loop
-μ-loop text₀ out₀ have₀ before₀ turns₀ text out have before turns = turns
+μ-loop text₀ out₀ s₀ turns₀ text out s turns = turns
 
 loop-holds : tie.Need-loop-holds Inv-loop μ-loop
 loop-holds c = search needs
 
-piece-requires : tie.Need-piece-requires Inv-loop μ-loop
-piece-requires c κs = search needs
-
-enum-known-s : tie.Need-enum-known-s Inv-loop μ-loop
-enum-known-s c = search needs
-
-enum-told : tie.Need-enum-told Inv-loop μ-loop
-enum-told c = search needs
+goes-on-requires : tie.Need-goes-on-requires Inv-loop μ-loop
+goes-on-requires c κs = search needs
 
 same-length : tie.Need-same-length Inv-loop μ-loop
 same-length c = search needs
@@ -30,6 +25,9 @@ same-length-2 c = search needs
 
 returns : tie.Need-returns Inv-loop μ-loop
 returns c = search needs
+
+piece-requires : tie.Need-piece-requires Inv-loop μ-loop
+piece-requires c κs = search needs
 
 sub-turns : tie.Need-sub-turns Inv-loop μ-loop
 sub-turns c = search needs
@@ -56,12 +54,11 @@ run-spec =
     Inv-loop
     μ-loop
     loop-holds
-    piece-requires
-    enum-known-s
-    enum-told
+    goes-on-requires
     same-length
     same-length-2
     returns
+    piece-requires
     sub-turns
     loop-less
     loop-again

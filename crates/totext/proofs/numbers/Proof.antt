@@ -1,6 +1,10 @@
-use lib.Seq.{length-take-le}
-use mathlib.Core.Path.{sym}
 use native.Mathlib.Omega.{arith}
+use mathlib.Core.Path.{sym}
+use lib.ListN.{take}
+use lib.Seq.{length-take-le}
+use Rattle.rules.specs.Lists.{flat}
+use Rattle.text.proofs.Lengths.{numbers-short, put-front}
+use Rattle.text.specs.Write.{numberText}
 use borrow.Author.Needs.{needs}
 use Rattle.totext.proofs.numbers.Statement.{statement}
 use Rattle.totext.proofs.numbers.Tie as tie
@@ -8,17 +12,17 @@ use Rattle.totext.proofs.numbers.Tie as tie
 returns : tie.Need-returns
 returns c = search needs
 
-start-requires : tie.Need-start-requires
-start-requires c κs = search needs
-
 slice-aggregate-put-numbers : tie.Need-slice-aggregate-put-numbers
-slice-aggregate-put-numbers c = let s = c .before .before .before .before .before .before in sym (length-take-le (s .args .n) (s .args .file .now) (omega arith))
+slice-aggregate-put-numbers c = let s = c .before .before .before .before .before in sym (length-take-le (s .args .n) (s .args .file .now) (omega arith))
 
 put-numbers-requires : tie.Need-put-numbers-requires
 put-numbers-requires c κs = search needs
 
-flush-requires : tie.Need-flush-requires
-flush-requires c κs = search needs
+slice-aggregate-send-numbers : tie.Need-slice-aggregate-send-numbers
+slice-aggregate-send-numbers c = let s = c .before .before .before .before .before .before .before .before .before in sym (length-take-le (s .args .n) (s .args .file .now) (omega arith))
+
+send-numbers-requires : tie.Need-send-numbers-requires
+send-numbers-requires c κs = let p = c .before .before .before .before in let s = p .before .before .before .before .before .before in let a = take (s .args .n) (s .args .file .now) in put-front (s .args .out .now) (p .put-numbers .last .0) (flat numberText a) (p .put-numbers .result) (p .put-numbers .ensures) (omega (arith, numbers-short a, length-take-le (s .args .n) (s .args .file .now) (omega arith), s .pre))
 
 same-length : tie.Need-same-length
 same-length c = search needs
@@ -31,9 +35,9 @@ numbers-spec =
     tie.close
     (tie.spec
     returns
-    start-requires
     slice-aggregate-put-numbers
     put-numbers-requires
-    flush-requires
+    slice-aggregate-send-numbers
+    send-numbers-requires
     same-length
     returns-2)

@@ -1,5 +1,9 @@
+use native.Mathlib.Omega.{arith}
+use mathlib.Core.Path.{_∙_, ap, sym}
+use Prim.Native.Nat.{ℕ}
+use lib.ListN.{drop, take}
 use lib.Seq.{length-take-le}
-use mathlib.Core.Path.{sym}
+use Rattle.pieces.proofs.Move.{refilled-front, shifted-front}
 use borrow.Author.Needs.{needs}
 use Rattle.totext.proofs.piece.Statement.{statement}
 use Rattle.totext.proofs.piece.Tie as tie
@@ -7,64 +11,40 @@ use Rattle.totext.proofs.piece.Tie as tie
 refill-requires : tie.Need-refill-requires
 refill-requires c κs = search needs
 
-same-length : tie.Need-same-length
-same-length c = search needs
+slice-reshare-prefix-records : tie.Need-slice-reshare-prefix-records
+slice-reshare-prefix-records c = search needs
 
-returns : tie.Need-returns
-returns c = search needs
+slice-aggregate-records : tie.Need-slice-aggregate-records
+slice-aggregate-records c = let r = c .before .before .before .refill in sym (length-take-le (r .result) (r .last .0) (r .ensures .counts))
 
-start-requires : tie.Need-start-requires
-start-requires c κs = search needs
-
-slice-reshare-prefix-put-whole : tie.Need-slice-reshare-prefix-put-whole
-slice-reshare-prefix-put-whole c = search needs
-
-slice-aggregate-put-whole : tie.Need-slice-aggregate-put-whole
-slice-aggregate-put-whole c = let r = c .before .before .before .before .before .before .refill in sym (length-take-le (r .result) (r .last .0) (r .ensures))
-
-put-whole-requires : tie.Need-put-whole-requires
-put-whole-requires c κs = search needs
-
-flush-requires : tie.Need-flush-requires
-flush-requires c κs = search needs
+records-requires : tie.Need-records-requires
+records-requires c κs = let f = c .before .before .before .before in let r = f .refill in let s = f .before .before .before .before in omega (arith, length-take-le (r .result) (r .last .0) (r .ensures .counts), r .ensures .counts, r .kept .0, s .pre)
 
 shift-requires : tie.Need-shift-requires
 shift-requires c κs = search needs
 
+may-come-requires : tie.Need-may-come-requires
+may-come-requires c κs = search needs
+
+same-length : tie.Need-same-length
+same-length c = search needs
+
 same-length-2 : tie.Need-same-length-2
 same-length-2 c = search needs
 
-same-length-3 : tie.Need-same-length-3
-same-length-3 c = search needs
-
-returns-2 : tie.Need-returns-2
-returns-2 c = search needs
-
-same-length-4 : tie.Need-same-length-4
-same-length-4 c = search needs
-
-same-length-5 : tie.Need-same-length-5
-same-length-5 c = search needs
-
-returns-3 : tie.Need-returns-3
-returns-3 c = search needs
+returns : tie.Need-returns
+returns c = let w = c .before .before .before .before in let p = w .before .before .before .before in let f = p .before .before .before .before .before in let s = f .before .before .before .before in let d = f .refill .last .0 in let n = f .refill .result in let h = w .shift .ensures in record { piece = take n d; begins = refilled-front (s .args .file .now) d (s .args .have) n (f .refill .ensures) (f .refill .kept .0); left = rw (h .1, h .0) (shifted-front d (p .records .result .passed) n (f .refill .ensures .counts) ∙ ap (λ (x : ℕ). drop x (take n d)) (p .records .ensures)) }
 
 pub piece-spec : {M : Type 1} → statement M
 piece-spec =
     tie.close
     (tie.spec
     refill-requires
-    same-length
-    returns
-    start-requires
-    slice-reshare-prefix-put-whole
-    slice-aggregate-put-whole
-    put-whole-requires
-    flush-requires
+    slice-reshare-prefix-records
+    slice-aggregate-records
+    records-requires
     shift-requires
+    may-come-requires
+    same-length
     same-length-2
-    same-length-3
-    returns-2
-    same-length-4
-    same-length-5
-    returns-3)
+    returns)

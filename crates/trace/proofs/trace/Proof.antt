@@ -1,34 +1,26 @@
-use Prim.Native.Nat.{_<_, _≤_}
 use mathlib.Core.Path.{_≡_, refl}
 use lib.ListN.{length}
 use native.Mathlib.Omega.{arith}
-use Rattle.io.specs.Counts.{Counts}
-use Rattle.tracing.proofs.Saved.{taken}
 use borrow.Author.Needs.{needs}
 use Rattle.trace.proofs.trace.Statement.{statement}
 use Rattle.trace.proofs.trace.Tie as tie
 
 abbrev Inv-loop : tie.InvT-loop
-Inv-loop buffer₀ out₀ threads₀ regions₀ owner₀ lock₀ cur₀ med₀ old₀ car₀ s₀ turns₀ buffer out threads regions owner lock cur med old car s turns = ((s .held ≤ length buffer) × (s .out < 65536)) × ((length buffer ≡ length buffer₀) × (length out ≡ length out₀))
+Inv-loop buffer₀ out₀ threads₀ regions₀ owner₀ lock₀ cur₀ med₀ old₀ car₀ s₀ turns₀ buffer out threads regions owner lock cur med old car s turns =
+    (length buffer ≡ length buffer₀) × (length out ≡ length out₀)
 
 abbrev μ-loop : tie.MeasureT-loop
-μ-loop buffer₀ out₀ threads₀ regions₀ owner₀ lock₀ cur₀ med₀ old₀ car₀ s₀ turns₀ buffer out threads regions owner lock cur med old car s turns = turns
-
--- what is left to write lies inside the output
-left : (q : tie.At-loop Inv-loop μ-loop) → Counts (q .loop .s .out) (q .loop .out)
-left q =
-    let h : q .loop .s .out ≤ length (q .loop .out) = omega (arith, q .loop .inv, q .before .before .before .before .pre) in
-    (h, taken (q .loop .s .out) (q .loop .out) h)
+μ-loop buffer₀ out₀ threads₀ regions₀ owner₀ lock₀ cur₀ med₀ old₀ car₀ s₀ turns₀ buffer out threads regions owner lock cur med old car s turns =
+    turns
 
 fresh-head-requires : tie.Need-fresh-head-requires Inv-loop μ-loop
 fresh-head-requires c κs = search needs
 
 loop-holds : tie.Need-loop-holds Inv-loop μ-loop
-loop-holds c = ((omega arith, omega arith), (refl, refl))
+loop-holds c = (refl, refl)
 
 turn-requires : tie.Need-turn-requires Inv-loop μ-loop
-turn-requires c κs =
-    let q = c .before .before .before .before .before .before .before .before .before .before .before .before .before in (q .loop .inv .0, omega (arith, q .loop .inv .1 .1, q .before .before .before .before .pre))
+turn-requires c κs = search needs
 
 sub-turns : tie.Need-sub-turns Inv-loop μ-loop
 sub-turns c = search needs
@@ -37,28 +29,25 @@ loop-less : tie.Need-loop-less Inv-loop μ-loop
 loop-less c = search needs
 
 loop-again : tie.Need-loop-again Inv-loop μ-loop
-loop-again c =
-    let r = c .before .before .before .before .turn in
-    let q = c .before .before .before .before .before .before .before .before .before .before .before .before .before .before .before .before .before .before .loop .inv .1 in
-    (r .ensures, (omega (arith, r .kept .1 .1 .1 .1 .1 .1 .1 .1 .1 .0, q .0), omega (arith, r .kept .1 .1 .1 .1 .1 .1 .1 .1 .1 .1 .0, q .1)))
+loop-again c = let r = c .before .before .before .before .turn in let q = c .before .before .before .before .before .before .before .before .before .before .before .before .before .before .before .before .before .loop .inv in (omega (arith, r .kept .1 .1 .1 .1 .1 .1 .1 .1 .1 .0, q .0), omega (arith, r .kept .1 .1 .1 .1 .1 .1 .1 .1 .1 .1 .0, q .1))
 
 same-length : tie.Need-same-length Inv-loop μ-loop
-same-length c = c .before .before .before .loop .inv .1 .0
+same-length c = search needs
 
 same-length-2 : tie.Need-same-length-2 Inv-loop μ-loop
-same-length-2 c = c .before .before .before .loop .inv .1 .1
+same-length-2 c = search needs
 
 returns : tie.Need-returns Inv-loop μ-loop
-returns c = left (c .before .before .before)
+returns c = search needs
 
 same-length-3 : tie.Need-same-length-3 Inv-loop μ-loop
-same-length-3 c = c .before .loop .inv .1 .0
+same-length-3 c = search needs
 
 same-length-4 : tie.Need-same-length-4 Inv-loop μ-loop
-same-length-4 c = c .before .loop .inv .1 .1
+same-length-4 c = search needs
 
 returns-2 : tie.Need-returns-2 Inv-loop μ-loop
-returns-2 c = left (c .before)
+returns-2 c = search needs
 
 pub trace-spec : {M : Type 1} → statement M
 trace-spec =

@@ -1,78 +1,52 @@
-use Prim.Native.Nat.{_≤_}
-use native.Mathlib.Omega.{arith}
-use Rattle.tracing.proofs.Saved.{taken}
+use mathlib.Core.Path.{_∙_, sym}
+use lib.ListN.{take}
+use lib.Seq.{length-take-le}
+use Rattle.pieces.proofs.Move.{refilled-front, shifted-front}
 use borrow.Author.Needs.{needs}
 use Rattle.trace.proofs.turn.Statement.{statement}
 use Rattle.trace.proofs.turn.Tie as tie
 
--- ---- what is known behind a piece
+refill-requires : tie.Need-refill-requires
+refill-requires c κs = search needs
 
-abbrev filled : tie.After-run-piece → tie.After-fill
-filled r = r .before .before .before .before .before .before .before .before .before .before .before .before .before .before .before
+slice-reshare-prefix-trace-piece : tie.Need-slice-reshare-prefix-trace-piece
+slice-reshare-prefix-trace-piece c = search needs
 
--- what is held lies inside what was read
-held : (r : tie.After-run-piece) → r .run-piece .result .held ≤ filled r .fill .result
-held r = let f = filled r .fill in omega (arith, r .run-piece .ensures .0, taken (f .result) (f .last .0) (f .ensures .1))
+slice-aggregate-trace-piece : tie.Need-slice-aggregate-trace-piece
+slice-aggregate-trace-piece c = let r = c .before .before .before .before .before .before .before .before .before .before .before .before .refill in sym (length-take-le (r .result) (r .last .0) (r .ensures .counts))
 
--- ---- the needs
+trace-piece-requires : tie.Need-trace-piece-requires
+trace-piece-requires c κs = search needs
 
-fill-requires : tie.Need-fill-requires
-fill-requires c κs = search needs
+flush-requires : tie.Need-flush-requires
+flush-requires c κs = search needs
 
-slice-reshare-prefix-run-piece : tie.Need-slice-reshare-prefix-run-piece
-slice-reshare-prefix-run-piece c = search needs
+shift-requires : tie.Need-shift-requires
+shift-requires c κs = search needs
 
-slice-aggregate-run-piece : tie.Need-slice-aggregate-run-piece
-slice-aggregate-run-piece c =
-    let f = c .before .before .before .before .before .before .before .before .before .before .before .before .fill in
-    taken (f .result) (f .last .0) (f .ensures .1)
-
-least-left-requires : tie.Need-least-left-requires
-least-left-requires c κs = search needs
-
-run-piece-requires : tie.Need-run-piece-requires
-run-piece-requires c κs = search needs
-
-ended-requires : tie.Need-ended-requires
-ended-requires c κs = search needs
+goes-on-requires : tie.Need-goes-on-requires
+goes-on-requires c κs = search needs
 
 same-length : tie.Need-same-length
-same-length c = filled (c .before .before .before .before) .fill .kept .0
+same-length c = c .before .before .before .shift .kept .0 ∙ c .before .before .before .before .before .before .before .before .before .before .before .before .before .before .before .before .before .before .before .before .before .before .before .before .refill .kept .0
 
 same-length-2 : tie.Need-same-length-2
 same-length-2 c = search needs
 
 returns : tie.Need-returns
-returns c = search needs
-
-move-down-requires : tie.Need-move-down-requires
-move-down-requires c κs = let r = c .before .before .before .before in (held r, filled r .fill .ensures .1)
-
-same-length-3 : tie.Need-same-length-3
-same-length-3 c = search needs
-
-same-length-4 : tie.Need-same-length-4
-same-length-4 c = search needs
-
-returns-2 : tie.Need-returns-2
-returns-2 c =
-    let r = c .before .before .before .before .before .before .before in
-    (omega (arith, held r, filled r .fill .ensures .1, c .before .before .move-down .kept .0), r .run-piece .ensures .1)
+returns c = let w = c .before .before .before in let p = c .before .before .before .before .before .before .before .before .before .before in let f = c .before .before .before .before .before .before .before .before .before .before .before .before .before .before .before .before .before .before .before .before .before .before .before .before in let s = c .before .before .before .before .before .before .before .before .before .before .before .before .before .before .before .before .before .before .before .before .before .before .before .before .before .before .before .before .before in let d = f .refill .last .0 in let n = f .refill .result in let h = w .shift .ensures in let l = f .refill .ensures .counts in record { piece = take n d; begins = refilled-front (s .args .buffer .now) d (s .args .s .held) n (f .refill .ensures) (f .refill .kept .0); traced = p .trace-piece .result; ran = rw (length-take-le n d l) (p .trace-piece .ensures); left = rw (h .1, h .0) (shifted-front d (p .trace-piece .result .passed) n l) }
 
 pub turn-spec : {M : Type 1} → statement M
 turn-spec =
     tie.close
     (tie.spec
-    fill-requires
-    slice-reshare-prefix-run-piece
-    slice-aggregate-run-piece
-    least-left-requires
-    run-piece-requires
-    ended-requires
+    refill-requires
+    slice-reshare-prefix-trace-piece
+    slice-aggregate-trace-piece
+    trace-piece-requires
+    flush-requires
+    shift-requires
+    goes-on-requires
     same-length
     same-length-2
-    returns
-    move-down-requires
-    same-length-3
-    same-length-4
-    returns-2)
+    returns)

@@ -1,0 +1,14 @@
+pub mod Along
+pub mod Rest
+pub mod Flights
+pub mod Current
+pub mod Opened
+pub mod Counts
+pub mod Values
+pub mod Answers
+pub mod Circles
+pub mod Whole
+pub mod Grown
+pub mod Walked
+pub mod Bench
+pub mod Causes

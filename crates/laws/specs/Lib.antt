@@ -1,0 +1,5 @@
+pub mod Words
+pub mod Laws
+pub mod Images
+pub mod Causes
+pub mod Bench

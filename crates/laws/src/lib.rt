@@ -1,0 +1,66 @@
+// Laws about the board that crate rules defines, each for every list of event records; about images of any content; and about the calls of a bench.
+// Each function has no body: its contract is the law.
+ghost use Rattle.laws.specs.Bench.{BenchRecovers};
+ghost use Rattle.laws.specs.Causes.{CausesMatter};
+ghost use Rattle.laws.specs.Images.{FinishedLast, RecoveryAnswers, WalkWhole};
+ghost use Rattle.laws.specs.Laws.{CommitsAddUp, CommittedEnded, CutCounts, FenceTells, NothingLeft, OneFlight, ReadGives};
+
+// Between two events nothing is left over: no slot that could fly waits, every ended region without slots is done, no done region without dependences is listed.
+pub fn nothing_is_left()
+    ensures { λ r. ⌜ NothingLeft ⌝ }
+{}
+
+// At most one flight per line exists.
+pub fn one_flight()
+    ensures { λ r. ⌜ OneFlight ⌝ }
+{}
+
+// A read gives the word of the starting memory with the accepted writes before it.
+pub fn read_gives()
+    ensures { λ r. ⌜ ReadGives ⌝ }
+{}
+
+// The values that tell commits add up to the number of committed regions.
+pub fn commits_add_up()
+    ensures { λ r. ⌜ CommitsAddUp ⌝ }
+{}
+
+// A cut gives the number of regions opened and not committed.
+pub fn cut_counts()
+    ensures { λ r. ⌜ CutCounts ⌝ }
+{}
+
+// A fence gives 1 exactly when every region of its thread is committed.
+pub fn fence_tells()
+    ensures { λ r. ⌜ FenceTells ⌝ }
+{}
+
+// The committed regions are the ended ones that are listed no more.
+pub fn committed_is_ended()
+    ensures { λ r. ⌜ CommittedEnded ⌝ }
+{}
+
+// A recovery step, on an image of any content, answers 0, 1, 2, 3, 4, 6, 7 or 8; its value is 0 or 1, and 0 with every refusal.
+pub fn recovery_answers()
+    ensures { λ r. ⌜ RecoveryAnswers ⌝ }
+{}
+
+// The walk of every accepted image has every log entry exactly once.
+pub fn walk_is_whole()
+    ensures { λ r. ⌜ WalkWhole ⌝ }
+{}
+
+// A step on an accepted image says 'finished' exactly if no log entry is left behind its own.
+pub fn finished_is_last()
+    ensures { λ r. ⌜ FinishedLast ⌝ }
+{}
+
+// Each test behind refusal 8 matters: for each of its causes there is an image that it alone refuses.
+pub fn causes_matter()
+    ensures { λ r. ⌜ CausesMatter ⌝ }
+{}
+
+// The calls of a bench recover: after an accepted image call, over every list of recovery calls and cuts, demand 3 holds of the bytes that the calls gave.
+pub fn bench_recovers()
+    ensures { λ r. ⌜ BenchRecovers ⌝ }
+{}
