@@ -19,7 +19,7 @@ use Rattle.text.proofs.Rooms.{pos}
 use Rattle.text.specs.Write.{recordLength, wholeLength}
 use Rattle.tracing.specs.Pieces.{RanPiece, dueIn, fitting, leftOf, restAt}
 use Rattle.tracing.specs.Results.{TracedEvent}
-use Rattle.tracing.specs.Text.{eventText, traceText}
+use Rattle.tracing.specs.Text.{eventText, longestText, traceText}
 use Rattle.tracing.specs.declared.Traced.{Traced}
 use Rattle.tracing.specs.declared.TracedPiece.{TracedPiece}
 use Rattle.undo.proofs.Laws.{test}
@@ -94,7 +94,7 @@ stop b d at rs = record { board = b; buffer = d; at = at; left = rs }
 pub runInto : Board → List ℕ → ℕ → List (List ℕ) → Stop
 runInto b d at [] = stop b d at []
 runInto b d at (r ∷ rs) =
-    cond (leb (at + 133183) (length d))
+    cond (leb (at + longestText) (length d))
     (runInto (step b r .board) (sets d at (eventText b r)) (at + length (eventText b r)) rs)
     (stop b d at (r ∷ rs))
 
@@ -103,11 +103,11 @@ unfolding runInto
 into-none b d at = refl
 
 module _ (b : Board) (d : List ℕ) (at : ℕ) (r : List ℕ) (rs : List (List ℕ)) where
-  pub into-full : leb (at + 133183) (length d) ≡ false → runInto b d at (r ∷ rs) ≡ stop b d at (r ∷ rs)
+  pub into-full : leb (at + longestText) (length d) ≡ false → runInto b d at (r ∷ rs) ≡ stop b d at (r ∷ rs)
   unfolding runInto
   into-full e = rw e
 
-  pub into-on : leb (at + 133183) (length d) ≡ true → runInto b d at (r ∷ rs) ≡ runInto (step b r .board) (sets d at (eventText b r)) (at + length (eventText b r)) rs
+  pub into-on : leb (at + longestText) (length d) ≡ true → runInto b d at (r ∷ rs) ≡ runInto (step b r .board) (sets d at (eventText b r)) (at + length (eventText b r)) rs
   unfolding runInto
   into-on e = rw e
 
@@ -117,12 +117,12 @@ unfolding runInto fitting run traceText stop
 ran b d at [] zero e = rw add-zero
 ran b d at [] (suc k) e = absurd (omega arith)
 ran b d at (r ∷ rs) zero e =
-    test (leb (at + 133183) (length d))
+    test (leb (at + longestText) (length d))
     (λ t. absurd (let z : _≡_ {A = ℕ} 0 (suc (fitting (length d) (at + length (eventText b r)) (step b r .board) rs)) = rw t at e in omega arith))
     (λ t. rw (t, add-zero))
 ran b d at (r ∷ rs) (suc k) e =
     let x = eventText b r in
-    test (leb (at + 133183) (length d))
+    test (leb (at + longestText) (length d))
     (λ t. let z : suc k ≡ suc (fitting (length d) (at + length x) (step b r .board) rs) = rw t at e in
     let l : length (sets d at x) ≡ length d = length-sets d at x in
     let f : k ≡ fitting (length (sets d at x)) (at + length x) (step b r .board) rs = rw l (omega arith) in
@@ -191,12 +191,12 @@ module _ (last : Bool) (piece : List ℕ) (b₀ : Board) (d₀ : List ℕ) (at�
 
     -- ---- behind one event more
 
-    module _ (b′ : Board) (d′ : List ℕ) (t : Traced) (e : TracedEvent (leb (p + 133183) (length d)) b b′ (drop i piece) d d′ p t) where
+    module _ (b′ : Board) (d′ : List ℕ) (t : Traced) (e : TracedEvent (leb (p + longestText) (length d)) b b′ (drop i piece) d d′ p t) where
       -- it found no room
       pub at-full : (r : TracedPiece) → isDue last (drop i piece) ≡ true → t .room ≡ false → r .at ≡ t .at → r .passed ≡ i → r .full ≡ true → RanPiece last b₀ b′ piece d₀ d′ at₀ K r
       unfolding isFull
       at-full r u f a l z =
-          let q : leb (p + 133183) (length d) ≡ false = sym (e .told) ∙ f in
+          let q : leb (p + longestText) (length d) ≡ false = sym (e .told) ∙ f in
           let x : b′ ≡ b = rw q at (e .stands) in
           let y : d′ ≡ d = rw q at (e .written .0) in
           let w : t .at ≡ p + 0 = rw q at (e .written .1) in
@@ -205,7 +205,7 @@ module _ (last : Bool) (piece : List ℕ) (b₀ : Board) (d₀ : List ℕ) (at�
           rw (x, y) (answers b d p (drop i piece ∷ o .0) r s (omega arith) (omega (arith, v .inside)) (rw l) z)
 
       module _ (f : t .room ≡ true) where
-        roomy : leb (p + 133183) (length d) ≡ true
+        roomy : leb (p + longestText) (length d) ≡ true
         roomy = sym (e .told) ∙ f
 
         -- the length of its record

@@ -11,7 +11,7 @@ use Rattle.rules.specs.Step.{step}
 use Rattle.rules.specs.Tables.{Board}
 use Rattle.text.specs.Write.{wholeLength}
 use Rattle.tracing.specs.Results.{Put}
-use Rattle.tracing.specs.Text.{eventText, traceText}
+use Rattle.tracing.specs.Text.{eventText, longestText, traceText}
 use Rattle.tracing.specs.declared.TracedPiece.{TracedPiece}
 use Rattle.undo.specs.Table.{keep}
 
@@ -23,7 +23,7 @@ dueIn last piece = cond last (recordsOf piece) (keep (λ r. isWhole (readRecord 
 unfoldable pub fitting : ℕ → ℕ → Board → List (List ℕ) → ℕ
 fitting n at b [] = 0
 fitting n at b (r ∷ rs) =
-    cond (leb (at + 133183) n) (suc (fitting n (at + length (eventText b r)) (step b r .board) rs)) 0
+    cond (leb (at + longestText) n) (suc (fitting n (at + length (eventText b r)) (step b r .board) rs)) 0
 
 -- the first of some records, with all that stands behind it; where there is none, the end
 abbrev pub restAt : List ℕ → List (List ℕ) → List ℕ

@@ -75,3 +75,7 @@ eventText b bs = answerText (getD bs 0 0) (step b bs .answer) ++ behindText (get
 unfoldable pub traceText : Board → List (List ℕ) → List ℕ
 traceText b [] = []
 traceText b (r ∷ rs) = eventText b r ++ traceText (step b r .board) rs
+
+-- the longest text of a record: a line of 63 bytes, and behind a cut 65 for each of 2,048 words
+abbrev pub longestText : ℕ
+longestText = 133183

@@ -13,7 +13,7 @@ ghost use lib.ListN.{getD, length};
 ghost use Rattle.rules.specs.Image.{save};
 ghost use Rattle.rows.specs.Whole.{boardOf};
 ghost use Rattle.text.specs.Write.{decimal, recordLength};
-ghost use Rattle.tracing.specs.Text.{answerText, behindText, cutText, imageBuffer, imageLine, lineText, memoryText, numberText, recovered, recoveredText, wordText};
+ghost use Rattle.tracing.specs.Text.{answerText, behindText, cutText, imageBuffer, imageLine, lineText, longestText, memoryText, numberText, recovered, recoveredText, wordText};
 ghost use Rattle.tracing.specs.Results.{Put, TracedEvent};
 ghost use Rattle.tracing.specs.Pieces.{GoesOn, Ran};
 ghost use Rattle.tracing.specs.Claim.{WordsExpected};
@@ -238,7 +238,7 @@ fn trace_step(
     dst: &mut [u8],
     at: usize,
 ) -> Traced
-    requires { ⌜ at + 133183 ≤ length (now dst) ⌝ }
+    requires { ⌜ at + longestText ≤ length (now dst) ⌝ }
     ensures { λ r. ⌜ TracedEvent true (boardOf h (now (threads .entry)) (now (regions .entry)) (now (owner .entry)) (now (lock .entry)) (now (cur .entry)) (now (med .entry)) (now (old .entry)) (now (car .entry))) (boardOf (r .head) (now (threads .exit)) (now (regions .exit)) (now (owner .exit)) (now (lock .exit)) (now (cur .exit)) (now (med .exit)) (now (old .exit)) (now (car .exit))) (now (bytes .entry)) (now (dst .entry)) (now (dst .exit)) at r ⌝ }
 {
     let kind = first(bytes);
@@ -260,7 +260,7 @@ pub const LONGEST_TEXT: usize = 133183;
 
 // Whether a buffer of n bytes has room from `at` on for the longest text of an event.
 fn has_room(n: usize, at: usize) -> bool
-    ensures { λ r. ⌜ r ≡ leb (at + 133183) n ⌝ }
+    ensures { λ r. ⌜ r ≡ leb (at + longestText) n ⌝ }
 {
     if n < LONGEST_TEXT {
         return false;
@@ -283,7 +283,7 @@ fn trace_event(
     dst: &mut [u8],
     at: usize,
 ) -> Traced
-    ensures { λ r. ⌜ TracedEvent (leb (at + 133183) (length (now (dst .entry)))) (boardOf h (now (threads .entry)) (now (regions .entry)) (now (owner .entry)) (now (lock .entry)) (now (cur .entry)) (now (med .entry)) (now (old .entry)) (now (car .entry))) (boardOf (r .head) (now (threads .exit)) (now (regions .exit)) (now (owner .exit)) (now (lock .exit)) (now (cur .exit)) (now (med .exit)) (now (old .exit)) (now (car .exit))) (now (bytes .entry)) (now (dst .entry)) (now (dst .exit)) at r ⌝ }
+    ensures { λ r. ⌜ TracedEvent (leb (at + longestText) (length (now (dst .entry)))) (boardOf h (now (threads .entry)) (now (regions .entry)) (now (owner .entry)) (now (lock .entry)) (now (cur .entry)) (now (med .entry)) (now (old .entry)) (now (car .entry))) (boardOf (r .head) (now (threads .exit)) (now (regions .exit)) (now (owner .exit)) (now (lock .exit)) (now (cur .exit)) (now (med .exit)) (now (old .exit)) (now (car .exit))) (now (bytes .entry)) (now (dst .entry)) (now (dst .exit)) at r ⌝ }
 {
     if has_room(dst.len(), at) {
         return trace_step(

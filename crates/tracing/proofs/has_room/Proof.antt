@@ -1,3 +1,4 @@
+use Rattle.tracing.specs.Text.{longestText}
 use Prim.Native.Nat.{_+_, _-_, _≤_, ℕ}
 use mathlib.Core.Path.{_≡_, sym}
 use lib.Dec.{leb}
@@ -14,10 +15,10 @@ leb-less a k n h =
     (λ e. rw (e, lt-leb a (n - k) (omega (arith, leb-false (a + k) n e))))
 
 returns : tie.Need-returns
-returns c = let s = c .before in sym (lt-leb (s .args .at + 133183) (s .args .n) (omega arith))
+returns c = let s = c .before in sym (lt-leb (s .args .at + longestText) (s .args .n) (omega arith))
 
 returns-2 : tie.Need-returns-2
-returns-2 c = let s = c .before in leb-less (s .args .at) 133183 (s .args .n) (omega arith)
+returns-2 c = let s = c .before in leb-less (s .args .at) longestText (s .args .n) (omega arith)
 
 pub has-room-spec : {M : Type 1} → statement M
 has-room-spec = tie.close (tie.spec returns returns-2)

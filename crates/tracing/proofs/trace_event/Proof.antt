@@ -1,3 +1,4 @@
+use Rattle.tracing.specs.Text.{longestText}
 use Prim.Native.Nat.{_+_}
 use mathlib.Core.Path.{_∙_, _≡_, refl, sym}
 use mathlib.Core.Bool.{true}
@@ -13,7 +14,7 @@ use Rattle.tracing.proofs.trace_event.Tie as tie
 abbrev entry : tie.After-has-room → tie.Start
 entry h = h .before .before .before
 
-roomy : (h : tie.Then1) → leb (entry (h .before) .args .at + 133183) (length (entry (h .before) .args .dst .now)) ≡ true
+roomy : (h : tie.Then1) → leb (entry (h .before) .args .at + longestText) (length (entry (h .before) .args .dst .now)) ≡ true
 roomy h = sym (h .before .has-room .ensures) ∙ h .if1 .taken
 
 has-room-requires : tie.Need-has-room-requires
@@ -23,7 +24,7 @@ trace-step-requires : tie.Need-trace-step-requires
 trace-step-requires c κs =
     let h = c .before .before .before .before .before .before .before .before .before in
     let a = entry (h .before) .args in
-    leb-true (a .at + 133183) (length (a .dst .now)) (roomy h)
+    leb-true (a .at + longestText) (length (a .dst .now)) (roomy h)
 
 same-length : tie.Need-same-length
 same-length c = search needs
