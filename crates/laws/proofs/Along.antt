@@ -5,8 +5,8 @@ use mathlib.Core.Bool.{true}
 use mathlib.Core.List.{List, [], _∷_}
 use native.Mathlib.Omega.{arith}
 use Rattle.laws.specs.Words.{toldBy, toldIn, toldOf}
-use Rattle.rules.proofs.Sim.{Kept}
-use Rattle.rules.proofs.SimAll.{sound-record, step-kept}
+use Rattle.rules.proofs.Sim.State.{Kept}
+use Rattle.rules.proofs.Sim.All.{sound-record, step-kept}
 use Rattle.rules.proofs.Start.{initially}
 use Rattle.rules.specs.Claim.{boardAfter, isByte, isByteMemory}
 use Rattle.rules.specs.History.{acceptedFrom, acceptedIn, noted}

@@ -7,7 +7,7 @@ use lib.Dec.{eqb, leb, ltb}
 use lib.ListN.{drop, getD, length, take}
 use native.Mathlib.Omega.{arith}
 use Rattle.laws.specs.Images.{Answers, RecoveryAnswers, isImageRefusal}
-use Rattle.rules.proofs.CodecTurns.{afterTurn}
+use Rattle.rules.proofs.Codec.Turns.{afterTurn}
 use Rattle.rules.specs.Bytes.{numOf}
 use Rattle.rules.specs.Contradiction.{contradicts}
 use Rattle.rules.specs.Image.{Logged, Persistent}

@@ -12,16 +12,16 @@ use lib.Seq.{take-append-seam}
 use native.Mathlib.Omega.{arith}
 use borrow.Author.Tests.{eqb-false, le-ltb, lt-ltb, ltb-false, ltb-true}
 use Rattle.laws.specs.Bench.{Bench, BenchHolds, BenchRecovers, benchAct, benchActs, lentImage, nextCall}
-use Rattle.rules.proofs.CodecBytes.{isLine, length-bytes, num-bytes}
-use Rattle.rules.proofs.CodecTurns.{size-threads}
-use Rattle.rules.proofs.CodecValid.{Valid, fitsEntry}
+use Rattle.rules.proofs.Codec.Bytes.{isLine, length-bytes, num-bytes}
+use Rattle.rules.proofs.Codec.Turns.{size-threads}
+use Rattle.rules.proofs.Codec.Valid.{Valid, fitsEntry}
 use Rattle.rules.proofs.Cuts.{cut-is}
-use Rattle.rules.proofs.FoundSound.{sound}
-use Rattle.rules.proofs.FoundSteps.{Standing, acts-stand, cut-stands, start-stands, step-reads, step-stands, walked-length}
-use Rattle.rules.proofs.FoundValid.{saved-valid}
+use Rattle.rules.proofs.Recover.Sound.{sound}
+use Rattle.rules.proofs.Recover.Steps.{Standing, acts-stand, cut-stands, start-stands, step-reads, step-stands, walked-length}
+use Rattle.rules.proofs.Recover.Valid.{saved-valid}
 use Rattle.rules.proofs.Main.{recovery-is-right}
-use Rattle.rules.proofs.Sim.{Sim, Simulated, by}
-use Rattle.rules.proofs.SimAll.{every}
+use Rattle.rules.proofs.Sim.State.{Sim, Simulated, by}
+use Rattle.rules.proofs.Sim.All.{every}
 use Rattle.rules.specs.Bytes.{bytesOf, numOf}
 use Rattle.rules.specs.Claim.{Holds, entriesIn, boardAfter, isByte, isByteMemory, passLength, recovering, restores}
 use Rattle.rules.specs.Contradiction.{contradicts}

@@ -8,9 +8,9 @@ use lib.Dec.{eqb, ltb}
 use lib.ListN.{length, length-map}
 use native.Mathlib.Omega.{arith}
 use borrow.Author.Tests.{eqb-true, ltb-false, ne-eqb}
-use Rattle.rules.proofs.FoundRising.{Rises, rises-above}
-use Rattle.rules.proofs.FoundSaved.{any-of}
-use Rattle.rules.proofs.FoundWalk.{needed, nextOf}
+use Rattle.rules.proofs.Recover.Rising.{Rises, rises-above}
+use Rattle.rules.proofs.Recover.Saved.{any-of}
+use Rattle.rules.proofs.Recover.Walk.{needed, nextOf}
 use Rattle.rules.proofs.Places.{place-lt}
 use Rattle.rules.specs.Contradiction.{depsOf, isCircle, reaches, reachesIn}
 use Rattle.rules.specs.declared.Listed.{Listed}

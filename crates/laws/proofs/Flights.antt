@@ -8,8 +8,8 @@ use lib.ListN.{getD}
 use borrow.Author.Tests.{eqb-true}
 use Rattle.laws.proofs.Rest.{region-is, slot-held, state-at}
 use Rattle.laws.specs.Laws.{FliesWith, OneFlight, regionIs, slotIs}
-use Rattle.rules.proofs.Sim.{Distinct, Simulated, by, more, none}
-use Rattle.rules.proofs.SimAll.{every}
+use Rattle.rules.proofs.Sim.State.{Distinct, Simulated, by, more, none}
+use Rattle.rules.proofs.Sim.All.{every}
 use Rattle.rules.proofs.Views.{stateOf}
 use Rattle.rules.specs.Slots.{isEmpty}
 use Rattle.rules.specs.Tables.{Board, Memory, lineOf, noSlot, placeOf, startLines}

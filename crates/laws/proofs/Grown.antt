@@ -7,8 +7,8 @@ use lib.Dec.{eqb, leb, ltb}
 use lib.ListN.{drop, getD, length, length-append, take}
 use native.Mathlib.Omega.{arith}
 use borrow.Author.Tests.{eqb-true}
-use Rattle.rules.proofs.CodecOnly.{isReading, stateRead}
-use Rattle.rules.proofs.CodecTurns.{afterTurn}
+use Rattle.rules.proofs.Codec.Only.{isReading, stateRead}
+use Rattle.rules.proofs.Codec.Turns.{afterTurn}
 use Rattle.rules.specs.Bytes.{numOf}
 use Rattle.rules.specs.Claim.{entriesIn}
 use Rattle.rules.specs.Image.{Persistent}

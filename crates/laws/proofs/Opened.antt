@@ -9,7 +9,7 @@ use native.Mathlib.Nat.{le-trans}
 use native.Mathlib.Omega.{arith}
 use borrow.Author.Tests.{eqb-false, eqb-true, le-leb, leb-false, leb-true, lt-leb, ne-eqb}
 use Rattle.laws.specs.Words.{opensIn}
-use Rattle.rules.proofs.SimBase.{key-number, key-thread}
+use Rattle.rules.proofs.Sim.Base.{key-number, key-thread}
 use Rattle.rules.proofs.Views.{isOpened}
 use Rattle.rules.specs.History.{depthIn, openedIn}
 use Rattle.rules.specs.Tables.{keyOf, numberOf, threadOf}

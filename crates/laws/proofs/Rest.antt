@@ -8,8 +8,8 @@ use lib.ListN.{getD}
 use borrow.Author.Tests.{ne-eqb}
 use Rattle.laws.specs.Laws.{AtRest, NothingLeft, regionIs, slotIs}
 use Rattle.rules.proofs.Places.{getD-same, region-at}
-use Rattle.rules.proofs.Sim.{Distinct, Rest, Shape, Simulated, by, more, none}
-use Rattle.rules.proofs.SimAll.{every}
+use Rattle.rules.proofs.Sim.State.{Distinct, Rest, Shape, Simulated, by, more, none}
+use Rattle.rules.proofs.Sim.All.{every}
 use Rattle.rules.proofs.SlotLaws.{names-here, rest-absent}
 use Rattle.rules.proofs.Views.{stateOf}
 use Rattle.rules.specs.Commit.{commits}

@@ -16,15 +16,15 @@ use Rattle.laws.proofs.Opened.{opens}
 use Rattle.laws.specs.Laws.{CommitsAddUp, CommittedEnded, CutCounts, FenceTells, valueAfter}
 use Rattle.laws.specs.Words.{opensIn, opensOf, toldIn, toldOf}
 use Rattle.rules.proofs.Commits.{CommitsTold, commits-told}
-use Rattle.rules.proofs.FoundExpected.{committed-done, committed-ended}
+use Rattle.rules.proofs.Recover.Expected.{committed-done, committed-ended}
 use Rattle.rules.proofs.Places.{any-at, count-map, count-put, count-room, count-set, key-at, listed-at, listed-key, place-listed, place-lt, place-true}
-use Rattle.rules.proofs.Sim.{Kept, Sim, Simulated, by}
-use Rattle.rules.proofs.SimAck.{log-ack}
-use Rattle.rules.proofs.SimAll.{every}
-use Rattle.rules.proofs.SimBase.{Unrefused, accepted}
-use Rattle.rules.proofs.SimCommit.{unique-regions}
-use Rattle.rules.proofs.SimData.{lands}
-use Rattle.rules.proofs.SimRegions.{ends-region}
+use Rattle.rules.proofs.Sim.State.{Kept, Sim, Simulated, by}
+use Rattle.rules.proofs.Sim.Ack.{log-ack}
+use Rattle.rules.proofs.Sim.All.{every}
+use Rattle.rules.proofs.Sim.Base.{Unrefused, accepted}
+use Rattle.rules.proofs.Sim.Commit.{unique-regions}
+use Rattle.rules.proofs.Sim.Data.{lands}
+use Rattle.rules.proofs.Sim.Regions.{ends-region}
 use Rattle.rules.specs.Access.{logged, needsLog, read, stored, write, wrote}
 use Rattle.rules.specs.Acknowledge.{dataAck, dropped, landed, logAck, unlocked}
 use Rattle.rules.specs.Begin.{begin, opened}

@@ -12,8 +12,8 @@ use Rattle.laws.proofs.Circles.{keysIn}
 use Rattle.laws.proofs.Grown.{entries-read}
 use Rattle.laws.proofs.Whole.{all-counted, by-keys, keys-rise, walk-counted}
 use Rattle.laws.specs.Images.{FinishedLast, WalkWhole, isEntry, loggedIs}
-use Rattle.rules.proofs.CodecImage.{read-records, read-valid}
-use Rattle.rules.proofs.CodecValid.{Valid}
+use Rattle.rules.proofs.Codec.Image.{read-records, read-valid}
+use Rattle.rules.proofs.Codec.Valid.{Valid}
 use Rattle.rules.proofs.Places.{any-none}
 use Rattle.rules.specs.Claim.{entriesIn, isByte}
 use Rattle.rules.specs.Contradiction.{anyBroken, anyClash, clash, contradicts, inOrder, isAstray, isCircle, isLeftOver, isListed, isUnknownState, isUnnumbered}

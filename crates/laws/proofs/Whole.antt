@@ -8,9 +8,9 @@ use lib.ListN.{getD, length, length-map}
 use native.Mathlib.Omega.{arith}
 use borrow.Author.Tests.{eqb-true, leb-true, ltb-true, ne-eqb, not-false}
 use Rattle.laws.proofs.Circles.{depsIn, keysIn, not-stuck}
-use Rattle.rules.proofs.CodecValid.{count-append, keyOfListed, rises}
-use Rattle.rules.proofs.FoundRising.{Rises, higher, no-more}
-use Rattle.rules.proofs.FoundWalk.{at-in, needed, nextOf, without-gone, without-left, without-length, without-rises, without-was}
+use Rattle.rules.proofs.Codec.Valid.{count-append, keyOfListed, rises}
+use Rattle.rules.proofs.Recover.Rising.{Rises, higher, no-more}
+use Rattle.rules.proofs.Recover.Walk.{at-in, needed, nextOf, without-gone, without-left, without-length, without-rises, without-was}
 use Rattle.rules.proofs.Places.{any-map, place-map}
 use Rattle.rules.specs.Contradiction.{isCircle, isListed, isUnnumbered}
 use Rattle.rules.specs.Image.{Logged}

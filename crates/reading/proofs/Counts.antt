@@ -13,7 +13,7 @@ use Rattle.rules.specs.Lists.{count}
 use Rattle.rules.specs.Reader.{isLoggedBy, lastListed, lastLogged}
 use Rattle.rules.specs.Tables.{threadOf}
 use Rattle.rules.specs.declared.Listed.{Listed}
-use Rattle.rules.proofs.CodecValid.{count-append}
+use Rattle.rules.proofs.Codec.Valid.{count-append}
 use Rattle.undo.proofs.Laws.{test}
 
 module _ {A : Type 0} where

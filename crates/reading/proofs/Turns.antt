@@ -14,7 +14,7 @@ use Rattle.rules.specs.Reader.{Last, Next, Stop, Turn, endTurn, fieldsTurn, hea
 use Rattle.rules.specs.Refusal.{inRange}
 use Rattle.rules.specs.Tables.{threadOf}
 use Rattle.rules.specs.declared.Listed.{Listed}
-use Rattle.rules.proofs.CodecTurns.{persistentOf}
+use Rattle.rules.proofs.Codec.Turns.{persistentOf}
 use Rattle.undo.proofs.Laws.{and-true, test}
 use Rattle.reading.specs.Item.{countFor, endItem, entryItem, fieldsItem, headItem, itemOf, placed, regionItem, tallyOf}
 use Rattle.reading.specs.declared.Item.{Item}

@@ -16,7 +16,7 @@ use Rattle.rules.specs.Reader.{Next, Reads, Refuses, imageBody, isLoggedBy, las
 use Rattle.rules.specs.Tables.{threadOf}
 use Rattle.rules.specs.declared.Listed.{Listed}
 use Rattle.rules.specs.declared.Mark.{Mark}
-use Rattle.rules.proofs.CodecTurns.{afterTurn, turn-next}
+use Rattle.rules.proofs.Codec.Turns.{afterTurn, turn-next}
 use Rattle.lines.proofs.Paste.{sets-join, sets-paste}
 use Rattle.undo.proofs.Laws.{and-true}
 use Rattle.reading.specs.Item.{afterEntry, afterHead, afterLine, afterRegion, countFor, itemOf, tabled, tallyOf}

@@ -12,7 +12,7 @@ use Rattle.reading.proofs.Walk.{read-few, take-filled}
 use Rattle.reading.specs.Scan.{markOf, noListed, noMark, readOf, scanOf}
 use Rattle.reading.specs.declared.Scan.{Scan}
 use Rattle.recovery.proofs.Numbers.{isSaid, records-said}
-use Rattle.rules.proofs.CodecOnly.{stateRead}
+use Rattle.rules.proofs.Codec.Only.{stateRead}
 use Rattle.rules.specs.Contradiction.{contradicts}
 use Rattle.rules.specs.Image.{Persistent}
 use Rattle.rules.specs.Reader.{Reads, Refuses, Verdict, nothing, readImage, recordsRead, unlessContradicted}

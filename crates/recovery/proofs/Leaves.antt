@@ -18,9 +18,9 @@ use Rattle.recovery.proofs.Numbers.{image-said}
 use Rattle.recovery.proofs.Places.{line-inside, old-inside, old-read}
 use Rattle.recovery.proofs.Steps.{step-more, step-past, step-refused}
 use Rattle.recovery.specs.Places.{foundAt, moreOf, oldStart}
-use Rattle.rules.proofs.CodecImage.{only-image, read-records, read-valid}
-use Rattle.rules.proofs.CodecOnly.{stateRead}
-use Rattle.rules.proofs.CodecValid.{Valid}
+use Rattle.rules.proofs.Codec.Image.{only-image, read-records, read-valid}
+use Rattle.rules.proofs.Codec.Only.{stateRead}
+use Rattle.rules.proofs.Codec.Valid.{Valid}
 use Rattle.rules.specs.Bytes.{lineAt, lineBytes, paste}
 use Rattle.rules.specs.Claim.{isByte}
 use Rattle.rules.specs.Image.{Persistent, encode}

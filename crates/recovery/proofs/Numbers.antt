@@ -5,7 +5,7 @@ use mathlib.Core.Bool.{Bool, _||_, cond, false, not, true}
 use mathlib.Core.List.{List, [], _∷_}
 use lib.Dec.{eqb, leb, ltb}
 use lib.ListN.{drop, getD, length, take}
-use Rattle.rules.proofs.CodecTurns.{afterTurn}
+use Rattle.rules.proofs.Codec.Turns.{afterTurn}
 use Rattle.rules.specs.Bytes.{numOf}
 use Rattle.rules.specs.Contradiction.{contradicts}
 use Rattle.rules.specs.Image.{Logged, Persistent}

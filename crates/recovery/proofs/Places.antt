@@ -9,10 +9,10 @@ use native.Mathlib.Omega.{arith}
 use borrow.Author.Tests.{eqb-true, lt-ltb, ltb-true}
 use lib.Seq.{drop-append-add, drop-drop}
 use Rattle.recovery.specs.Places.{oldStart}
-use Rattle.rules.proofs.CodecBytes.{all-at, isLine, length-bytes, length-words, line-back}
-use Rattle.rules.proofs.CodecStore.{length-line}
-use Rattle.rules.proofs.CodecTurns.{length-entry, length-region}
-use Rattle.rules.proofs.CodecValid.{Valid, fitsEntry, fitsRegion}
+use Rattle.rules.proofs.Codec.Bytes.{all-at, isLine, length-bytes, length-words, line-back}
+use Rattle.rules.proofs.Codec.Store.{length-line}
+use Rattle.rules.proofs.Codec.Turns.{length-entry, length-region}
+use Rattle.rules.proofs.Codec.Valid.{Valid, fitsEntry, fitsRegion}
 use Rattle.rules.specs.Bytes.{bytesOf, lineAt, lineBytes}
 use Rattle.rules.specs.Claim.{isByte}
 use Rattle.rules.specs.Image.{Logged, Persistent, encode, entryRecord, headRecord, lineRecord, regionRecord}

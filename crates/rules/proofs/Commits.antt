@@ -9,13 +9,13 @@ use lib.ListN.{getD, length, set}
 use native.Mathlib.Omega.{arith}
 use borrow.Author.Tests.{eqb-false, eqb-true, leb-false, lt-leb}
 use Rattle.rules.proofs.Places.{Unique, any-map, any-set, listed-commit, listed-key, listed-mapped, unique-commit, unique-mapped}
-use Rattle.rules.proofs.Sim.{Kept, Simulated, by}
-use Rattle.rules.proofs.SimAck.{log-ack}
-use Rattle.rules.proofs.SimAll.{sound-record, step-kept}
-use Rattle.rules.proofs.SimBase.{Unrefused, accepted}
-use Rattle.rules.proofs.SimCommit.{ready}
-use Rattle.rules.proofs.SimData.{lands}
-use Rattle.rules.proofs.SimRegions.{born-begun, ends-region, listed-begun, newKey, unborn}
+use Rattle.rules.proofs.Sim.State.{Kept, Simulated, by}
+use Rattle.rules.proofs.Sim.Ack.{log-ack}
+use Rattle.rules.proofs.Sim.All.{sound-record, step-kept}
+use Rattle.rules.proofs.Sim.Base.{Unrefused, accepted}
+use Rattle.rules.proofs.Sim.Commit.{ready}
+use Rattle.rules.proofs.Sim.Data.{lands}
+use Rattle.rules.proofs.Sim.Regions.{born-begun, ends-region, listed-begun, newKey, unborn}
 use Rattle.rules.proofs.Start.{initially}
 use Rattle.rules.proofs.Views.{isOpened}
 use Rattle.rules.specs.Access.{logged, needsLog, read, stored, write, wrote}

@@ -3,7 +3,7 @@ use Rattle.undo.specs.Machine as u
 use Rattle.undo.specs.History as v
 use Rattle.undo.specs.Claim.{Reach}
 use Rattle.undo.proofs.Main.{closes}
-use Rattle.rules.proofs.Sim.{Kept, Rest, Sim, Simulated, by}
+use Rattle.rules.proofs.Sim.State.{Kept, Rest, Sim, Simulated, by}
 use Rattle.rules.specs.History.{acceptedIn, committed, drawsOn, expected, expectedBytes, linesIn, memoryFound, usesIn}
 use Prim.Native.Nat.{_-_, ℕ}
 use mathlib.Core.Path.{_∙_, _≡_, sym}
@@ -13,14 +13,14 @@ use mathlib.Core.List.{List}
 use lib.Dec.{eqb}
 use native.Mathlib.Omega.{arith}
 use borrow.Author.Tests.{eqb-true}
-use Rattle.rules.proofs.CodecBack.{image-read}
+use Rattle.rules.proofs.Codec.Back.{image-read}
 use Rattle.rules.proofs.Commits.{CommitsTold, commits-told}
 use Rattle.rules.proofs.Cuts.{cut-is}
-use Rattle.rules.proofs.FoundEntries.{entries-in}
-use Rattle.rules.proofs.FoundExpected.{committed-done, expected-length, expected-same}
-use Rattle.rules.proofs.FoundSound.{sound}
-use Rattle.rules.proofs.FoundSteps.{acts-stand, cut-stands, memory-found, pass-finishes, start-stands, step-accepted, step-ended, step-stands, walked-length}
-use Rattle.rules.proofs.FoundValid.{saved-valid}
+use Rattle.rules.proofs.Recover.Entries.{entries-in}
+use Rattle.rules.proofs.Recover.Expected.{committed-done, expected-length, expected-same}
+use Rattle.rules.proofs.Recover.Sound.{sound}
+use Rattle.rules.proofs.Recover.Steps.{acts-stand, cut-stands, memory-found, pass-finishes, start-stands, step-accepted, step-ended, step-stands, walked-length}
+use Rattle.rules.proofs.Recover.Valid.{saved-valid}
 use Rattle.rules.specs.Acknowledge.{kept}
 use Rattle.rules.specs.Claim.{Demand3, Holds, ReadsBack, boardAfter, isByte, isByteMemory, passLength, recovering}
 use Rattle.rules.specs.Image.{image, saved}

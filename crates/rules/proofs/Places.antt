@@ -9,7 +9,7 @@ use lib.ListN.{List·getD-eq-default, List·getD-map, getD, length, replicate, s
 use native.Mathlib.Omega.{arith}
 use borrow.Author.Tests.{eqb-false, eqb-true, ltb-false, ltb-true, ne-eqb, not-true}
 use lib.Seq.{getD-set-other, getD-set-same, lt-length-set}
-use Rattle.rules.proofs.Sim.{GoodRegion}
+use Rattle.rules.proofs.Sim.State.{GoodRegion}
 use Rattle.rules.specs.Commit.{afterCommit}
 use Rattle.rules.specs.Lists.{count, place}
 use Rattle.rules.specs.Reader.{nothing}

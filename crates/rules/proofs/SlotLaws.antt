@@ -9,8 +9,8 @@ use native.Mathlib.Omega.{arith}
 use borrow.Author.Tests.{eq-eqb, eqb-false, eqb-true, not-false}
 use lib.Seq.{getD-set-other, getD-set-same}
 use native.Mathlib.Nat.{add-zero, zero-add}
-use Rattle.rules.proofs.CodecBytes.{all-set, isLine, isWord}
-use Rattle.rules.proofs.Sim.{Distinct, more, none}
+use Rattle.rules.proofs.Codec.Bytes.{all-set, isLine, isWord}
+use Rattle.rules.proofs.Sim.State.{Distinct, more, none}
 use Rattle.rules.proofs.Views.{carryOf, stateOf}
 use Rattle.rules.specs.Acknowledge.{droppedSlot}
 use Rattle.rules.specs.Lists.{all, place}

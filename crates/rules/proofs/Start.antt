@@ -9,11 +9,11 @@ use lib.Dec.{eqb, leb}
 use lib.ListN.{getD, getD-replicate, length, length-replicate, replicate}
 use native.Mathlib.Omega.{arith}
 use borrow.Author.Tests.{eqb-false, leb-true, lt-leb}
-use Rattle.rules.proofs.CodecBytes.{isLine, line-small}
+use Rattle.rules.proofs.Codec.Bytes.{isLine, line-small}
 use Rattle.rules.proofs.Places.{getD-same, once-one}
-use Rattle.rules.proofs.Sim.{Kept, Logs, Shape, Sim, Told, by}
-use Rattle.rules.proofs.SimBase.{clear-waits}
-use Rattle.rules.proofs.SimRegions.{free-slots, state-free}
+use Rattle.rules.proofs.Sim.State.{Kept, Logs, Shape, Sim, Told, by}
+use Rattle.rules.proofs.Sim.Base.{clear-waits}
+use Rattle.rules.proofs.Sim.Regions.{free-slots, state-free}
 use Rattle.rules.specs.Claim.{isByte, isByteMemory}
 use Rattle.rules.specs.Commit.{commits}
 use Rattle.rules.specs.History.{depthIn, endsIn, lastWriter, linesIn, openedIn, usesIn, writesIn}

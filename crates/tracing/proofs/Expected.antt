@@ -12,17 +12,17 @@ use lib.Seq.{drop-append-add, drop-at, drop-drop, getD-set-other, getD-set-same,
 use native.Mathlib.Omega.{arith}
 use borrow.Author.Tests.{eqb-false, eqb-true, le-leb}
 use Rattle.recovery.proofs.Places.{flat-at, flat-length}
-use Rattle.rules.proofs.CodecBytes.{all-at, all-set, isLine, isWord, length-bytes, length-words, line-back}
-use Rattle.rules.proofs.CodecStore.{found, length-line, withMedium}
-use Rattle.rules.proofs.CodecTurns.{length-entry, length-region, size-lines}
-use Rattle.rules.proofs.CodecValid.{Valid, fitsRegion}
+use Rattle.rules.proofs.Codec.Bytes.{all-at, all-set, isLine, isWord, length-bytes, length-words, line-back}
+use Rattle.rules.proofs.Codec.Store.{found, length-line, withMedium}
+use Rattle.rules.proofs.Codec.Turns.{length-entry, length-region, size-lines}
+use Rattle.rules.proofs.Codec.Valid.{Valid, fitsRegion}
 use Rattle.rules.proofs.Cuts.{cut-is}
-use Rattle.rules.proofs.FoundExpected.{applied-length, effects-length, expected-length}
-use Rattle.rules.proofs.FoundSound.{sound}
-use Rattle.rules.proofs.FoundSteps.{Standing, stands, start-stands, step-stands}
-use Rattle.rules.proofs.FoundValid.{saved-valid}
-use Rattle.rules.proofs.Sim.{Sim, Simulated, by, isSound}
-use Rattle.rules.proofs.SimAll.{every, isSoundReading, sound-record}
+use Rattle.rules.proofs.Recover.Expected.{applied-length, effects-length, expected-length}
+use Rattle.rules.proofs.Recover.Sound.{sound}
+use Rattle.rules.proofs.Recover.Steps.{Standing, stands, start-stands, step-stands}
+use Rattle.rules.proofs.Recover.Valid.{saved-valid}
+use Rattle.rules.proofs.Sim.State.{Sim, Simulated, by, isSound}
+use Rattle.rules.proofs.Sim.All.{every, isSoundReading, sound-record}
 use Rattle.rules.proofs.Start.{initially, start-length}
 use Rattle.rules.specs.Access.{storeWord}
 use Rattle.rules.specs.Bytes.{lineBytes, wordsOf}

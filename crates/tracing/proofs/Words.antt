@@ -8,11 +8,11 @@ use lib.ListN.{drop, length, length-append, length-map}
 use native.Mathlib.Nat.{mul-suc}
 use native.Mathlib.Omega.{arith}
 use borrow.Author.Tests.{eqb-false, eqb-true}
-use Rattle.rules.proofs.FoundEntries.{entries-in}
-use Rattle.rules.proofs.FoundRising.{rising-length}
+use Rattle.rules.proofs.Recover.Entries.{entries-in}
+use Rattle.rules.proofs.Recover.Rising.{rising-length}
 use Rattle.rules.proofs.Main.{recovery-is-right}
-use Rattle.rules.proofs.Sim.{Simulated, by}
-use Rattle.rules.proofs.SimAll.{every}
+use Rattle.rules.proofs.Sim.State.{Simulated, by}
+use Rattle.rules.proofs.Sim.All.{every}
 use Rattle.rules.specs.Claim.{boardAfter, isByte, isByteMemory, passLength, recovering, restores}
 use Rattle.rules.specs.History.{acceptedIn, expectedBytes, hasCut, memoryFound}
 use Rattle.rules.specs.Image.{Logged, image, orderOf, saved, savedEntry, savedLog, savedThread}

@@ -8,7 +8,7 @@ use lib.ListN.{drop, drop-of-length-le, getD, length, take}
 use lib.Seq.{drop-cons, take-length, take-suc}
 use native.Mathlib.Numerals.{add-one}
 use native.Mathlib.Omega.{arith}
-use Rattle.rules.proofs.CodecValid.{count-append}
+use Rattle.rules.proofs.Codec.Valid.{count-append}
 use Rattle.rules.specs.Lists.{count}
 use Rattle.rules.specs.declared.Found.the-variants.{At, Full}
 use Rattle.undo.proofs.Laws.{test}

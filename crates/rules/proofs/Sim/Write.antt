@@ -14,15 +14,15 @@ use lib.ListN.{List·getD-eq-default, getD, length, length-set, set}
 use native.Mathlib.Omega.{arith}
 use borrow.Author.Tests.{eq-eqb, eqb-false, eqb-true, leb-false, ltb-false, ltb-true, ne-eqb, not-false}
 use lib.Seq.{getD-set-other, getD-set-same, set-set}
-use Rattle.rules.proofs.CodecBytes.{isLine}
-use Rattle.rules.proofs.FoundLive.{live-listed}
-use Rattle.rules.proofs.FoundSound.{sound}
+use Rattle.rules.proofs.Codec.Bytes.{isLine}
+use Rattle.rules.proofs.Recover.Live.{live-listed}
+use Rattle.rules.proofs.Recover.Sound.{sound}
 use Rattle.rules.proofs.Places.{any-put, any-set, count-put, count-set, each-set, eqb-swap, getD-set, key-at, listed-key, listed-stored, place-lt, place-stored, place-true, region-stored}
-use Rattle.rules.proofs.Sim.{Finished, GoodEntry, GoodRegion, Keeps, Kept, Logs, Memories, Rest, Shape, Sim, Simulated, Told, by}
-use Rattle.rules.proofs.SimAccess.{Joined, current-is, current-open, join, joins, open-undone, owner-ended, rest-read, undone-stays, uses-access}
-use Rattle.rules.proofs.SimBase.{Unrefused, accepted, key-thread, lines-256, shape-thread, threads-8}
-use Rattle.rules.proofs.SimFlight.{flights, flown-rest}
-use Rattle.rules.proofs.SimParts.{Owner, logged-live, logs-kept, once-at, open-listed, owned, owner-is, owner-stored, part-stored, rebuilt, shape-stored, told-kept, unowned}
+use Rattle.rules.proofs.Sim.State.{Finished, GoodEntry, GoodRegion, Keeps, Kept, Logs, Memories, Rest, Shape, Sim, Simulated, Told, by}
+use Rattle.rules.proofs.Sim.Access.{Joined, current-is, current-open, join, joins, open-undone, owner-ended, rest-read, undone-stays, uses-access}
+use Rattle.rules.proofs.Sim.Base.{Unrefused, accepted, key-thread, lines-256, shape-thread, threads-8}
+use Rattle.rules.proofs.Sim.Flight.{flights, flown-rest}
+use Rattle.rules.proofs.Sim.Parts.{Owner, logged-live, logs-kept, once-at, open-listed, owned, owner-is, owner-stored, part-stored, rebuilt, shape-stored, told-kept, unowned}
 use Rattle.rules.proofs.SlotLaws.{counted-view, distinct-written, length-written, line-set, state-written, state-written-other}
 use Rattle.rules.proofs.Views.{carryOf, entryAt, newest, stateOf}
 use Rattle.rules.specs.Access.{dependence, freeEntry, isOf, joined, logged, loggedOnce, needsLog, read, storeWord, stored, write, wrote}

@@ -14,13 +14,13 @@ use lib.ListN.{List·getD-eq-default, length, length-map}
 use native.Mathlib.Omega.{arith}
 use borrow.Author.Tests.{eq-eqb, eqb-false, eqb-true, le-leb, ltb-false, ltb-true, ne-eqb, not-false, not-true}
 use native.Mathlib.Nat.{le-refl}
-use Rattle.rules.proofs.CodecBytes.{isLine}
-use Rattle.rules.proofs.CodecTurns.{size-threads}
-use Rattle.rules.proofs.CodecValid.{count-append, keyOfLogged, rises}
-use Rattle.rules.proofs.FoundLive.{live-listed, threaded, whole}
-use Rattle.rules.proofs.FoundRising.{Rises, higher, no-more, rises-above, rising-is, rising-length, rising-rises}
+use Rattle.rules.proofs.Codec.Bytes.{isLine}
+use Rattle.rules.proofs.Codec.Turns.{size-threads}
+use Rattle.rules.proofs.Codec.Valid.{count-append, keyOfLogged, rises}
+use Rattle.rules.proofs.Recover.Live.{live-listed, threaded, whole}
+use Rattle.rules.proofs.Recover.Rising.{Rises, higher, no-more, rises-above, rising-is, rising-length, rising-rises}
 use Rattle.rules.proofs.Places.{any-at, any-map, count-le, eq-both, eqb-swap, listed-key, place-only, place-true}
-use Rattle.rules.proofs.Sim.{GoodEntry, Sim}
+use Rattle.rules.proofs.Sim.State.{GoodEntry, Sim}
 use Rattle.rules.proofs.Views.{entryAt}
 use Rattle.rules.specs.Access.{isOf}
 use Rattle.rules.specs.Acknowledge.{isEntry}

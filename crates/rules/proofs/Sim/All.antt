@@ -7,15 +7,15 @@ use lib.Dec.{eqb, ltb}
 use lib.ListN.{drop, length, take}
 use native.Mathlib.Omega.{arith}
 use borrow.Author.Tests.{eqb-true, leb-false, lt-ltb, ltb-false}
-use Rattle.rules.proofs.CodecBytes.{num-part-small}
-use Rattle.rules.proofs.Sim.{Keeps, Kept, isSound}
-use Rattle.rules.proofs.SimAccess.{read-keeps}
-use Rattle.rules.proofs.SimAck.{log-ack}
-use Rattle.rules.proofs.SimBase.{accepted}
-use Rattle.rules.proofs.SimCommit.{settles}
-use Rattle.rules.proofs.SimData.{keeps-data}
-use Rattle.rules.proofs.SimRegions.{ends-region, keeps-begin, keeps-cut, keeps-fence, keeps-setup, keeps-shallower}
-use Rattle.rules.proofs.SimWrite.{write-keeps}
+use Rattle.rules.proofs.Codec.Bytes.{num-part-small}
+use Rattle.rules.proofs.Sim.State.{Keeps, Kept, isSound}
+use Rattle.rules.proofs.Sim.Access.{read-keeps}
+use Rattle.rules.proofs.Sim.Ack.{log-ack}
+use Rattle.rules.proofs.Sim.Base.{accepted}
+use Rattle.rules.proofs.Sim.Commit.{settles}
+use Rattle.rules.proofs.Sim.Data.{keeps-data}
+use Rattle.rules.proofs.Sim.Regions.{ends-region, keeps-begin, keeps-cut, keeps-fence, keeps-setup, keeps-shallower}
+use Rattle.rules.proofs.Sim.Write.{write-keeps}
 use Rattle.rules.proofs.Start.{initially}
 use Rattle.rules.specs.Bytes.{numOf}
 use Rattle.rules.specs.Claim.{boardAfter, isByte, isByteMemory}

@@ -11,10 +11,10 @@ use lib.ListN.{getD, length-map, length-set, set}
 use native.Mathlib.Omega.{arith}
 use borrow.Author.Tests.{eqb-false, eqb-true, leb-false, not-false}
 use Rattle.rules.proofs.Places.{Good, getD-set, key-at, listed-at, listed-key, listed-stored, place-lt, place-true, region-stored}
-use Rattle.rules.proofs.Sim.{GoodRegion, Keeps, Kept, Memories, Sim, Simulated, by}
-use Rattle.rules.proofs.SimBase.{Unrefused, accepted, clear-waits, lines-256}
-use Rattle.rules.proofs.SimCommit.{settles}
-use Rattle.rules.proofs.SimParts.{Flown, Quiet, logs-kept, once-at, owner-stored, part-stored, rebuilt, shape-stored, told-kept}
+use Rattle.rules.proofs.Sim.State.{GoodRegion, Keeps, Kept, Memories, Sim, Simulated, by}
+use Rattle.rules.proofs.Sim.Base.{Unrefused, accepted, clear-waits, lines-256}
+use Rattle.rules.proofs.Sim.Commit.{settles}
+use Rattle.rules.proofs.Sim.Parts.{Flown, Quiet, logs-kept, once-at, owner-stored, part-stored, rebuilt, shape-stored, told-kept}
 use Rattle.rules.proofs.SlotLaws.{distinct-dropped, dropped-none, flight-carried, flight-state, landed-dropped, state-dropped, state-dropped-other}
 use Rattle.rules.proofs.Views.{carryOf, newest, slotView, stateOf}
 use Rattle.rules.specs.Acknowledge.{dataAck, droppedSlot, flightPlace, kept, landed}

@@ -9,8 +9,8 @@ use lib.ListN.{getD, length, length-append, length-map, replicate, take}
 use native.Mathlib.Omega.{arith}
 use borrow.Author.Tests.{eqb-true, le-leb, lt-ltb, ne-eqb, not-true}
 use lib.Seq.{take-append-add}
-use Rattle.rules.proofs.CodecValid.{keyOfListed, rises}
-use Rattle.rules.proofs.FoundRising.{Rises, higher, no-more, rising-is, rising-length, rising-rises}
+use Rattle.rules.proofs.Codec.Valid.{keyOfListed, rises}
+use Rattle.rules.proofs.Recover.Rising.{Rises, higher, no-more, rising-is, rising-length, rising-rises}
 use Rattle.rules.proofs.Places.{any-map, eqb-swap, key-at}
 use Rattle.rules.specs.Contradiction.{depsOf, inOrder, isListed}
 use Rattle.rules.specs.Image.{savedRegion, savedRegions}

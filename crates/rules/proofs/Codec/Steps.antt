@@ -7,10 +7,10 @@ use lib.Dec.{leb, ltb}
 use lib.ListN.{drop, length, length-append}
 use native.Mathlib.Omega.{arith}
 use borrow.Author.Tests.{eqb-true, lt-ltb}
-use Rattle.rules.proofs.CodecBytes.{all-append, all-at, isLine, line-small}
-use Rattle.rules.proofs.CodecParts.{entry-again, line-again, region-again}
-use Rattle.rules.proofs.CodecTurns.{persistentOf}
-use Rattle.rules.proofs.CodecValid.{Sound, bound, count-append, fitsEntry, fitsRegion, keyOfListed, keyOfLogged, rises, rises-append}
+use Rattle.rules.proofs.Codec.Bytes.{all-append, all-at, isLine, line-small}
+use Rattle.rules.proofs.Codec.Parts.{entry-again, line-again, region-again}
+use Rattle.rules.proofs.Codec.Turns.{persistentOf}
+use Rattle.rules.proofs.Codec.Valid.{Sound, bound, count-append, fitsEntry, fitsRegion, keyOfListed, keyOfLogged, rises, rises-append}
 use Rattle.rules.specs.Bytes.{lineAt}
 use Rattle.rules.specs.Claim.{isByte}
 use Rattle.rules.specs.Image.{Logged, Persistent, encode, entryRecord, headRecord, lineRecord, regionRecord}

@@ -10,12 +10,12 @@ use lib.Dec.{eqb, leb, ltb}
 use lib.ListN.{List·getD-eq-default, getD, getD-replicate, length-set, replicate, set}
 use native.Mathlib.Omega.{arith}
 use borrow.Author.Tests.{eqb-false, eqb-true, le-leb, leb-false, leb-true, lt-leb, ltb-false, ltb-true, ne-eqb, not-false, not-true}
-use Rattle.rules.proofs.FoundRising.{no-more}
+use Rattle.rules.proofs.Recover.Rising.{no-more}
 use Rattle.rules.proofs.Places.{count-room, each-set, eqb-swap, getD-set, good-free, good-new, good-stored, key-at, listed-key, listed-new, listed-stored, once-new, once-one, once-stored, region-new, region-none, region-stored, unique-new, unique-stored, unlisted-any}
-use Rattle.rules.proofs.Sim.{Distinct, Finished, GoodRegion, Keeps, Kept, Rest, Shape, Sim, Simulated, Told, by, more, none}
-use Rattle.rules.proofs.SimBase.{Alike, Unrefused, accepted, alter, key-number, key-split, key-thread, logs-over, logs-same, memories-same, owner-born, rest-alter, shape-thread, sim-alter, thread-stored, threads-8, told-alike}
-use Rattle.rules.proofs.SimFlight.{flights, flown-rest}
-use Rattle.rules.proofs.SimParts.{Flown, once-at, open-listed}
+use Rattle.rules.proofs.Sim.State.{Distinct, Finished, GoodRegion, Keeps, Kept, Rest, Shape, Sim, Simulated, Told, by, more, none}
+use Rattle.rules.proofs.Sim.Base.{Alike, Unrefused, accepted, alter, key-number, key-split, key-thread, logs-over, logs-same, memories-same, owner-born, rest-alter, shape-thread, sim-alter, thread-stored, threads-8, told-alike}
+use Rattle.rules.proofs.Sim.Flight.{flights, flown-rest}
+use Rattle.rules.proofs.Sim.Parts.{Flown, once-at, open-listed}
 use Rattle.rules.proofs.Views.{entryAt, isOpened, stateOf}
 use Rattle.rules.specs.Begin.{begin, begun, deeper, opened}
 use Rattle.rules.specs.Commit.{commits}

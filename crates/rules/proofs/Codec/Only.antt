@@ -8,10 +8,10 @@ use lib.ListN.{drop, length}
 use native.Mathlib.Omega.{arith}
 use borrow.Author.Tests.{eqb-false, eqb-true, leb-true, ltb-false, ltb-true, ne-eqb}
 use lib.Seq.{ext-getD}
-use Rattle.rules.proofs.CodecParts.{Passed, past-test, turn-passed}
-use Rattle.rules.proofs.CodecSteps.{Added, Begun, encode-end, entry-added, line-added, region-added, withoutEnd}
-use Rattle.rules.proofs.CodecTurns.{afterTurn, size-threads}
-use Rattle.rules.proofs.CodecValid.{Sound, Valid, listed-test, logged-test}
+use Rattle.rules.proofs.Codec.Parts.{Passed, past-test, turn-passed}
+use Rattle.rules.proofs.Codec.Steps.{Added, Begun, encode-end, entry-added, line-added, region-added, withoutEnd}
+use Rattle.rules.proofs.Codec.Turns.{afterTurn, size-threads}
+use Rattle.rules.proofs.Codec.Valid.{Sound, Valid, listed-test, logged-test}
 use Rattle.rules.specs.Claim.{isByte}
 use Rattle.rules.specs.Image.{Logged, Persistent, encode}
 use Rattle.rules.specs.declared.Listed.{Listed}

@@ -13,9 +13,9 @@ use native.Mathlib.Omega.{arith}
 use borrow.Author.Tests.{eqb-false, eqb-true}
 use lib.Seq.{getD-set-other, getD-set-same}
 use Rattle.rules.proofs.Commits.{CommitsTold}
-use Rattle.rules.proofs.FoundLive.{whole}
+use Rattle.rules.proofs.Recover.Live.{whole}
 use Rattle.rules.proofs.Places.{eqb-swap}
-use Rattle.rules.proofs.Sim.{Sim, conv}
+use Rattle.rules.proofs.Sim.State.{Sim, conv}
 use Rattle.rules.proofs.Start.{start-length}
 use Rattle.rules.specs.Claim.{boardAfter}
 use Rattle.rules.specs.Tables.{Memory, lineOf, listed, startLines}

@@ -2,7 +2,7 @@
 use Rattle.undo.specs.Machine as u
 use Rattle.undo.specs.History as v
 use Rattle.undo.specs.Claim.{Reach}
-use Rattle.rules.proofs.CodecBytes.{isLine, all-take}
+use Rattle.rules.proofs.Codec.Bytes.{isLine, all-take}
 use Prim.Native.Nat.{_<_, suc, ℕ}
 use mathlib.Core.Path.{_∙_, _≡_, refl, sym}
 use mathlib.Core.Bool.{Bool, true}
@@ -12,12 +12,12 @@ use lib.ListN.{getD, length, length-map}
 use native.Mathlib.Omega.{arith}
 use borrow.Author.Tests.{eqb-true, lt-ltb}
 use lib.Seq.{length-take-le}
-use Rattle.rules.proofs.CodecTurns.{size-lines, size-threads}
-use Rattle.rules.proofs.CodecValid.{Valid, fitsEntry, fitsRegion}
-use Rattle.rules.proofs.FoundLive.{deps-listed, threaded}
-use Rattle.rules.proofs.FoundLog.{each-all, each-saved, log-climbs, log-few}
-use Rattle.rules.proofs.FoundSaved.{all-in, all-of, depsAt, keys-length, keys-listed, keys-rise, keysOf, length-padded, rises-listed, saved-regions, savedAt, stateAt}
-use Rattle.rules.proofs.Sim.{Sim}
+use Rattle.rules.proofs.Codec.Turns.{size-lines, size-threads}
+use Rattle.rules.proofs.Codec.Valid.{Valid, fitsEntry, fitsRegion}
+use Rattle.rules.proofs.Recover.Live.{deps-listed, threaded}
+use Rattle.rules.proofs.Recover.Log.{each-all, each-saved, log-climbs, log-few}
+use Rattle.rules.proofs.Recover.Saved.{all-in, all-of, depsAt, keys-length, keys-listed, keys-rise, keysOf, length-padded, rises-listed, saved-regions, savedAt, stateAt}
+use Rattle.rules.proofs.Sim.State.{Sim}
 use Rattle.rules.specs.Claim.{isByte}
 use Rattle.rules.specs.Image.{saved}
 use Rattle.rules.specs.Lists.{all}

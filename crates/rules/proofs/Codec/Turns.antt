@@ -8,7 +8,7 @@ use lib.ListN.{drop, length, length-append}
 use native.Mathlib.Omega.{arith}
 use borrow.Author.Tests.{le-leb, leb-true, lt-ltb, ltb-true, ne-eqb}
 use lib.Seq.{drop-at, take-at}
-use Rattle.rules.proofs.CodecBytes.{isLine, key-back, length-bytes, length-words, line-back, num-bytes}
+use Rattle.rules.proofs.Codec.Bytes.{isLine, key-back, length-bytes, length-words, line-back, num-bytes}
 use Rattle.rules.specs.Bytes.{bytesOf, lineBytes, numOf}
 use Rattle.rules.specs.Image.{Logged, Persistent, headRecord, keyBytes, lineRecord}
 use Rattle.rules.specs.Lists.{all, flat}

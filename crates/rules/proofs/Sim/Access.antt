@@ -14,11 +14,11 @@ use lib.Dec.{eqb, ltb}
 use lib.ListN.{List·getD-eq-default, getD, length, length-set, set}
 use borrow.Author.Tests.{eq-eqb, eqb-false, eqb-true, ltb-false, ltb-true, not-false}
 use lib.Seq.{set-getD}
-use Rattle.rules.proofs.FoundSound.{sound}
+use Rattle.rules.proofs.Recover.Sound.{sound}
 use Rattle.rules.proofs.Places.{Once, any-none, any-put, any-set, each-set, getD-set, key-at, listed-key, listed-stored, place-lt, place-true, region-stored}
-use Rattle.rules.proofs.Sim.{Finished, GoodRegion, Keeps, Kept, Rest, Sim, Simulated, Told, by, none}
-use Rattle.rules.proofs.SimBase.{Unrefused, accepted, orZero, writer-same}
-use Rattle.rules.proofs.SimParts.{Owner, logs-kept, no-event, once-at, open-listed, owned, owner-is, owner-stored, part-stored, shape-stored, told-kept, unowned}
+use Rattle.rules.proofs.Sim.State.{Finished, GoodRegion, Keeps, Kept, Rest, Sim, Simulated, Told, by, none}
+use Rattle.rules.proofs.Sim.Base.{Unrefused, accepted, orZero, writer-same}
+use Rattle.rules.proofs.Sim.Parts.{Owner, logs-kept, no-event, once-at, open-listed, owned, owner-is, owner-stored, part-stored, shape-stored, told-kept, unowned}
 use Rattle.rules.proofs.Views.{stateOf}
 use Rattle.rules.specs.Access.{dependence, isHad, joined, read}
 use Rattle.rules.specs.Acknowledge.{kept}

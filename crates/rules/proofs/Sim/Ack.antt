@@ -13,11 +13,11 @@ use lib.ListN.{getD, length-map, length-set}
 use native.Mathlib.Omega.{arith}
 use borrow.Author.Tests.{eq-eqb, eqb-false, eqb-true, leb-false, ltb-false, ltb-true, ne-eqb, not-false}
 use Rattle.rules.proofs.Places.{Good, any-map, count-map, getD-map, getD-set, good-free, good-mapped, key-at, listed-key, listed-mapped, once-mapped, region-mapped, region-none, unique-mapped}
-use Rattle.rules.proofs.Sim.{GoodEntry, GoodRegion, Kept, Logs, Rest, Shape, Sim, Simulated, Told, by}
-use Rattle.rules.proofs.SimBase.{Unrefused, accepted, lines-256, memories-same, shape-thread, thread-stored, threads-8}
-use Rattle.rules.proofs.SimFlight.{flights, flown-rest}
-use Rattle.rules.proofs.SimParts.{Flown, Owner, owned, owner-is, told-kept, unowned}
-use Rattle.rules.proofs.SimWrite.{top-owner}
+use Rattle.rules.proofs.Sim.State.{GoodEntry, GoodRegion, Kept, Logs, Rest, Shape, Sim, Simulated, Told, by}
+use Rattle.rules.proofs.Sim.Base.{Unrefused, accepted, lines-256, memories-same, shape-thread, thread-stored, threads-8}
+use Rattle.rules.proofs.Sim.Flight.{flights, flown-rest}
+use Rattle.rules.proofs.Sim.Parts.{Flown, Owner, owned, owner-is, told-kept, unowned}
+use Rattle.rules.proofs.Sim.Write.{top-owner}
 use Rattle.rules.proofs.SlotLaws.{distinct-dropped, dropped-none, state-dropped, state-dropped-other}
 use Rattle.rules.proofs.Views.{carryOf, entryAt, newest, stateOf}
 use Rattle.rules.specs.Access.{isOf}

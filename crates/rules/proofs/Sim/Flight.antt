@@ -12,8 +12,8 @@ use lib.ListN.{getD, set}
 use native.Mathlib.Omega.{arith}
 use borrow.Author.Tests.{eqb-false, eqb-true, not-true}
 use Rattle.rules.proofs.Places.{key-at, listed-key, listed-stored, region-stored}
-use Rattle.rules.proofs.Sim.{GoodRegion, Memories, Sim, Simulated, by}
-use Rattle.rules.proofs.SimParts.{Flown, logs-kept, no-event, once-at, owner-stored, part-stored, shape-stored, told-kept}
+use Rattle.rules.proofs.Sim.State.{GoodRegion, Memories, Sim, Simulated, by}
+use Rattle.rules.proofs.Sim.Parts.{Flown, logs-kept, no-event, once-at, owner-stored, part-stored, shape-stored, told-kept}
 use Rattle.rules.proofs.SlotLaws.{distinct-flown, flight-state, flown-none, length-carried, length-flown, line-carried, offAt, state-flown, takesOff}
 use Rattle.rules.proofs.Views.{carryOf, newest, stateOf}
 use Rattle.rules.specs.Flight.{flown}

@@ -8,9 +8,9 @@ use lib.ListN.{length, length-append}
 use native.Mathlib.Omega.{arith}
 use borrow.Author.Tests.{eqb-true, le-ltb, lt-ltb, ne-eqb}
 use lib.Seq.{append-snoc}
-use Rattle.rules.proofs.CodecBytes.{isLine}
-use Rattle.rules.proofs.CodecTurns.{entryBody, head-read, length-entry, length-region, line-read, listed-back, logged-back, record-read, regionBody, size-threads, persistentOf, turn-last}
-use Rattle.rules.proofs.CodecValid.{Valid, bound, count-append, fitsEntry, fitsRegion, keyOfListed, keyOfLogged, listed-test, logged-test, rises, rises-append}
+use Rattle.rules.proofs.Codec.Bytes.{isLine}
+use Rattle.rules.proofs.Codec.Turns.{entryBody, head-read, length-entry, length-region, line-read, listed-back, logged-back, record-read, regionBody, size-threads, persistentOf, turn-last}
+use Rattle.rules.proofs.Codec.Valid.{Valid, bound, count-append, fitsEntry, fitsRegion, keyOfListed, keyOfLogged, listed-test, logged-test, rises, rises-append}
 use Rattle.rules.specs.Claim.{isByte}
 use Rattle.rules.specs.Contradiction.{contradicts}
 use Rattle.rules.specs.Image.{Logged, Persistent, encode, entryRecord, lineRecord, regionRecord}

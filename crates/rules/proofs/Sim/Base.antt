@@ -14,9 +14,9 @@ use lib.Dec.{eqb, leb, ltb}
 use lib.ListN.{getD, length, length-set}
 use native.Mathlib.Omega.{arith}
 use borrow.Author.Tests.{leb-true, ltb-true, ne-eqb}
-use Rattle.rules.proofs.FoundLive.{numbered}
+use Rattle.rules.proofs.Recover.Live.{numbered}
 use Rattle.rules.proofs.Places.{eqb-swap, getD-set}
-use Rattle.rules.proofs.Sim.{GoodEntry, Logs, Memories, Rest, Shape, Sim, Told, conv, none}
+use Rattle.rules.proofs.Sim.State.{GoodEntry, Logs, Memories, Rest, Shape, Sim, Told, conv, none}
 use Rattle.rules.proofs.Views.{entryAt}
 use Rattle.rules.specs.Access.{logged}
 use Rattle.rules.specs.History.{Change, depthIn, endsIn, lastWriter, linesIn, openedIn, usesIn, writesIn}

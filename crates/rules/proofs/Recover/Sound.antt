@@ -13,13 +13,13 @@ use lib.ListN.{getD, length, length-map}
 use native.Mathlib.Omega.{arith}
 use borrow.Author.Tests.{eq-eqb, eqb-true, le-leb, le-ltb, lt-ltb, ltb-true, ne-eqb, not-true}
 use native.Mathlib.Nat.{le-refl}
-use Rattle.rules.proofs.FoundLive.{dep-listed, dep-same, deps-listed, four, listed-live, live-listed, numbered, on-predecessor, successor, was-opened, whole}
-use Rattle.rules.proofs.FoundLog.{Each, GoodSaved, chosen, each-none, each-saved, element, isChosen, no-element, single-chosen}
-use Rattle.rules.proofs.FoundRising.{Rises, higher, no-more, rises-above}
-use Rattle.rules.proofs.FoundSaved.{any-of, deps-in, deps-none, depsAt, keys-in, keys-listed, keys-rise, keysOf, none-in, none-of, padded-in, padded-order, padded-zeros, saved-regions, savedAt, stateAt}
-use Rattle.rules.proofs.FoundWalk.{at-in}
+use Rattle.rules.proofs.Recover.Live.{dep-listed, dep-same, deps-listed, four, listed-live, live-listed, numbered, on-predecessor, successor, was-opened, whole}
+use Rattle.rules.proofs.Recover.Log.{Each, GoodSaved, chosen, each-none, each-saved, element, isChosen, no-element, single-chosen}
+use Rattle.rules.proofs.Recover.Rising.{Rises, higher, no-more, rises-above}
+use Rattle.rules.proofs.Recover.Saved.{any-of, deps-in, deps-none, depsAt, keys-in, keys-listed, keys-rise, keysOf, none-in, none-of, padded-in, padded-order, padded-zeros, saved-regions, savedAt, stateAt}
+use Rattle.rules.proofs.Recover.Walk.{at-in}
 use Rattle.rules.proofs.Places.{count-fewer, count-le, eqb-swap, key-at, listed-key, place-lt, place-true}
-use Rattle.rules.proofs.Sim.{Rest, Sim}
+use Rattle.rules.proofs.Sim.State.{Rest, Sim}
 use Rattle.rules.specs.Commit.{commits}
 use Rattle.rules.specs.Contradiction.{anyBroken, anyClash, brokenBefore, clash, contradicts, inOrder, isAstray, isCircle, isLeftOver, isListed, isUnknownState, isUnnumbered, reaches, reachesIn}
 use Rattle.rules.specs.History.{openedIn}

@@ -13,10 +13,10 @@ use lib.ListN.{List·getD-eq-default, getD, length, length-map, length-set, repl
 use native.Mathlib.Omega.{arith}
 use borrow.Author.Tests.{eqb-false, eqb-true, leb-true, ltb-false, ltb-true, ne-eqb, not-false, not-true}
 use Rattle.rules.proofs.Places.{Once, Unique, any-map, any-none, at-commit, count-le, count-map, count-zero, getD-map, good-free, good-mapped, held-commit, key-at, listed-any, listed-at, listed-commit, listed-key, listed-mapped, once-mapped, once-one, region-at, region-commit, region-mapped, region-none, unique-commit, unique-mapped}
-use Rattle.rules.proofs.Sim.{Finished, GoodEntry, GoodRegion, Kept, Logs, Shape, Sim, Simulated, Told, by}
-use Rattle.rules.proofs.SimBase.{clear-waits, logs-same, memories-same, thread-stored, threads-8, told-alike}
-use Rattle.rules.proofs.SimParts.{Flown}
-use Rattle.rules.proofs.SimRegions.{free-slots, state-free}
+use Rattle.rules.proofs.Sim.State.{Finished, GoodEntry, GoodRegion, Kept, Logs, Shape, Sim, Simulated, Told, by}
+use Rattle.rules.proofs.Sim.Base.{clear-waits, logs-same, memories-same, thread-stored, threads-8, told-alike}
+use Rattle.rules.proofs.Sim.Parts.{Flown}
+use Rattle.rules.proofs.Sim.Regions.{free-slots, state-free}
 use Rattle.rules.proofs.SlotLaws.{no-slots}
 use Rattle.rules.proofs.Views.{entryAt, newest}
 use Rattle.rules.specs.Access.{isOf, logged}

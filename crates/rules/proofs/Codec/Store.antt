@@ -6,9 +6,9 @@ use mathlib.Core.List.{List, [], _++_, _∷_, append-assoc}
 use lib.ListN.{drop, length, length-set, set, take}
 use native.Mathlib.Omega.{arith}
 use lib.Seq.{drop-append-add, drop-at, drop-drop, take-append-add, take-at}
-use Rattle.rules.proofs.CodecBytes.{all-set, isLine, length-bytes, length-words, num-bytes}
-use Rattle.rules.proofs.CodecTurns.{size-lines}
-use Rattle.rules.proofs.CodecValid.{Valid}
+use Rattle.rules.proofs.Codec.Bytes.{all-set, isLine, length-bytes, length-words, num-bytes}
+use Rattle.rules.proofs.Codec.Turns.{size-lines}
+use Rattle.rules.proofs.Codec.Valid.{Valid}
 use Rattle.rules.specs.Bytes.{bytesOf, lineBytes, numOf, paste}
 use Rattle.rules.specs.History.{foundFrom, memoryFound}
 use Rattle.rules.specs.Image.{Logged, Persistent, encode, entryRecord, headRecord, lineRecord, regionRecord}

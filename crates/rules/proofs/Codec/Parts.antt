@@ -8,7 +8,7 @@ use lib.ListN.{drop, getD, length, take}
 use native.Mathlib.Omega.{arith}
 use borrow.Author.Tests.{leb-true}
 use lib.Seq.{drop-cons}
-use Rattle.rules.proofs.CodecBytes.{key-part, line-part, num-part}
+use Rattle.rules.proofs.Codec.Bytes.{key-part, line-part, num-part}
 use Rattle.rules.specs.Bytes.{bytesOf, lineAt, lineBytes, numOf}
 use Rattle.rules.specs.Claim.{isByte}
 use Rattle.rules.specs.Image.{Persistent, entryRecord, headRecord, keyBytes, lineRecord, regionRecord}

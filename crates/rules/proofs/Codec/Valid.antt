@@ -7,7 +7,7 @@ use lib.Dec.{eqb, leb, ltb}
 use lib.ListN.{getD, length}
 use native.Mathlib.Omega.{arith}
 use borrow.Author.Tests.{le-leb, ne-eqb}
-use Rattle.rules.proofs.CodecBytes.{isLine}
+use Rattle.rules.proofs.Codec.Bytes.{isLine}
 use Rattle.rules.specs.Claim.{isByte}
 use Rattle.rules.specs.Image.{Logged, Persistent}
 use Rattle.rules.specs.declared.Listed.{Listed}

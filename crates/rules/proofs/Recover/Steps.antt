@@ -7,7 +7,7 @@ use Rattle.undo.specs.Recovery.{along, olds, persistent, Placed, begins, cuts}
 use Rattle.undo.proofs.Main.{finishes}
 use Rattle.rules.specs.Recovery.{Act, PowerCut, Recovering, Restore, act, acts, isFinished, putBack, restore, restoreBy}
 use Rattle.rules.specs.Claim.{restores}
-use Rattle.rules.proofs.CodecStore.{found}
+use Rattle.rules.proofs.Codec.Store.{found}
 use Prim.Native.Nat.{_+_, _<_, _≤_, suc, zero, ℕ}
 use mathlib.Core.Path.{_∙_, _≡_, ap, refl, sym}
 use mathlib.Core.Bool.{Bool, false, true}
@@ -19,17 +19,17 @@ use native.Mathlib.Numerals.{add-one}
 use borrow.Author.Tests.{eq-eqb, eqb-false, eqb-true}
 use lib.Seq.{ext-getD, getD-set-other, getD-set-same, getD-take, length-take-le}
 use native.Mathlib.Nat.{le-refl}
-use Rattle.rules.proofs.CodecBack.{image-read}
-use Rattle.rules.proofs.CodecStore.{put-back, put-valid, withMedium}
-use Rattle.rules.proofs.CodecTurns.{size-lines}
-use Rattle.rules.proofs.CodecValid.{Valid}
-use Rattle.rules.proofs.FoundLive.{dep-same, live-listed, whole}
-use Rattle.rules.proofs.FoundLog.{Each, GoodSaved, each-append, each-saved, element, log-chosen, no-element, single-chosen, undos}
-use Rattle.rules.proofs.FoundSaved.{depsAt, keys-listed, keys-rise, keysOf, saved-regions, savedAt, stateAt}
-use Rattle.rules.proofs.FoundValid.{saved-valid}
-use Rattle.rules.proofs.FoundWalk.{aimed-entries, covers, undosOf, walk-along, walk-length, walk-same, walkKeys, walks}
+use Rattle.rules.proofs.Codec.Back.{image-read}
+use Rattle.rules.proofs.Codec.Store.{put-back, put-valid, withMedium}
+use Rattle.rules.proofs.Codec.Turns.{size-lines}
+use Rattle.rules.proofs.Codec.Valid.{Valid}
+use Rattle.rules.proofs.Recover.Live.{dep-same, live-listed, whole}
+use Rattle.rules.proofs.Recover.Log.{Each, GoodSaved, each-append, each-saved, element, log-chosen, no-element, single-chosen, undos}
+use Rattle.rules.proofs.Recover.Saved.{depsAt, keys-listed, keys-rise, keysOf, saved-regions, savedAt, stateAt}
+use Rattle.rules.proofs.Recover.Valid.{saved-valid}
+use Rattle.rules.proofs.Recover.Walk.{aimed-entries, covers, undosOf, walk-along, walk-length, walk-same, walkKeys, walks}
 use Rattle.rules.proofs.Places.{count-le}
-use Rattle.rules.proofs.Sim.{Sim}
+use Rattle.rules.proofs.Sim.State.{Sim}
 use Rattle.rules.specs.Bytes.{lineBytes}
 use Rattle.rules.specs.Contradiction.{contradicts}
 use Rattle.rules.specs.History.{expected, memoryFound}

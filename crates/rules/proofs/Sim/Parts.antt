@@ -11,7 +11,7 @@ use lib.Dec.{eqb}
 use lib.ListN.{getD, length-set, set}
 use borrow.Author.Tests.{eqb-true}
 use Rattle.rules.proofs.Places.{Once, good-stored, listed-stored, once-stored, region-stored, unique-stored}
-use Rattle.rules.proofs.Sim.{GoodRegion, Logs, Shape, Sim, Told, conv}
+use Rattle.rules.proofs.Sim.State.{GoodRegion, Logs, Shape, Sim, Told, conv}
 use Rattle.rules.proofs.Views.{stateOf}
 use Rattle.rules.specs.Access.{logged}
 use Rattle.rules.specs.History.{depthIn, drawsOn, endsIn, lastWriter, linesIn, openedIn, regionIn, usesIn, writesIn}

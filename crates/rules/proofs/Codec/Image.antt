@@ -4,11 +4,11 @@ use mathlib.Core.Path.{_≡_, ap, refl, subst, sym}
 use mathlib.Core.Bool.{false, false≢true, true}
 use mathlib.Core.List.{List, [], _++_, _∷_}
 use lib.ListN.{drop, getD, take}
-use Rattle.rules.proofs.CodecOnly.{Kind, Only, endKind, entryKind, headKind, isLast, isReading, kind-of, lineKind, not-last, onward, regionKind, stateIn, stateRead}
-use Rattle.rules.proofs.CodecParts.{Passed, head-again, past-test, turn-passed}
-use Rattle.rules.proofs.CodecSteps.{Begun, head-begun, without-head, withoutEnd}
-use Rattle.rules.proofs.CodecTurns.{afterTurn, persistentOf}
-use Rattle.rules.proofs.CodecValid.{Valid}
+use Rattle.rules.proofs.Codec.Only.{Kind, Only, endKind, entryKind, headKind, isLast, isReading, kind-of, lineKind, not-last, onward, regionKind, stateIn, stateRead}
+use Rattle.rules.proofs.Codec.Parts.{Passed, head-again, past-test, turn-passed}
+use Rattle.rules.proofs.Codec.Steps.{Begun, head-begun, without-head, withoutEnd}
+use Rattle.rules.proofs.Codec.Turns.{afterTurn, persistentOf}
+use Rattle.rules.proofs.Codec.Valid.{Valid}
 use Rattle.rules.specs.Bytes.{numOf}
 use Rattle.rules.specs.Claim.{OnlyImage, isByte}
 use Rattle.rules.specs.Contradiction.{contradicts}

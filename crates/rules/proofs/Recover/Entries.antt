@@ -5,8 +5,8 @@ use mathlib.Core.List.{List, [], _++_, _∷_, append-assoc, map}
 use lib.ListN.{length, length-append}
 use native.Mathlib.Nat.{add-zero, zero-add}
 use native.Mathlib.Omega.{arith}
-use Rattle.rules.proofs.CodecBytes.{length-bytes, length-words}
-use Rattle.rules.proofs.FoundSaved.{length-padded}
+use Rattle.rules.proofs.Codec.Bytes.{length-bytes, length-words}
+use Rattle.rules.proofs.Recover.Saved.{length-padded}
 use Rattle.rules.specs.Bytes.{bytesOf, lineBytes}
 use Rattle.rules.specs.Claim.{entriesIn}
 use Rattle.rules.specs.Image.{Logged, encode, entryRecord, headRecord, image, keyBytes, lineRecord, regionRecord, saved, savedRegion, savedRegions}

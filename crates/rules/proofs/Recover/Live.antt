@@ -13,8 +13,8 @@ use lib.ListN.{length}
 use native.Mathlib.Omega.{arith}
 use native.Mathlib.Numerals.{add-one}
 use borrow.Author.Tests.{eqb-false, eqb-true, leb-true, lt-ltb, ltb-false, ltb-true, not-true}
-use Rattle.rules.proofs.FoundSaved.{depsAt, padded-in}
-use Rattle.rules.proofs.Sim.{Sim}
+use Rattle.rules.proofs.Recover.Saved.{depsAt, padded-in}
+use Rattle.rules.proofs.Sim.State.{Sim}
 use Rattle.rules.specs.Acknowledge.{kept}
 use Rattle.rules.specs.History.{Use, depthIn, drawsOn, openedIn, regionIn, usesIn}
 use Rattle.rules.specs.Tables.{Board, keyOf, listed, noThread, numberOf, placeOf, regionAt, threadAt, threadOf}

@@ -1,0 +1,9 @@
+pub mod Bytes
+pub mod Valid
+pub mod Turns
+pub mod Back
+pub mod Store
+pub mod Parts
+pub mod Steps
+pub mod Only
+pub mod Image

@@ -1,0 +1,10 @@
+pub mod Rising
+pub mod Saved
+pub mod Live
+pub mod Log
+pub mod Valid
+pub mod Walk
+pub mod Steps
+pub mod Sound
+pub mod Expected
+pub mod Entries

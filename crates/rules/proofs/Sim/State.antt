@@ -1,0 +1,171 @@
+-- The board's tables, after a list of accepted events, are those of a reachable state of the undo log (crate undo); and what only the board's own tables know.
+use Rattle.undo.specs.Machine as u
+use Rattle.undo.specs.History as v
+use Rattle.undo.specs.Claim as c
+use Prim.Native.Nat.{_*_, _+_, _<_, _≤_, ℕ}
+use mathlib.Core.Path.{_≡_}
+use mathlib.Core.Logic.{_≢_, _⊎_}
+use mathlib.Core.Bool.{Bool, _&&_, _||_, false, not, true}
+use mathlib.Core.List.{List, [], _∷_}
+use lib.Dec.{eqb, ltb}
+use lib.ListN.{getD, length, set}
+use Rattle.rules.proofs.Codec.Bytes.{isLine}
+use Rattle.rules.proofs.Views.{depView, entryAt, isOpened, newest, slotView, stateOf}
+use Rattle.rules.specs.Access.{isOf, logged}
+use Rattle.rules.specs.Acknowledge.{isEntry}
+use Rattle.rules.specs.Commit.{commits}
+use Rattle.rules.specs.History.{Change, depthIn, drawsOn, endsIn, lastWriter, linesIn, openedIn, regionIn, usesIn, writesIn}
+use Rattle.rules.specs.Lists.{count}
+use Rattle.rules.specs.Refusal.{isSetUp, refusal}
+use Rattle.rules.specs.Run.{Wrote}
+use Rattle.rules.specs.Slots.{hasSlot, isEmpty}
+use Rattle.rules.specs.Step.{apply}
+use Rattle.rules.specs.Tables.{Board, Memory, lineOf, listed, noEntry, noRegion, noSlot, noThread, ownerOf, placeOf, regionAt, startLines, threadAt, threadOf}
+use Rattle.rules.specs.declared.Entry.{Entry}
+use Rattle.rules.specs.declared.Event.{Event}
+use Rattle.rules.specs.declared.Event.the-variants.{Begin, Cut, DataAck, End, Fence, LogAck, Read, Setup, Write}
+use Rattle.rules.specs.declared.Region.{Region}
+use Rattle.rules.specs.declared.Slot.{Slot}
+use Rattle.rules.specs.declared.SlotState.the-variants.{Empty, Waiting}
+use Rattle.rules.specs.declared.Tables.{Tables}
+use Rattle.undo.specs.Claim.{Reach}
+use Rattle.undo.specs.History.{History, used}
+use Rattle.undo.specs.Machine.{Open, State, Waits, owns}
+use Rattle.undo.specs.Recovery.{olds}
+use Rattle.undo.specs.Table.{any}
+
+-- ---- the tables by themselves
+
+-- no two slots name one line, and an empty slot is `noSlot`
+pub data Distinct : List Slot → Type 0 where
+  none : Distinct []
+  more : {s : Slot} {ss : List Slot} → (isEmpty (s .state) ≡ true → s ≡ noSlot) → (isEmpty (s .state) ≡ false → stateOf (s .line) ss ≡ Empty) → s .line < 256
+      → Distinct ss → Distinct (s ∷ ss)
+
+-- a place of the list of regions: `noRegion`, or a region with its four dependences and eight slots; a done region has ended and has no slot
+pub record GoodRegion (r : Region) : Type 0 where
+  pub free : r .key ≡ 0 → r ≡ noRegion
+  pub deps : length (r .deps) ≡ 4
+  pub slots : length (r .slots) ≡ 8
+  pub distinct : Distinct (r .slots)
+  pub finished : r .done ≡ true → (r .ended ≡ true) × (hasSlot r ≡ false)
+
+pub record Shape (ts : Tables) : Type 0 where
+  pub regions : length (ts .regions) ≡ 32
+  pub threads : length (ts .threads) ≡ 8
+  pub logs : (t : ℕ) → length (threadAt t ts .log) ≡ 32
+  pub owner : length (ts .owner) ≡ 256
+  pub lock : length (ts .lock) ≡ 256
+  pub good : (i : ℕ) → GoodRegion (getD (ts .regions) i noRegion)
+  -- a key stands in one place only
+  pub unique : (i : ℕ) → getD (ts .regions) i noRegion .key ≢ 0 → placeOf (getD (ts .regions) i noRegion .key) (ts .regions) ≡ i
+  -- the dependences are a set
+  pub deps-once : (i a b : ℕ) → getD (getD (ts .regions) i noRegion .deps) a 0 ≢ 0
+      → getD (getD (ts .regions) i noRegion .deps) a 0 ≡ getD (getD (ts .regions) i noRegion .deps) b 0 → a ≡ b
+  -- before setup nothing has happened: at most 8 threads and 256 lines after it
+  pub size : isSetUp ts ≡ false → ts .size .threads ≡ 0
+  pub cut-setup : ts .cut ≡ true → isSetUp ts ≡ true
+  pub thread-range : (t : ℕ) → ts .size .threads ≤ t → threadAt t ts ≡ noThread
+
+pub record Memories (b : Board) : Type 0 where
+  pub cur : length (b .cur) ≡ 256
+  pub med : length (b .med) ≡ 256
+  pub old : length (b .old) ≡ 256
+  pub car : length (b .car) ≡ 256
+  pub cur-lines : (l : ℕ) → l < 256 → isLine (lineOf l (b .cur)) ≡ true
+  pub med-lines : (l : ℕ) → l < 256 → isLine (lineOf l (b .med)) ≡ true
+  pub old-lines : (l : ℕ) → l < 256 → isLine (lineOf l (b .old)) ≡ true
+  pub car-lines : (l : ℕ) → l < 256 → isLine (lineOf l (b .car)) ≡ true
+
+-- ---- the log: each entry is one of the chain of its line
+
+pub record GoodEntry (b : Board) (s : u.State (List ℕ)) (t i : ℕ) (e : Entry) : Type 0 where
+  pub thread : threadOf (e .key) ≡ t
+  pub line : e .line < b .tables .size .lines
+  pub rank : e .rank < count (isOf (e .key)) (threadAt t (b .tables) .log)
+  pub old : olds (eqb (e .key)) (s .chain (e .line)) ≡ lineOf (32 * t + i) (b .old) ∷ []
+  -- in flight exactly if the line is locked by this region
+  pub flight : e .persistent ≡ not (s .lock (e .line) && u.owns (e .key) (s .chain (e .line)))
+
+pub record Logs (b : Board) (s : u.State (List ℕ)) : Type 0 where
+  pub entry : (t i : ℕ) → entryAt t i (b .tables) .key ≢ 0 → GoodEntry b s t i (entryAt t i (b .tables))
+  pub empty : (t i : ℕ) → entryAt t i (b .tables) .key ≡ 0 → entryAt t i (b .tables) ≡ noEntry
+  pub present : (k l : ℕ) → c.logged k (s .chain l) ≡ true → any (isEntry k l) (threadAt (threadOf k) (b .tables) .log) ≡ true
+  pub once : (t i j : ℕ) → entryAt t i (b .tables) .key ≢ 0 → entryAt t i (b .tables) .key ≡ entryAt t j (b .tables) .key
+      → entryAt t i (b .tables) .line ≡ entryAt t j (b .tables) .line → i ≡ j
+  pub ranks : (t i j : ℕ) → entryAt t i (b .tables) .key ≢ 0 → entryAt t i (b .tables) .key ≡ entryAt t j (b .tables) .key
+      → entryAt t i (b .tables) .rank ≡ entryAt t j (b .tables) .rank → i ≡ j
+
+-- ---- the history of both
+
+abbrev pub conv : List Change → List (v.Wrote (List ℕ))
+conv [] = []
+conv (w ∷ ws) = record { rid = w .region; line = w .line; change = λ x. set x (w .word) (w .value) } ∷ conv ws
+
+pub record Told (b : Board) (es : List Event) (s : u.State (List ℕ)) (h : v.History (List ℕ)) : Type 0 where
+  pub depth : (t : ℕ) → threadAt t (b .tables) .depth ≡ depthIn t es
+  pub last : (t : ℕ) → threadAt t (b .tables) .last ≡ openedIn t es
+  pub numbers : (t : ℕ) → openedIn t es ≤ 65535
+  pub lines : isSetUp (b .tables) ≡ true → linesIn es ≡ b .tables .size .lines
+  pub born : (k : ℕ) → s .born k ≡ isOpened es k
+  pub ends : h .ends ≡ endsIn es
+  pub writes : h .writes ≡ conv (writesIn es)
+  pub uses : (k q : ℕ) → drawsOn k q (usesIn es) ≡ true → q ≢ 0 → (v.used k q (h .uses) ≡ true) ⊎ (s .done q ≡ true)
+  -- an open region is its thread's last one, and the thread is inside it
+  pub open-last : (k : ℕ) → u.Open s k → (k ≡ regionIn (threadOf k) es) × (depthIn (threadOf k) es ≢ 0)
+  pub last-open : (t : ℕ) → depthIn t es ≢ 0 → u.Open s (regionIn t es)
+  pub owner : (l : ℕ) → getD (b .tables .owner) l 0 ≡ lastWriter l (writesIn es)
+
+-- ---- the whole relation, inside an event and between two
+
+pub record Sim (b : Board) (es : List Event) (s : u.State (List ℕ)) (h : v.History (List ℕ)) : Type 0 where
+  pub shape : Shape (b .tables)
+  pub memories : Memories b
+  pub logs : Logs b s
+  pub told : Told b es s h
+  pub cur : (l : ℕ) → s .cur l ≡ lineOf l (b .cur)
+  pub med : (l : ℕ) → s .med l ≡ lineOf l (b .med)
+  pub lock : (l : ℕ) → s .lock l ≡ getD (b .tables .lock) l false
+  pub slot : (l k : ℕ) → s .slot l k ≡ slotView b l k
+  pub dep : (a d : ℕ) → s .dep a d ≡ depView (b .tables) a d
+  pub live : (k : ℕ) → listed k (b .tables .regions) ≡ (s .born k && not (s .done k))
+  pub ended : (k : ℕ) → listed k (b .tables .regions) ≡ true → regionAt k (b .tables .regions) .ended ≡ s .over k
+  pub top : (l : ℕ) → newest (s .chain l) ≡ ownerOf l (b .tables)
+  -- a slot that waits is the owner's
+  pub waits : (l k : ℕ) → s .slot l k ≡ u.Waits → newest (s .chain l) ≡ k
+
+-- an ended region without slots is done
+abbrev pub Finished : Region → Type 0
+Finished r = r .ended ≡ true → hasSlot r ≡ false → r .done ≡ true
+
+-- between two events nothing is left to be done: no slot that could fly waits (its count is 4 or its region has ended, and its line is unlocked), every ended
+-- region without slots is done, and no region can commit
+pub record Rest (b : Board) : Type 0 where
+  pub flown : (k l c : ℕ) → (eqb c 4 || regionAt k (b .tables .regions) .ended) ≡ true → stateOf l (regionAt k (b .tables .regions) .slots) ≡ Waiting c
+      → getD (b .tables .lock) l false ≡ true
+  pub finished : (i : ℕ) → Finished (getD (b .tables .regions) i noRegion)
+  pub settled : (i : ℕ) → commits (getD (b .tables .regions) i noRegion) ≡ false
+
+-- some reachable state of the undo log has the board's tables
+pub data Simulated (m : Memory) (b : Board) (es : List Event) : Type 0 where
+  by : (s : u.State (List ℕ)) (h : v.History (List ℕ)) → Reach (λ l. lineOf l (startLines m)) s h → Sim b es s h → Simulated m b es
+
+-- a value that a record of bytes holds
+abbrev pub isSound : Event → Bool
+isSound (Setup n l) = true
+isSound (Begin t) = true
+isSound (End t) = true
+isSound (Read t l w) = true
+isSound (Write t l w v) = ltb v 18446744073709551616
+isSound (LogAck l) = true
+isSound (DataAck l) = true
+isSound (Fence t) = true
+isSound Cut = true
+
+-- what every accepted event keeps
+pub record Kept (m : Memory) (b : Board) (es : List Event) : Type 0 where
+  pub simulated : Simulated m b es
+  pub rest : Rest b
+
+abbrev pub Keeps : Event → Type 0
+Keeps e = (m : Memory) (b : Board) (es : List Event) → isSound e ≡ true → refusal (b .tables) e ≡ 0 → Kept m b es → Kept m (apply b e .board) (e ∷ es)
