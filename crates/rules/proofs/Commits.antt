@@ -18,14 +18,14 @@ use Rattle.rules.proofs.Sim.Data.{lands}
 use Rattle.rules.proofs.Sim.Regions.{born-begun, ends-region, listed-begun, newKey, unborn}
 use Rattle.rules.proofs.Start.{initially}
 use Rattle.rules.proofs.Views.{isOpened}
-use Rattle.rules.specs.Access.{logged, needsLog, read, stored, write, wrote}
+use Rattle.rules.specs.Access.{logged, needsLog, read, stored, storedIn, write, wrote}
 use Rattle.rules.specs.Acknowledge.{dataAck, dropped, flightPlace, landed, logAck, unlocked}
 use Rattle.rules.specs.Begin.{begin, opened}
 use Rattle.rules.specs.Claim.{boardAfter, isByte, isByteMemory}
 use Rattle.rules.specs.Commit.{Settled, afterCommit, before, commit, commits, doneRegion, earliest, settle, settled}
 use Rattle.rules.specs.End.{closed, endRegion}
 use Rattle.rules.specs.Flight.{flown}
-use Rattle.rules.specs.History.{acceptedFrom, acceptedIn, commitsBy, commitsFrom, commitsOf, committed, depthIn, noted, openedIn}
+use Rattle.rules.specs.History.{Account, Closes, Nothing, Opens, acceptedFrom, acceptedIn, accountOf, commitsBy, commitsFrom, commitsOf, committed, depthIn, noted, openedIn}
 use Rattle.rules.specs.Lists.{all, count}
 use Rattle.rules.specs.Record.{readRecord}
 use Rattle.rules.specs.Refusal.{depthOf, refusal, testsOf}
@@ -100,9 +100,9 @@ flown-listed : (j k : ℕ) (b : Board) → isListed j (flown k b) ≡ isListed j
 unfolding flown
 flown-listed j k b = same-key j (placeOf k (b .tables .regions)) (b .tables .regions) _ refl
 
-write-listed : (j t l w v : ℕ) (b : Board) → isListed j (write t l w v b) ≡ isListed j b
+write-listed : (j t l : ℕ) (put : List ℕ → List ℕ) (b : Board) → isListed j (write t l put b) ≡ isListed j b
 unfolding write stored logged wrote
-write-listed j t l w v b =
+write-listed j t l put b =
     flown-listed j (current t (b .tables)) _
     ∙ test (needsLog (current t (b .tables)) l (b .tables))
     (λ d. rw d (same-key j (placeOf (current t (b .tables)) (b .tables .regions)) (b .tables .regions) _ refl))
@@ -131,10 +131,10 @@ data-listed j l b = same-key j (flightPlace l (b .tables .regions)) (b .tables .
 
 -- ---- the regions that have committed
 
-abbrev Gone : Board → List Event → List ℕ → Type 0
+abbrev Gone : Board → List Account → List ℕ → Type 0
 Gone b es ks = (k : ℕ) → isIn k ks ≡ (isOpened es k && not (isListed k b))
 
-gone-settled : {m : Memory} (b b′ : Board) (es es′ : List Event) (ks : List ℕ) → Simulated m b′ es′ → ((k : ℕ) → isListed k b′ ≡ isListed k b)
+gone-settled : {m : Memory} (b b′ : Board) (es es′ : List Account) (ks : List ℕ) → Simulated m b′ es′ → ((k : ℕ) → isListed k b′ ≡ isListed k b)
     → ((k : ℕ) → isOpened es′ k ≡ isOpened es k) → Gone b es ks → Gone (settledBoard b′ .board) es′ (settled (b′ .tables) .keys ++ ks)
 unfolding settledBoard
 gone-settled b b′ es es′ ks (by s h rc i) same op p k =
@@ -144,8 +144,8 @@ gone-settled b b′ es es′ ks (by s h rc i) same op p k =
     (λ e. let bo : isOpened es′ k ≡ true = sym (i .told .born k) ∙ and-true (s .born k) (not (s .done k)) (sym (i .live k) ∙ z .1 e) .0 in rw (e, bo))
     (λ e. rw (e, same k, op k) (p k)))
 
-gone-begin : (t : ℕ) (m : Memory) (b : Board) (es : List Event) (ks : List ℕ) → refusal (b .tables) (Begin t) ≡ 0 → Kept m b es → Gone b es ks
-    → Gone (apply b (Begin t) .board) (Begin t ∷ es) ks
+gone-begin : (t : ℕ) (m : Memory) (b : Board) (es : List Account) (ks : List ℕ) → refusal (b .tables) (Begin t) ≡ 0 → Kept m b es → Gone b es ks
+    → Gone (apply b (Begin t) .board) (Opens t ∷ es) ks
 unfolding apply begin opened testsOf openedIn
 gone-begin t m b es ks r kept p k = go (kept .simulated)
   where
@@ -155,7 +155,7 @@ gone-begin t m b es ks r kept p k = go (kept .simulated)
     lt : t < b .tables .size .threads
     lt = leb-false (b .tables .size .threads) t (tests .1 .0)
 
-    go : Simulated m b es → isIn k ks ≡ (isOpened (Begin t ∷ es) k && not (isListed k (apply b (Begin t) .board)))
+    go : Simulated m b es → isIn k ks ≡ (isOpened (Opens t ∷ es) k && not (isListed k (apply b (Begin t) .board)))
     go (by s h rc i) =
         test (eqb (depthOf t (b .tables)) 0)
         (λ d. let d0 : depthIn t es ≡ 0 = sym (i .told .depth t) ∙ eqb-true (depthOf t (b .tables)) 0 d in
@@ -171,26 +171,26 @@ gone-begin t m b es ks r kept p k = go (kept .simulated)
         (λ e. let y : eqb (depthIn (threadOf k) es) 0 ≡ false = rw (← eqb-true t (threadOf k) e) n in rw (e, y) (p k))
         (λ e. rw e (p k))))
 
-gone-after : (m : Memory) (b : Board) (es : List Event) (ks : List ℕ) (e : Event) → refusal (b .tables) e ≡ 0 → Kept m b es → Gone b es ks
-    → Gone (apply b e .board) (e ∷ es) (commitsOf e b ++ ks)
+gone-after : (m : Memory) (b : Board) (es : List Account) (ks : List ℕ) (e : Event) → refusal (b .tables) e ≡ 0 → Kept m b es → Gone b es ks
+    → Gone (apply b e .board) (accountOf e ∷ es) (commitsOf e b ++ ks)
 unfolding apply setup openedIn
 gone-after m b es ks (Setup n l) r kept p = p
 gone-after m b es ks (Begin t) r kept p = gone-begin t m b es ks r kept p
 gone-after m b es ks (End t) r kept p =
     test (eqb (depthOf t (b .tables)) 1)
-    (λ d. rw d (gone-settled b (endRegion t b) es (End t ∷ es) ks (ends-region t m b es r d kept .0) (λ k. end-listed k t b) (λ k. refl) p))
+    (λ d. rw d (gone-settled b (endRegion t b) es (Closes t ∷ es) ks (ends-region t m b es r d kept .0) (λ k. end-listed k t b) (λ k. refl) p))
     (λ d. rw d p)
 gone-after m b es ks (Read t l w) r kept p =
     λ k. p k ∙ ap (λ x. isOpened es k && not x) (sym (read-listed k t l b))
-gone-after m b es ks (Write t l w v) r kept p = λ k. rw (write-listed k t l w v b) (p k)
+gone-after m b es ks (Write t l w v) r kept p = λ k. rw (write-listed k t l (storedIn w v) b) (p k)
 gone-after m b es ks (LogAck l) r kept p =
-    gone-settled b (logAck l b) es (LogAck l ∷ es) ks (log-ack l m b es r kept .0) (λ k. log-listed k l b) (λ k. refl) p
+    gone-settled b (logAck l b) es (Nothing ∷ es) ks (log-ack l m b es r kept .0) (λ k. log-listed k l b) (λ k. refl) p
 gone-after m b es ks (DataAck l) r kept p =
-    gone-settled b (dataAck l b) es (DataAck l ∷ es) ks (lands l m b es r kept .0) (λ k. data-listed k l b) (λ k. refl) p
+    gone-settled b (dataAck l b) es (Nothing ∷ es) ks (lands l m b es r kept .0) (λ k. data-listed k l b) (λ k. refl) p
 gone-after m b es ks (Fence t) r kept p = p
 gone-after m b es ks Cut r kept p = p
 
-step-gone : (m : Memory) (b : Board) (es : List Event) (ks : List ℕ) (x : Reading) → Kept m b es → Gone b es ks
+step-gone : (m : Memory) (b : Board) (es : List Account) (ks : List ℕ) (x : Reading) → Kept m b es → Gone b es ks
     → Gone (stepRead b x .board) (noted (stepRead b x .answer .refusal) x es) (commitsBy (stepRead b x .answer .refusal) x b ++ ks)
 unfolding stepEvent stepBy
 step-gone m b es ks (Refused zero) kept p = p
@@ -202,7 +202,7 @@ step-gone m b es ks (Whole e) kept p = go (refusal (b .tables) e) refl
     go zero r = gone-after m b es ks e r kept p
     go (suc n) r = p
 
-run-gone : (m : Memory) (rs : List (List ℕ)) (b : Board) (es : List Event) (ks : List ℕ) → all (all isByte) rs ≡ true → Kept m b es → Gone b es ks
+run-gone : (m : Memory) (rs : List (List ℕ)) (b : Board) (es : List Account) (ks : List ℕ) → all (all isByte) rs ≡ true → Kept m b es → Gone b es ks
     → Gone (run b rs .board) (acceptedFrom b rs es) (commitsFrom b rs ks)
 unfolding run acceptedFrom step commitsFrom
 run-gone m [] b es ks e kept p = p

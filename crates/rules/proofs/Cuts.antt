@@ -12,7 +12,7 @@ use Rattle.rules.specs.Claim.{boardAfter}
 use Rattle.rules.specs.Commit.{Settled, before, commit, commits, doneRegion, earliest, settle, settled}
 use Rattle.rules.specs.End.{closed, endRegion}
 use Rattle.rules.specs.Flight.{flown}
-use Rattle.rules.specs.History.{acceptedFrom, acceptedIn, hasCut, noted}
+use Rattle.rules.specs.History.{Account, acceptedFrom, acceptedIn, accountOf, hasCut, noted}
 use Rattle.rules.specs.Record.{readRecord}
 use Rattle.rules.specs.Refusal.{depthOf, refusal}
 use Rattle.rules.specs.Run.{run}
@@ -42,7 +42,7 @@ settled-cut : (b : Board) → settledBoard b .board .tables .cut ≡ b .tables .
 unfolding settledBoard settled
 settled-cut b = settle-cut (length (b .tables .regions)) (withRegions (map doneRegion (b .tables .regions)) (b .tables))
 
-apply-cut : (b : Board) (e : Event) (es : List Event) → b .tables .cut ≡ hasCut es → apply b e .board .tables .cut ≡ hasCut (e ∷ es)
+apply-cut : (b : Board) (e : Event) (es : List Account) → b .tables .cut ≡ hasCut es → apply b e .board .tables .cut ≡ hasCut (accountOf e ∷ es)
 unfolding apply setup begin opened read write stored logged flown logAck unlocked dataAck endRegion closed
 apply-cut b (Setup n l) es h = h
 apply-cut b (Begin t) es h = test (eqb (depthOf t (b .tables)) 0) (λ d. rw d h) (λ d. rw d h)
@@ -54,7 +54,7 @@ apply-cut b (DataAck l) es h = settled-cut (dataAck l b) ∙ h
 apply-cut b (Fence t) es h = h
 apply-cut b Cut es h = refl
 
-step-cut : (b : Board) (x : Reading) (es : List Event) → b .tables .cut ≡ hasCut es
+step-cut : (b : Board) (x : Reading) (es : List Account) → b .tables .cut ≡ hasCut es
     → stepRead b x .board .tables .cut ≡ hasCut (noted (stepRead b x .answer .refusal) x es)
 unfolding stepEvent stepBy
 step-cut b (Refused zero) es h = h
@@ -65,7 +65,7 @@ step-cut b (Whole e) es h = go (refusal (b .tables) e)
     go zero = apply-cut b e es h
     go (suc n) = h
 
-run-cut : (rs : List (List ℕ)) (b : Board) (es : List Event) → b .tables .cut ≡ hasCut es → run b rs .board .tables .cut ≡ hasCut (acceptedFrom b rs es)
+run-cut : (rs : List (List ℕ)) (b : Board) (es : List Account) → b .tables .cut ≡ hasCut es → run b rs .board .tables .cut ≡ hasCut (acceptedFrom b rs es)
 unfolding run acceptedFrom step
 run-cut [] b es h = h
 run-cut (r ∷ rs) b es h = run-cut rs (step b r .board) (noted (step b r .answer .refusal) (readRecord r) es) (step-cut b (readRecord r) es h)

@@ -5,12 +5,11 @@ use mathlib.Core.Bool.{Bool, _&&_, cond, not}
 use mathlib.Core.List.{List, [], _∷_}
 use lib.Dec.{eqb, leb, ltb}
 use lib.ListN.{getD, length}
-use Rattle.rules.specs.History.{openedIn}
+use Rattle.rules.specs.History.{Account, openedIn}
 use Rattle.rules.specs.Lists.{all}
 use Rattle.rules.specs.Slots.{names}
 use Rattle.rules.specs.Tables.{Board, lineOf, noEntry, numberOf, regionAt, threadAt, threadOf}
 use Rattle.rules.specs.declared.Entry.{Entry}
-use Rattle.rules.specs.declared.Event.{Event}
 use Rattle.rules.specs.declared.Slot.{Slot}
 use Rattle.rules.specs.declared.SlotState.{SlotState}
 use Rattle.rules.specs.declared.SlotState.the-variants.{Empty, InFlight, Waiting}
@@ -37,7 +36,7 @@ abbrev pub depView : Tables → ℕ → ℕ → Bool
 depView ts a d = not (eqb d 0) && any (eqb d) (regionAt a (ts .regions) .deps)
 
 -- region k has been opened
-abbrev pub isOpened : List Event → ℕ → Bool
+abbrev pub isOpened : List Account → ℕ → Bool
 isOpened es k = not (eqb (numberOf k) 0) && leb (numberOf k) (openedIn (threadOf k) es)
 
 -- the region of the newest entry; 0 if there is none

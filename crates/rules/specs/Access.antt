@@ -7,7 +7,8 @@ use lib.ListN.{getD, set}
 use Rattle.rules.specs.Flight.{flown}
 use Rattle.rules.specs.Lists.{count, place}
 use Rattle.rules.specs.Slots.{written}
-use Rattle.rules.specs.Tables.{Board, current, lineOf, ownerOf, placeOf, regionAt, threadAt, withDeps, withRegions, withSlots}
+use Rattle.rules.specs.Measures.{mostEntries}
+use Rattle.rules.specs.Tables.{Board, current, lineOf, ownerOf, regionAt, threadAt, withCur, withDeps, withLock, withLog, withOld, withOwner, withRegion, withSlots, withTables, withThread}
 use Rattle.rules.specs.declared.Entry.{Entry}
 use Rattle.rules.specs.declared.Region.{Region}
 use Rattle.rules.specs.declared.Tables.{Tables}
@@ -28,10 +29,7 @@ joined d ds = cond (isHad d ds) ds (set ds (place (eqb 0) ds) d)
 
 unfoldable pub read : ℕ → ℕ → Tables → Tables
 read k l ts =
-    withRegions
-    (set (ts .regions) (placeOf k (ts .regions))
-    (withDeps (joined (dependence k l ts) (regionAt k (ts .regions) .deps)) (regionAt k (ts .regions))))
-    ts
+    withRegion k (withDeps (joined (dependence k l ts) (regionAt k (ts .regions) .deps)) (regionAt k (ts .regions))) ts
 
 -- ---- "If the owner is another region or none: the current region becomes owner, the line is locked, and the whole old line becomes a log entry, in flight"
 
@@ -45,61 +43,44 @@ needsLog k l ts = not (eqb (getD (ts .owner) l 0) k)
 abbrev pub freeEntry : ℕ → Tables → ℕ
 freeEntry t ts = place (isOf 0) (threadAt t ts .log)
 
+abbrev pub freshEntry : ℕ → ℕ → ℕ → Tables → Entry
+freshEntry t k l ts = record { key = k; line = l; rank = count (isOf k) (threadAt t ts .log); persistent = false }
+
 -- region k of thread t logs line l
 unfoldable pub logged : ℕ → ℕ → ℕ → Board → Board
 logged t k l b =
-    record {
-      tables =
-          record {
-            size = b .tables .size;
-            cut = b .tables .cut;
-            clock = b .tables .clock;
-            threads =
-                set (b .tables .threads) t
-                (record {
-                  depth = threadAt t (b .tables) .depth;
-                  last = threadAt t (b .tables) .last;
-                  log =
-                      set (threadAt t (b .tables) .log) (freeEntry t (b .tables))
-                      (record { key = k; line = l; rank = count (isOf k) (threadAt t (b .tables) .log); persistent = false });
-                });
-            regions = b .tables .regions;
-            owner = set (b .tables .owner) l k;
-            lock = set (b .tables .lock) l true;
-          };
-      cur = b .cur;
-      med = b .med;
-      old = set (b .old) (32 * t + freeEntry t (b .tables)) (lineOf l (b .cur));
-      car = b .car;
-    }
+    withOld (set (b .old) (mostEntries * t + freeEntry t (b .tables)) (lineOf l (b .cur)))
+    (withTables
+    (withThread t
+    (withLog (set (threadAt t (b .tables) .log) (freeEntry t (b .tables)) (freshEntry t k l (b .tables))) (threadAt t (b .tables)))
+    (withOwner l k (withLock l true (b .tables)))) b)
 
 abbrev pub loggedOnce : ℕ → ℕ → ℕ → Board → Board
 loggedOnce t k l b = cond (needsLog k l (b .tables)) (logged t k l b) b
 
 -- ---- "The word is stored", and the region's slots and dependences follow
 
-abbrev pub storeWord : ℕ → ℕ → ℕ → List (List ℕ) → List (List ℕ)
-storeWord l w v m = set m l (set (lineOf l m) w v)
+-- what a write changes in its line
+abbrev pub storedIn : ℕ → ℕ → List ℕ → List ℕ
+storedIn w v x = set x w v
+
+-- line l changed
+abbrev pub changeLine : ℕ → (List ℕ → List ℕ) → List (List ℕ) → List (List ℕ)
+changeLine l f m = set m l (f (lineOf l m))
 
 -- region k after a write of line l: its dependences as the tables ts had them before, and its slots
 unfoldable pub wrote : ℕ → ℕ → Tables → Region → Region
 wrote k l ts r = withSlots (written l (r .slots)) (withDeps (joined (dependence k l ts) (r .deps)) r)
 
--- the word is stored and region k gets the record r
-unfoldable pub stored : ℕ → Region → ℕ → ℕ → ℕ → Board → Board
-stored k r l w v b =
-    record {
-      tables = withRegions (set (b .tables .regions) (placeOf k (b .tables .regions)) r) (b .tables);
-      cur = storeWord l w v (b .cur);
-      med = b .med;
-      old = b .old;
-      car = b .car;
-    }
+-- line l is changed and region k gets the record r
+unfoldable pub stored : ℕ → Region → ℕ → (List ℕ → List ℕ) → Board → Board
+stored k r l f b = withCur (changeLine l f (b .cur)) (withTables (withRegion k r (b .tables)) b)
 
-unfoldable pub write : ℕ → ℕ → ℕ → ℕ → Board → Board
-write t l w v b =
+-- a write of thread t to line l, which changes the line by f
+unfoldable pub write : ℕ → ℕ → (List ℕ → List ℕ) → Board → Board
+write t l f b =
     flown (current t (b .tables))
     (stored (current t (b .tables))
     (wrote (current t (b .tables)) l (b .tables) (regionAt (current t (b .tables)) (b .tables .regions)))
-    l w v
+    l f
     (loggedOnce t (current t (b .tables)) l b))

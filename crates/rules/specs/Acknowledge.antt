@@ -7,7 +7,7 @@ use lib.ListN.{getD, set}
 use Rattle.rules.specs.Flight.{flown}
 use Rattle.rules.specs.Lists.{place}
 use Rattle.rules.specs.Slots.{carries}
-use Rattle.rules.specs.Tables.{Board, isKey, lineOf, noRegion, noSlot, threadAt, threadOf, withLock, withRegions, withSlots, withTables, withThread}
+use Rattle.rules.specs.Tables.{Board, isKey, lineOf, noRegion, noSlot, threadAt, threadOf, withLock, withLog, withMed, withRegions, withSlots, withTables, withThread}
 use Rattle.rules.specs.declared.Entry.{Entry}
 use Rattle.rules.specs.declared.Region.{Region}
 use Rattle.rules.specs.declared.Slot.{Slot}
@@ -30,7 +30,7 @@ unfoldable pub keptEntry : ℕ → ℕ → Entry → Entry
 keptEntry k l e = cond (isEntry k l e) (record { key = e .key; line = e .line; rank = e .rank; persistent = true }) e
 
 unfoldable pub kept : ℕ → ℕ → Thread → Thread
-kept k l th = record { depth = th .depth; last = th .last; log = map (keptEntry k l) (th .log) }
+kept k l th = withLog (map (keptEntry k l) (th .log)) th
 
 unfoldable pub unlocked : ℕ → ℕ → Tables → Tables
 unlocked k l ts =
@@ -50,14 +50,9 @@ landed l r = withSlots (set (r .slots) (place (carries l) (r .slots)) noSlot) r
 -- "puts the carried line in the medium and empties the slot"
 unfoldable pub dataAck : ℕ → Board → Board
 dataAck l b =
-    record {
-      tables =
-          withRegions
-          (set (b .tables .regions) (flightPlace l (b .tables .regions))
-          (landed l (getD (b .tables .regions) (flightPlace l (b .tables .regions)) noRegion)))
-          (b .tables);
-      cur = b .cur;
-      med = set (b .med) l (lineOf l (b .car));
-      old = b .old;
-      car = b .car;
-    }
+    withMed (set (b .med) l (lineOf l (b .car)))
+    (withTables
+    (withRegions
+    (set (b .tables .regions) (flightPlace l (b .tables .regions))
+    (landed l (getD (b .tables .regions) (flightPlace l (b .tables .regions)) noRegion)))
+    (b .tables)) b)

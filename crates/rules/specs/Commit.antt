@@ -7,7 +7,7 @@ use lib.ListN.{length}
 use Rattle.rules.specs.Access.{isOf}
 use Rattle.rules.specs.Lists.{all}
 use Rattle.rules.specs.Slots.{hasSlot}
-use Rattle.rules.specs.Tables.{isHeld, isKey, noEntry, noRegion, threadAt, threadOf, withDeps, withRegions, withThread}
+use Rattle.rules.specs.Tables.{isHeld, isKey, noEntry, noRegion, threadAt, threadOf, withDeps, withDone, withLog, withRegions, withThread}
 use Rattle.rules.specs.declared.Entry.{Entry}
 use Rattle.rules.specs.declared.Region.{Region}
 use Rattle.rules.specs.declared.Tables.{Tables}
@@ -15,7 +15,7 @@ use Rattle.rules.specs.declared.Thread.{Thread}
 
 -- "An ended region without slots leaves the modified list and is done"
 unfoldable pub doneRegion : Region → Region
-doneRegion r = record { key = r .key; ended = r .ended; done = r .done || (r .ended && not (hasSlot r)); stamp = r .stamp; deps = r .deps; slots = r .slots }
+doneRegion r = withDone (r .done || (r .ended && not (hasSlot r))) r
 
 -- "A done region without dependences commits"
 unfoldable pub commits : Region → Bool
@@ -44,7 +44,7 @@ unfoldable pub afterCommit : ℕ → Region → Region
 afterCommit k r = cond (isKey k r) noRegion (withDeps (map (withoutDep k) (r .deps)) r)
 
 unfoldable pub freed : ℕ → Thread → Thread
-freed k th = record { depth = th .depth; last = th .last; log = map (freedEntry k) (th .log) }
+freed k th = withLog (map (freedEntry k) (th .log)) th
 
 unfoldable pub commit : ℕ → Tables → Tables
 commit k ts = withThread (threadOf k) (freed k (threadAt (threadOf k) ts)) (withRegions (map (afterCommit k) (ts .regions)) ts)

@@ -1,9 +1,7 @@
 -- "End to depth 0 ends the region; to other depths only the depth falls."
 use Prim.Native.Nat.{_%_, _+_, _-_, ℕ}
-use mathlib.Core.Bool.{true}
-use lib.ListN.{set}
 use Rattle.rules.specs.Flight.{flown}
-use Rattle.rules.specs.Tables.{Board, current, placeOf, regionAt, threadAt, withTables, withThread}
+use Rattle.rules.specs.Tables.{Board, current, regionAt, threadAt, withClock, withDepth, withEnd, withRegion, withTables, withThread}
 use Rattle.rules.specs.declared.Region.{Region}
 use Rattle.rules.specs.declared.Tables.{Tables}
 
@@ -12,22 +10,13 @@ abbrev pub tick : ℕ → ℕ
 tick c = (c + 1) % 4294967296
 
 abbrev pub endedRegion : ℕ → Region → Region
-endedRegion c r = record { key = r .key; ended = true; done = r .done; stamp = c; deps = r .deps; slots = r .slots }
+endedRegion c r = withEnd c r
 
 abbrev pub shallower : ℕ → Tables → Tables
-shallower t ts = withThread t (record { depth = threadAt t ts .depth - 1; last = threadAt t ts .last; log = threadAt t ts .log }) ts
+shallower t ts = withThread t (withDepth (threadAt t ts .depth - 1) (threadAt t ts)) ts
 
 unfoldable pub closed : ℕ → Tables → Tables
-closed k ts =
-    record {
-      size = ts .size;
-      cut = ts .cut;
-      clock = tick (ts .clock);
-      threads = ts .threads;
-      regions = set (ts .regions) (placeOf k (ts .regions)) (endedRegion (tick (ts .clock)) (regionAt k (ts .regions)));
-      owner = ts .owner;
-      lock = ts .lock;
-    }
+closed k ts = withClock (tick (ts .clock)) (withRegion k (endedRegion (tick (ts .clock)) (regionAt k (ts .regions))) ts)
 
 -- the region of thread t ends
 unfoldable pub endRegion : ℕ → Board → Board

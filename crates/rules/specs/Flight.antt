@@ -2,23 +2,16 @@
 -- Only a write (it counts), an end and a log acknowledgement (it unlocks) can let a slot fly, and only a slot of the region that wrote, that ended, or
 -- that owns the line: after each of these events the slots of that region are looked through.
 use Prim.Native.Nat.{ℕ}
-use lib.ListN.{set}
 use Rattle.rules.specs.Slots.{carried, flownSlots}
-use Rattle.rules.specs.Tables.{Board, placeOf, regionAt, withRegions, withSlots}
+use Rattle.rules.specs.Tables.{Board, regionAt, withCar, withRegion, withSlots, withTables}
 
 -- region k's slots fly where they can
 unfoldable pub flown : ℕ → Board → Board
 flown k b =
-    record {
-      tables =
-          withRegions
-          (set (b .tables .regions) (placeOf k (b .tables .regions))
-          (withSlots
-          (flownSlots (b .tables .lock) (regionAt k (b .tables .regions) .ended) (regionAt k (b .tables .regions) .slots))
-          (regionAt k (b .tables .regions))))
-          (b .tables);
-      cur = b .cur;
-      med = b .med;
-      old = b .old;
-      car = carried (b .tables .lock) (regionAt k (b .tables .regions) .ended) (regionAt k (b .tables .regions) .slots) (b .cur) (b .car);
-    }
+    withCar (carried (b .tables .lock) (regionAt k (b .tables .regions) .ended) (regionAt k (b .tables .regions) .slots) (b .cur) (b .car))
+    (withTables
+    (withRegion k
+    (withSlots
+    (flownSlots (b .tables .lock) (regionAt k (b .tables .regions) .ended) (regionAt k (b .tables .regions) .slots))
+    (regionAt k (b .tables .regions)))
+    (b .tables)) b)

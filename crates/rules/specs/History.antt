@@ -1,10 +1,10 @@
--- The words of demand 3, by the event list alone. A list of events stands newest first here: what is behind an event came before it.
+-- The words of demand 3, by the event list alone. A list of accepted events stands newest first here, each as its account: what is behind one came before it.
 use Prim.Native.Nat.{_+_, _-_, suc, zero, ℕ}
 use mathlib.Core.Bool.{Bool, _&&_, cond, false, true}
 use mathlib.Core.List.{List, [], _++_, _∷_}
 use lib.Dec.{eqb, ltb}
 use lib.ListN.{drop, take}
-use Rattle.rules.specs.Access.{storeWord}
+use Rattle.rules.specs.Access.{changeLine, storedIn}
 use Rattle.rules.specs.Acknowledge.{dataAck, logAck}
 use Rattle.rules.specs.Bytes.{lineBytes, numOf}
 use Rattle.rules.specs.Commit.{settled}
@@ -21,74 +21,94 @@ use Rattle.rules.specs.declared.Reading.{Reading}
 use Rattle.rules.specs.declared.Reading.the-variants.{Refused, Whole}
 use Rattle.undo.specs.Table.{any, isIn}
 
+-- ---- what an event is to the history: its account
+
+pub data Account : Type 0 where
+  -- a setup, with its L
+  Sets : ℕ → Account
+  -- a begin and an end of a thread, at any depth
+  Opens : ℕ → Account
+  Closes : ℕ → Account
+  -- a read of a thread from a line
+  Uses : ℕ → ℕ → Account
+  -- a write of a thread to a line, with what it changes there
+  Stores : ℕ → ℕ → (List ℕ → List ℕ) → Account
+  Cuts : Account
+  Nothing : Account
+
+abbrev pub accountOf : Event → Account
+accountOf (Setup n l) = Sets l
+accountOf (Begin t) = Opens t
+accountOf (End t) = Closes t
+accountOf (Read t l w) = Uses t l
+accountOf (Write t l w v) = Stores t l (storedIn w v)
+accountOf (LogAck l) = Nothing
+accountOf (DataAck l) = Nothing
+accountOf (Fence t) = Nothing
+accountOf Cut = Cuts
+
 -- ---- "What is accepted .. the refusals and Steps give when worked as definitions over the list from the starting memory"
 
--- the accepted event of a step, if it was accepted
-abbrev pub noted : ℕ → Reading → List Event → List Event
-noted zero (Whole e) es = e ∷ es
+-- the event of a step, if it was accepted
+abbrev pub noted : ℕ → Reading → List Account → List Account
+noted zero (Whole e) es = accountOf e ∷ es
 noted zero (Refused n) es = es
 noted (suc c) x es = es
 
 -- the accepted events of a list of records, newest first, before those already noted
-unfoldable pub acceptedFrom : Board → List (List ℕ) → List Event → List Event
+unfoldable pub acceptedFrom : Board → List (List ℕ) → List Account → List Account
 acceptedFrom b [] es = es
 acceptedFrom b (r ∷ rs) es = acceptedFrom (step b r .board) rs (noted (step b r .answer .refusal) (readRecord r) es)
 
-abbrev pub acceptedIn : Memory → List (List ℕ) → List Event
+abbrev pub acceptedIn : Memory → List (List ℕ) → List Account
 acceptedIn m rs = acceptedFrom (fresh m) rs []
 
 -- a cut is among the accepted events
-abbrev pub isCut : Event → Bool
-isCut (Setup n l) = false
-isCut (Begin t) = false
-isCut (End t) = false
-isCut (Read t l w) = false
-isCut (Write t l w v) = false
-isCut (LogAck l) = false
-isCut (DataAck l) = false
-isCut (Fence t) = false
-isCut Cut = true
+abbrev pub isCut : Account → Bool
+isCut (Sets l) = false
+isCut (Opens t) = false
+isCut (Closes t) = false
+isCut (Uses t l) = false
+isCut (Stores t l f) = false
+isCut Cuts = true
+isCut Nothing = false
 
-abbrev pub hasCut : List Event → Bool
+abbrev pub hasCut : List Account → Bool
 hasCut es = any isCut es
 
 -- ---- "a thread's depth is its accepted begins less its accepted ends"
 
-abbrev pub deepened : ℕ → Event → ℕ → ℕ
-deepened t (Setup n l) d = d
-deepened t (Begin u) d = cond (eqb u t) (d + 1) d
-deepened t (End u) d = cond (eqb u t) (d - 1) d
-deepened t (Read u l w) d = d
-deepened t (Write u l w v) d = d
-deepened t (LogAck l) d = d
-deepened t (DataAck l) d = d
-deepened t (Fence u) d = d
-deepened t Cut d = d
+abbrev pub deepened : ℕ → Account → ℕ → ℕ
+deepened t (Sets l) d = d
+deepened t (Opens u) d = cond (eqb u t) (d + 1) d
+deepened t (Closes u) d = cond (eqb u t) (d - 1) d
+deepened t (Uses u l) d = d
+deepened t (Stores u l f) d = d
+deepened t Cuts d = d
+deepened t Nothing d = d
 
-unfoldable pub depthIn : ℕ → List Event → ℕ
+unfoldable pub depthIn : ℕ → List Account → ℕ
 depthIn t [] = 0
 depthIn t (e ∷ es) = deepened t e (depthIn t es)
 
 -- ---- "Each begin accepted at depth 0 opens a region; its predecessor is the thread's one before": the thread's regions are numbered from 1
 
-abbrev pub oneMore : ℕ → Event → ℕ → ℕ → ℕ
-oneMore t (Setup m l) d n = n
-oneMore t (Begin u) d n = cond (eqb u t && eqb d 0) (n + 1) n
-oneMore t (End u) d n = n
-oneMore t (Read u l w) d n = n
-oneMore t (Write u l w v) d n = n
-oneMore t (LogAck l) d n = n
-oneMore t (DataAck l) d n = n
-oneMore t (Fence u) d n = n
-oneMore t Cut d n = n
+abbrev pub oneMore : ℕ → Account → ℕ → ℕ → ℕ
+oneMore t (Sets l) d n = n
+oneMore t (Opens u) d n = cond (eqb u t && eqb d 0) (n + 1) n
+oneMore t (Closes u) d n = n
+oneMore t (Uses u l) d n = n
+oneMore t (Stores u l f) d n = n
+oneMore t Cuts d n = n
+oneMore t Nothing d n = n
 
 -- how many regions the thread has opened
-unfoldable pub openedIn : ℕ → List Event → ℕ
+unfoldable pub openedIn : ℕ → List Account → ℕ
 openedIn t [] = 0
 openedIn t (e ∷ es) = oneMore t e (depthIn t es) (openedIn t es)
 
 -- the thread's last region: at any depth but 0 the one that its reads and writes are of
-abbrev pub regionIn : ℕ → List Event → ℕ
+abbrev pub regionIn : ℕ → List Account → ℕ
 regionIn t es = keyOf t (openedIn t es)
 
 -- ---- "The thread's reads and writes accepted until the end back to depth 0 are the region's, and that end ends it"
@@ -96,38 +116,33 @@ regionIn t es = keyOf t (openedIn t es)
 pub record Change : Type 0 where
   pub region : ℕ
   pub line : ℕ
-  pub word : ℕ
-  pub value : ℕ
+  pub change : List ℕ → List ℕ
 
-abbrev pub changeOf : Event → List Event → List Change → List Change
-changeOf (Setup n l) es ws = ws
-changeOf (Begin u) es ws = ws
-changeOf (End u) es ws = ws
-changeOf (Read u l w) es ws = ws
-changeOf (Write u l w v) es ws = record { region = regionIn u es; line = l; word = w; value = v } ∷ ws
-changeOf (LogAck l) es ws = ws
-changeOf (DataAck l) es ws = ws
-changeOf (Fence u) es ws = ws
-changeOf Cut es ws = ws
+abbrev pub changeOf : Account → List Account → List Change → List Change
+changeOf (Sets l) es ws = ws
+changeOf (Opens u) es ws = ws
+changeOf (Closes u) es ws = ws
+changeOf (Uses u l) es ws = ws
+changeOf (Stores u l f) es ws = record { region = regionIn u es; line = l; change = f } ∷ ws
+changeOf Cuts es ws = ws
+changeOf Nothing es ws = ws
 
 -- the writes, newest first
-unfoldable pub writesIn : List Event → List Change
+unfoldable pub writesIn : List Account → List Change
 writesIn [] = []
 writesIn (e ∷ es) = changeOf e es (writesIn es)
 
-abbrev pub endOf : Event → List Event → List ℕ → List ℕ
-endOf (Setup n l) es ks = ks
-endOf (Begin u) es ks = ks
-endOf (End u) es ks = cond (eqb (depthIn u es) 1) (regionIn u es ∷ ks) ks
-endOf (Read u l w) es ks = ks
-endOf (Write u l w v) es ks = ks
-endOf (LogAck l) es ks = ks
-endOf (DataAck l) es ks = ks
-endOf (Fence u) es ks = ks
-endOf Cut es ks = ks
+abbrev pub endOf : Account → List Account → List ℕ → List ℕ
+endOf (Sets l) es ks = ks
+endOf (Opens u) es ks = ks
+endOf (Closes u) es ks = cond (eqb (depthIn u es) 1) (regionIn u es ∷ ks) ks
+endOf (Uses u l) es ks = ks
+endOf (Stores u l f) es ks = ks
+endOf Cuts es ks = ks
+endOf Nothing es ks = ks
 
 -- the ended regions, the last to end first
-unfoldable pub endsIn : List Event → List ℕ
+unfoldable pub endsIn : List Account → List ℕ
 endsIn [] = []
 endsIn (e ∷ es) = endOf e es (endsIn es)
 
@@ -142,19 +157,17 @@ pub record Use : Type 0 where
   pub of : ℕ
   pub on : ℕ
 
-abbrev pub usesOf : Event → List Event → List Use → List Use
-usesOf (Setup n l) es us = us
-usesOf (Begin t) es us =
+abbrev pub usesOf : Account → List Account → List Use → List Use
+usesOf (Sets l) es us = us
+usesOf (Opens t) es us =
     cond (eqb (depthIn t es) 0 && ltb 0 (openedIn t es)) (record { of = keyOf t (openedIn t es + 1); on = regionIn t es } ∷ us) us
-usesOf (End t) es us = us
-usesOf (Read t l w) es us = record { of = regionIn t es; on = lastWriter l (writesIn es) } ∷ us
-usesOf (Write t l w v) es us = record { of = regionIn t es; on = lastWriter l (writesIn es) } ∷ us
-usesOf (LogAck l) es us = us
-usesOf (DataAck l) es us = us
-usesOf (Fence t) es us = us
-usesOf Cut es us = us
+usesOf (Closes t) es us = us
+usesOf (Uses t l) es us = record { of = regionIn t es; on = lastWriter l (writesIn es) } ∷ us
+usesOf (Stores t l f) es us = record { of = regionIn t es; on = lastWriter l (writesIn es) } ∷ us
+usesOf Cuts es us = us
+usesOf Nothing es us = us
 
-unfoldable pub usesIn : List Event → List Use
+unfoldable pub usesIn : List Account → List Use
 usesIn [] = []
 usesIn (e ∷ es) = usesOf e es (usesIn es)
 
@@ -193,7 +206,7 @@ committed m rs k = isIn k (commitsFrom (fresh m) rs [])
 -- memory with the writes of region k, "applied in event order"
 unfoldable pub applied : ℕ → List Change → List (List ℕ) → List (List ℕ)
 applied k [] m = m
-applied k (w ∷ ws) m = cond (eqb (w .region) k) (storeWord (w .line) (w .word) (w .value) (applied k ws m)) (applied k ws m)
+applied k (w ∷ ws) m = cond (eqb (w .region) k) (changeLine (w .line) (w .change) (applied k ws m)) (applied k ws m)
 
 -- memory with the writes of those ended regions that pass a test, in the order they ended
 unfoldable pub effects : (ℕ → Bool) → List Change → List (List ℕ) → List ℕ → List (List ℕ)
@@ -213,18 +226,16 @@ abbrev pub memoryFound : List ℕ → List ℕ
 memoryFound bs = foundFrom 0 (numOf (take 2 (drop 2 bs))) bs
 
 -- L, of the accepted setup
-abbrev pub linesOf : Event → ℕ → ℕ
-linesOf (Setup n l) k = l
-linesOf (Begin t) k = k
-linesOf (End t) k = k
-linesOf (Read t l w) k = k
-linesOf (Write t l w v) k = k
-linesOf (LogAck l) k = k
-linesOf (DataAck l) k = k
-linesOf (Fence t) k = k
-linesOf Cut k = k
+abbrev pub linesOf : Account → ℕ → ℕ
+linesOf (Sets l) k = l
+linesOf (Opens t) k = k
+linesOf (Closes t) k = k
+linesOf (Uses t l) k = k
+linesOf (Stores t l f) k = k
+linesOf Cuts k = k
+linesOf Nothing k = k
 
-unfoldable pub linesIn : List Event → ℕ
+unfoldable pub linesIn : List Account → ℕ
 linesIn [] = 0
 linesIn (e ∷ es) = linesOf e (linesIn es)
 

@@ -6,6 +6,7 @@ use lib.Dec.{eqb}
 use lib.ListN.{getD, length, replicate, take}
 use Rattle.rules.specs.Bytes.{bytesOf, lineBytes}
 use Rattle.rules.specs.Lists.{flat, place, rising}
+use Rattle.rules.specs.Measures.{mostDeps, mostEntries, mostThreads}
 use Rattle.rules.specs.Refusal.{isSetUp}
 use Rattle.rules.specs.Run.{Wrote, runFile, wroteInto}
 use Rattle.rules.specs.Tables.{Board, Lent, lineOf, noEntry, numberOf, regionAt, threadAt, threadOf}
@@ -30,7 +31,7 @@ pub record Persistent : Type 0 where
 -- ---- the persistent state of a board
 
 unfoldable pub savedRegion : Region → Listed
-savedRegion r = record { key = r .key; state = cond (r .done) 1 0; deps = take 4 (rising (r .deps) ++ replicate 4 0) }
+savedRegion r = record { key = r .key; state = cond (r .done) 1 0; deps = take mostDeps (rising (r .deps) ++ replicate mostDeps 0) }
 
 -- "rising by thread then number"
 unfoldable pub savedRegions : List Region → List Listed
@@ -45,7 +46,7 @@ savedEntry t log old o =
     record {
       key = getD log (place (λ e. eqb (orderOf e) o) log) noEntry .key;
       line = getD log (place (λ e. eqb (orderOf e) o) log) noEntry .line;
-      old = lineOf (32 * t + place (λ e. eqb (orderOf e) o) log) old;
+      old = lineOf (mostEntries * t + place (λ e. eqb (orderOf e) o) log) old;
     }
 
 -- "by thread, oldest write first"
@@ -64,7 +65,7 @@ saved b =
       lines = b .tables .size .lines;
       medium = take (b .tables .size .lines) (b .med);
       regions = savedRegions (b .tables .regions);
-      log = savedLog 0 8 b;
+      log = savedLog 0 mostThreads b;
     }
 
 -- ---- its records: "32 head (T 1, L 2); L records 33 (64 bytes), line 0 upward; 34 dependence entry (thread 1, number 2, state 1, four dependences

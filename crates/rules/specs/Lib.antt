@@ -1,3 +1,4 @@
+pub mod Measures
 pub mod Lists
 pub mod Bytes
 pub mod Record

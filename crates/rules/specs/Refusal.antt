@@ -5,6 +5,7 @@ use mathlib.Core.List.{List, [], _∷_}
 use lib.Dec.{eqb, leb, ltb}
 use Rattle.rules.specs.Access.{dependence, isHad, isOf, needsLog}
 use Rattle.rules.specs.Lists.{count}
+use Rattle.rules.specs.Measures.{mostDepth, mostLines, mostModified, mostNumber, mostRegions, mostThreads}
 use Rattle.rules.specs.Slots.{carries, isFull, slotFor}
 use Rattle.rules.specs.Tables.{current, isHeld, locked, ownerOf, regionAt, threadAt, threadOf}
 use Rattle.rules.specs.declared.Event.{Event}
@@ -30,7 +31,7 @@ refuse n b = record { code = n; bad = b }
 
 -- "Threads T: 1 to 8. Lines L: 1 to 256."
 abbrev pub inRange : ℕ → ℕ → Bool
-inRange n l = (leb 1 n && leb n 8) && (leb 1 l && leb l 256)
+inRange n l = (leb 1 n && leb n mostThreads) && (leb 1 l && leb l mostLines)
 
 abbrev pub isSetUp : Tables → Bool
 isSetUp ts = inRange (ts .size .threads) (ts .size .lines)
@@ -69,10 +70,10 @@ testsOf ts (Begin t) =
     refuse 6 (not (isSetUp ts))
     ∷ refuse 3 (leb (ts .size .threads) t)
     ∷ refuse 11 (ts .cut)
-    ∷ refuse 13 (leb 15 (depthOf t ts))
-    ∷ refuse 14 (eqb (depthOf t ts) 0 && leb 65535 (threadAt t ts .last))
-    ∷ refuse 15 (eqb (depthOf t ts) 0 && leb 4 (count (isModified t) (ts .regions)))
-    ∷ refuse 16 (eqb (depthOf t ts) 0 && leb 32 (count isHeld (ts .regions)))
+    ∷ refuse 13 (leb mostDepth (depthOf t ts))
+    ∷ refuse 14 (eqb (depthOf t ts) 0 && leb mostNumber (threadAt t ts .last))
+    ∷ refuse 15 (eqb (depthOf t ts) 0 && leb mostModified (count (isModified t) (ts .regions)))
+    ∷ refuse 16 (eqb (depthOf t ts) 0 && leb mostRegions (count isHeld (ts .regions)))
     ∷ []
 testsOf ts (End t) =
     refuse 6 (not (isSetUp ts))

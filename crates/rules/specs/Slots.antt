@@ -4,6 +4,7 @@ use mathlib.Core.Bool.{Bool, _&&_, _||_, cond, false, not, true}
 use mathlib.Core.List.{List, [], _∷_, map}
 use lib.Dec.{eqb}
 use lib.ListN.{getD, set}
+use Rattle.rules.specs.Measures.{ripeCount}
 use Rattle.rules.specs.Tables.{lineOf}
 use Rattle.rules.specs.declared.Found.{Found}
 use Rattle.rules.specs.declared.Found.the-variants.{At, Full}
@@ -60,7 +61,7 @@ isFull Full = true
 
 abbrev pub counted : SlotState → SlotState
 counted Empty = Empty
-counted (Waiting c) = Waiting (min (c + 1) 4)
+counted (Waiting c) = Waiting (min (c + 1) ripeCount)
 counted InFlight = InFlight
 
 abbrev pub countedSlot : Slot → Slot
@@ -79,7 +80,7 @@ written l ss = writtenAt l (slotFor l ss) ss
 
 abbrev pub isRipe : Bool → SlotState → Bool
 isRipe ended Empty = false
-isRipe ended (Waiting c) = eqb c 4 || ended
+isRipe ended (Waiting c) = eqb c ripeCount || ended
 isRipe ended InFlight = false
 
 abbrev pub flies : List Bool → Bool → Slot → Bool

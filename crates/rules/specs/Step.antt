@@ -4,7 +4,7 @@ use mathlib.Core.Bool.{cond, true}
 use mathlib.Core.List.{List}
 use lib.Dec.{eqb}
 use lib.ListN.{getD, length}
-use Rattle.rules.specs.Access.{read, write}
+use Rattle.rules.specs.Access.{read, storedIn, write}
 use Rattle.rules.specs.Acknowledge.{dataAck, logAck}
 use Rattle.rules.specs.Begin.{begin}
 use Rattle.rules.specs.Commit.{settled}
@@ -12,7 +12,7 @@ use Rattle.rules.specs.End.{endRegion, shallower}
 use Rattle.rules.specs.Lists.{count}
 use Rattle.rules.specs.Record.{readRecord}
 use Rattle.rules.specs.Refusal.{depthOf, isOfThread, refusal}
-use Rattle.rules.specs.Tables.{Board, current, isHeld, lineOf, withTables}
+use Rattle.rules.specs.Tables.{Board, current, isHeld, lineOf, withCut, withSize, withTables}
 use Rattle.rules.specs.declared.Answer.{Answer}
 use Rattle.rules.specs.declared.Event.{Event}
 use Rattle.rules.specs.declared.Event.the-variants.{Begin, Cut, DataAck, End, Fence, LogAck, Read, Setup, Write}
@@ -35,37 +35,23 @@ settledBoard b = did (length (settled (b .tables) .keys)) (withTables (settled (
 
 -- "0 setup": T and L stand
 unfoldable pub setup : ℕ → ℕ → Tables → Tables
-setup n l ts =
-    record {
-      size = record { threads = n; lines = l; zero = ts .size .zero; lent = ts .size .lent };
-      cut = ts .cut;
-      clock = ts .clock;
-      threads = ts .threads;
-      regions = ts .regions;
-      owner = ts .owner;
-      lock = ts .lock;
-    }
+setup n l ts = withSize (record { threads = n; lines = l; zero = ts .size .zero; lent = ts .size .lent }) ts
 
 -- "Fence gives 1 if the thread has no uncommitted region (also if it never began one), else 0"
 unfoldable pub fence : ℕ → Tables → ℕ
 fence t ts = cond (any (isOfThread t) (ts .regions)) 0 1
 
--- nothing but an image can be had after a cut
-abbrev pub withCut : Tables → Tables
-withCut ts =
-    record { size = ts .size; cut = true; clock = ts .clock; threads = ts .threads; regions = ts .regions; owner = ts .owner; lock = ts .lock }
-
--- what an accepted event does. A begin, a read and a write make no region done and commit none
+-- what an accepted event does; after a cut nothing but an image can be had. A begin, a read and a write make no region done and commit none
 unfoldable pub apply : Board → Event → Did
 apply b (Setup n l) = did 0 (withTables (setup n l (b .tables)) b)
 apply b (Begin t) = did 0 (withTables (begin t (b .tables)) b)
 apply b (End t) = cond (eqb (depthOf t (b .tables)) 1) (settledBoard (endRegion t b)) (did 0 (withTables (shallower t (b .tables)) b))
 apply b (Read t l w) = did (getD (lineOf l (b .cur)) w 0) (withTables (read (current t (b .tables)) l (b .tables)) b)
-apply b (Write t l w v) = did 0 (write t l w v b)
+apply b (Write t l w v) = did 0 (write t l (storedIn w v) b)
 apply b (LogAck l) = settledBoard (logAck l b)
 apply b (DataAck l) = settledBoard (dataAck l b)
 apply b (Fence t) = did (fence t (b .tables)) b
-apply b Cut = did (count isHeld (b .tables .regions)) (withTables (withCut (b .tables)) b)
+apply b Cut = did (count isHeld (b .tables .regions)) (withTables (withCut true (b .tables)) b)
 
 -- the board after a step, and the answer
 pub record Stepped : Type 0 where

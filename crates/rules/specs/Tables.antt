@@ -6,8 +6,10 @@ use lib.Dec.{eqb, leb}
 use lib.ListN.{getD, length, replicate, set}
 use Rattle.rules.specs.Bytes.{lineAt}
 use Rattle.rules.specs.Lists.{place}
+use Rattle.rules.specs.Measures.{lineWords, mostDeps, mostEntries, mostLines, mostRegions, mostSlots, mostThreads}
 use Rattle.rules.specs.declared.Entry.{Entry}
 use Rattle.rules.specs.declared.Region.{Region}
+use Rattle.rules.specs.declared.Size.{Size}
 use Rattle.rules.specs.declared.Slot.{Slot}
 use Rattle.rules.specs.declared.SlotState.the-variants.{Empty}
 use Rattle.rules.specs.declared.Tables.{Tables}
@@ -25,17 +27,20 @@ pub record Board : Type 0 where
 
 -- ---- what a free place holds
 
+abbrev pub noLine : List ℕ
+noLine = replicate lineWords 0
+
 abbrev pub noSlot : Slot
 noSlot = record { line = 0; state = Empty }
 
 abbrev pub noRegion : Region
-noRegion = record { key = 0; ended = false; done = false; stamp = 0; deps = replicate 4 0; slots = replicate 8 noSlot }
+noRegion = record { key = 0; ended = false; done = false; stamp = 0; deps = replicate mostDeps 0; slots = replicate mostSlots noSlot }
 
 abbrev pub noEntry : Entry
 noEntry = record { key = 0; line = 0; rank = 0; persistent = false }
 
 abbrev pub noThread : Thread
-noThread = record { depth = 0; last = 0; log = replicate 32 noEntry }
+noThread = record { depth = 0; last = 0; log = replicate mostEntries noEntry }
 
 -- ---- the starting memory: "a program starts with zero memory, a library caller lends the starting memory"
 
@@ -53,7 +58,7 @@ lentLength (Lent bs) = length bs
 
 -- line i of lent memory, zero where the memory does not hold the whole line
 unfoldable pub lentLine : List ℕ → ℕ → List ℕ
-lentLine bs i = cond (leb (64 * i + 64) (length bs)) (lineAt bs (64 * i)) (replicate 8 0)
+lentLine bs i = cond (leb (64 * i + 64) (length bs)) (lineAt bs (64 * i)) noLine
 
 -- n lines of lent memory, from line i on
 unfoldable pub lentFrom : List ℕ → ℕ → ℕ → List (List ℕ)
@@ -61,8 +66,8 @@ lentFrom bs i zero = []
 lentFrom bs i (suc n) = lentLine bs i ∷ lentFrom bs (suc i) n
 
 unfoldable pub startLines : Memory → List (List ℕ)
-startLines Zero = replicate 256 (replicate 8 0)
-startLines (Lent bs) = lentFrom bs 0 256
+startLines Zero = replicate mostLines noLine
+startLines (Lent bs) = lentFrom bs 0 mostLines
 
 abbrev pub freshTables : Bool → ℕ → Tables
 freshTables zeroed n =
@@ -70,10 +75,10 @@ freshTables zeroed n =
       size = record { threads = 0; lines = 0; zero = zeroed; lent = n };
       cut = false;
       clock = 0;
-      threads = replicate 8 noThread;
-      regions = replicate 32 noRegion;
-      owner = replicate 256 0;
-      lock = replicate 256 false;
+      threads = replicate mostThreads noThread;
+      regions = replicate mostRegions noRegion;
+      owner = replicate mostLines 0;
+      lock = replicate mostLines false;
     }
 
 -- "Current memory and medium both begin as it, with no owner, no lock and empty lists"
@@ -83,8 +88,8 @@ fresh m =
       tables = freshTables (isZero m) (lentLength m);
       cur = startLines m;
       med = startLines m;
-      old = replicate 256 (replicate 8 0);
-      car = replicate 256 (replicate 8 0);
+      old = replicate (mostThreads * mostEntries) noLine;
+      car = replicate mostLines noLine;
     }
 
 -- ---- looking up
@@ -132,25 +137,79 @@ locked l ts = getD (ts .lock) l false
 unfoldable pub ownerOf : ℕ → Tables → ℕ
 ownerOf l ts = cond (listed (getD (ts .owner) l 0) (ts .regions)) (getD (ts .owner) l 0) 0
 
--- ---- storing
+-- ---- storing: one setter for each field of a record, and everything else through these
+
+abbrev pub withSize : Size → Tables → Tables
+withSize z ts = record { size = z; cut = ts .cut; clock = ts .clock; threads = ts .threads; regions = ts .regions; owner = ts .owner; lock = ts .lock }
+
+abbrev pub withCut : Bool → Tables → Tables
+withCut c ts = record { size = ts .size; cut = c; clock = ts .clock; threads = ts .threads; regions = ts .regions; owner = ts .owner; lock = ts .lock }
+
+abbrev pub withClock : ℕ → Tables → Tables
+withClock n ts = record { size = ts .size; cut = ts .cut; clock = n; threads = ts .threads; regions = ts .regions; owner = ts .owner; lock = ts .lock }
+
+abbrev pub withThreads : List Thread → Tables → Tables
+withThreads ths ts = record { size = ts .size; cut = ts .cut; clock = ts .clock; threads = ths; regions = ts .regions; owner = ts .owner; lock = ts .lock }
 
 abbrev pub withRegions : List Region → Tables → Tables
-withRegions rs ts =
-    record { size = ts .size; cut = ts .cut; clock = ts .clock; threads = ts .threads; regions = rs; owner = ts .owner; lock = ts .lock }
+withRegions rs ts = record { size = ts .size; cut = ts .cut; clock = ts .clock; threads = ts .threads; regions = rs; owner = ts .owner; lock = ts .lock }
 
-abbrev pub withThread : ℕ → Thread → Tables → Tables
-withThread t th ts =
-    record { size = ts .size; cut = ts .cut; clock = ts .clock; threads = set (ts .threads) t th; regions = ts .regions; owner = ts .owner; lock = ts .lock }
+abbrev pub withOwners : List ℕ → Tables → Tables
+withOwners os ts = record { size = ts .size; cut = ts .cut; clock = ts .clock; threads = ts .threads; regions = ts .regions; owner = os; lock = ts .lock }
 
-abbrev pub withLock : ℕ → Bool → Tables → Tables
-withLock l b ts =
-    record { size = ts .size; cut = ts .cut; clock = ts .clock; threads = ts .threads; regions = ts .regions; owner = ts .owner; lock = set (ts .lock) l b }
+abbrev pub withLocks : List Bool → Tables → Tables
+withLocks ls ts = record { size = ts .size; cut = ts .cut; clock = ts .clock; threads = ts .threads; regions = ts .regions; owner = ts .owner; lock = ls }
 
-abbrev pub withSlots : List Slot → Region → Region
-withSlots ss r = record { key = r .key; ended = r .ended; done = r .done; stamp = r .stamp; deps = r .deps; slots = ss }
+abbrev pub withKey : ℕ → Region → Region
+withKey k r = record { key = k; ended = r .ended; done = r .done; stamp = r .stamp; deps = r .deps; slots = r .slots }
+
+abbrev pub withEnd : ℕ → Region → Region
+withEnd c r = record { key = r .key; ended = true; done = r .done; stamp = c; deps = r .deps; slots = r .slots }
+
+abbrev pub withDone : Bool → Region → Region
+withDone d r = record { key = r .key; ended = r .ended; done = d; stamp = r .stamp; deps = r .deps; slots = r .slots }
 
 abbrev pub withDeps : List ℕ → Region → Region
 withDeps ds r = record { key = r .key; ended = r .ended; done = r .done; stamp = r .stamp; deps = ds; slots = r .slots }
 
+abbrev pub withSlots : List Slot → Region → Region
+withSlots ss r = record { key = r .key; ended = r .ended; done = r .done; stamp = r .stamp; deps = r .deps; slots = ss }
+
+abbrev pub withDepth : ℕ → Thread → Thread
+withDepth d th = record { depth = d; last = th .last; log = th .log }
+
+abbrev pub withLast : ℕ → Thread → Thread
+withLast n th = record { depth = th .depth; last = n; log = th .log }
+
+abbrev pub withLog : List Entry → Thread → Thread
+withLog es th = record { depth = th .depth; last = th .last; log = es }
+
 abbrev pub withTables : Tables → Board → Board
 withTables ts b = record { tables = ts; cur = b .cur; med = b .med; old = b .old; car = b .car }
+
+abbrev pub withCur : List (List ℕ) → Board → Board
+withCur m b = record { tables = b .tables; cur = m; med = b .med; old = b .old; car = b .car }
+
+abbrev pub withMed : List (List ℕ) → Board → Board
+withMed m b = record { tables = b .tables; cur = b .cur; med = m; old = b .old; car = b .car }
+
+abbrev pub withOld : List (List ℕ) → Board → Board
+withOld m b = record { tables = b .tables; cur = b .cur; med = b .med; old = m; car = b .car }
+
+abbrev pub withCar : List (List ℕ) → Board → Board
+withCar m b = record { tables = b .tables; cur = b .cur; med = b .med; old = b .old; car = m }
+
+-- ---- and at a place of a list
+
+abbrev pub withThread : ℕ → Thread → Tables → Tables
+withThread t th ts = withThreads (set (ts .threads) t th) ts
+
+-- region k, if it is listed, gets the record r
+abbrev pub withRegion : ℕ → Region → Tables → Tables
+withRegion k r ts = withRegions (set (ts .regions) (placeOf k (ts .regions)) r) ts
+
+abbrev pub withOwner : ℕ → ℕ → Tables → Tables
+withOwner l k ts = withOwners (set (ts .owner) l k) ts
+
+abbrev pub withLock : ℕ → Bool → Tables → Tables
+withLock l b ts = withLocks (set (ts .lock) l b) ts

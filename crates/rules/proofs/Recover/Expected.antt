@@ -31,7 +31,7 @@ unfolding applied
 applied-length k [] m = refl
 applied-length k (w ∷ ws) m =
     test (eqb (w .region) k)
-    (λ a. rw a (length-set (applied k ws m) (w .line) (set (lineOf (w .line) (applied k ws m)) (w .word) (w .value)) ∙ applied-length k ws m))
+    (λ a. rw a (length-set (applied k ws m) (w .line) (w .change (lineOf (w .line) (applied k ws m))) ∙ applied-length k ws m))
     (λ a. rw a (applied-length k ws m))
 
 pub effects-length : (done : ℕ → Bool) (ws : List Change) (m : List (List ℕ)) (ks : List ℕ) → length (effects done ws m ks) ≡ length m
@@ -61,8 +61,8 @@ applied-same n k (w ∷ ws) m f e g l h =
     (λ a. let a′ : eqb k (w .region) ≡ true = eqb-swap k (w .region) ∙ a in
     rw (a, a′) (test (eqb l (w .line))
     (λ d. let q : l ≡ w .line = eqb-true l (w .line) d in
-    rw (d, ← q) (getD-set-same (applied k ws m) l (set (lineOf l (applied k ws m)) (w .word) (w .value)) [] (omega arith) ∙ rw (ih l h)))
-    (λ d. rw d (getD-set-other (applied k ws m) (w .line) l (set (lineOf (w .line) (applied k ws m)) (w .word) (w .value)) [] (eqb-false l (w .line) d) ∙ ih l h))))
+    rw (d, ← q) (getD-set-same (applied k ws m) l (w .change (lineOf l (applied k ws m))) [] (omega arith) ∙ rw (ih l h)))
+    (λ d. rw d (getD-set-other (applied k ws m) (w .line) l (w .change (lineOf (w .line) (applied k ws m))) [] (eqb-false l (w .line) d) ∙ ih l h))))
     (λ a. let a′ : eqb k (w .region) ≡ false = eqb-swap k (w .region) ∙ a in rw (a, a′) (ih l h))
 
 effects-same : (n : ℕ) (p q : ℕ → Bool) (ws : List Change) (m : List (List ℕ)) (f : ℕ → List ℕ) (ks : List ℕ) → length m ≡ n → Same n m f

@@ -16,10 +16,8 @@ use borrow.Author.Tests.{eqb-false, eqb-true, leb-true, lt-ltb, ltb-false, ltb-t
 use Rattle.rules.proofs.Recover.Saved.{depsAt, padded-in}
 use Rattle.rules.proofs.Sim.State.{Sim}
 use Rattle.rules.specs.Acknowledge.{kept}
-use Rattle.rules.specs.History.{Use, depthIn, drawsOn, openedIn, regionIn, usesIn}
+use Rattle.rules.specs.History.{Account, Closes, Cuts, Nothing, Opens, Sets, Stores, Use, Uses, depthIn, drawsOn, openedIn, regionIn, usesIn}
 use Rattle.rules.specs.Tables.{Board, keyOf, listed, noThread, numberOf, placeOf, regionAt, threadAt, threadOf}
-use Rattle.rules.specs.declared.Event.{Event}
-use Rattle.rules.specs.declared.Event.the-variants.{Begin, Cut, DataAck, End, Fence, LogAck, Read, Setup, Write}
 use Rattle.undo.proofs.Laws.{and-true, is-same, never, or-right, test}
 use Rattle.undo.proofs.Main.{closes, structured}
 use Rattle.undo.proofs.Steps.{reached}
@@ -33,24 +31,24 @@ use Rattle.undo.specs.Table.{isIn}
 more-draws : (k q : ℕ) (u : Use) (us : List Use) → drawsOn k q us ≡ true → drawsOn k q (u ∷ us) ≡ true
 more-draws k q u us e = or-right (eqb (u .of) k && eqb (u .on) q) e
 
-pub drew : (t n : ℕ) (es : List Event) → n ≢ 0 → suc n ≤ openedIn t es → drawsOn (keyOf t (suc n)) (keyOf t n) (usesIn es) ≡ true
+pub drew : (t n : ℕ) (es : List Account) → n ≢ 0 → suc n ≤ openedIn t es → drawsOn (keyOf t (suc n)) (keyOf t n) (usesIn es) ≡ true
 unfolding openedIn usesIn
 drew t n [] z h = absurd (omega arith)
-drew t n (Setup m l ∷ es) z h = drew t n es z h
-drew t n (Begin u ∷ es) z h = go (drew t n es z)
+drew t n (Sets l ∷ es) z h = drew t n es z h
+drew t n (Opens u ∷ es) z h = go (drew t n es z)
   where
-    kept : drawsOn (keyOf t (suc n)) (keyOf t n) (usesIn es) ≡ true → drawsOn (keyOf t (suc n)) (keyOf t n) (usesIn (Begin u ∷ es)) ≡ true
+    kept : drawsOn (keyOf t (suc n)) (keyOf t n) (usesIn es) ≡ true → drawsOn (keyOf t (suc n)) (keyOf t n) (usesIn (Opens u ∷ es)) ≡ true
     kept e =
         test (eqb (depthIn u es) 0 && ltb 0 (openedIn u es))
         (λ a. rw a (more-draws (keyOf t (suc n)) (keyOf t n) (record { of = keyOf u (openedIn u es + 1); on = regionIn u es }) (usesIn es) e))
         (λ a. rw a e)
 
-    new : u ≡ t → eqb (depthIn t es) 0 ≡ true → openedIn t es ≡ n → drawsOn (keyOf t (suc n)) (keyOf t n) (usesIn (Begin u ∷ es)) ≡ true
+    new : u ≡ t → eqb (depthIn t es) 0 ≡ true → openedIn t es ≡ n → drawsOn (keyOf t (suc n)) (keyOf t n) (usesIn (Opens u ∷ es)) ≡ true
     new p d q =
         let k : keyOf t (n + 1) ≡ keyOf t (suc n) = ap (keyOf t) (add-one n) in
         rw (p, d, q, lt-ltb 0 n (omega arith), k, is-same (keyOf t (suc n)), is-same (keyOf t n))
 
-    go : (suc n ≤ openedIn t es → drawsOn (keyOf t (suc n)) (keyOf t n) (usesIn es) ≡ true) → drawsOn (keyOf t (suc n)) (keyOf t n) (usesIn (Begin u ∷ es)) ≡ true
+    go : (suc n ≤ openedIn t es → drawsOn (keyOf t (suc n)) (keyOf t n) (usesIn es) ≡ true) → drawsOn (keyOf t (suc n)) (keyOf t n) (usesIn (Opens u ∷ es)) ≡ true
     go ih =
         test (eqb u t && eqb (depthIn t es) 0)
         (λ a. let y = and-true (eqb u t) (eqb (depthIn t es) 0) a in
@@ -59,15 +57,13 @@ drew t n (Begin u ∷ es) z h = go (drew t n es z)
         (λ c. kept (ih (ltb-true n (openedIn t es) c)))
         (λ c. let e = ltb-false n (openedIn t es) c in new (eqb-true u t (y .0)) (y .1) (omega arith)))
         (λ a. kept (ih (rw a at h)))
-drew t n (End u ∷ es) z h = drew t n es z h
-drew t n (Read u l w ∷ es) z h = more-draws (keyOf t (suc n)) (keyOf t n) _ (usesIn es) (drew t n es z h)
-drew t n (Write u l w v ∷ es) z h = more-draws (keyOf t (suc n)) (keyOf t n) _ (usesIn es) (drew t n es z h)
-drew t n (LogAck l ∷ es) z h = drew t n es z h
-drew t n (DataAck l ∷ es) z h = drew t n es z h
-drew t n (Fence u ∷ es) z h = drew t n es z h
-drew t n (Cut ∷ es) z h = drew t n es z h
+drew t n (Closes u ∷ es) z h = drew t n es z h
+drew t n (Uses u l ∷ es) z h = more-draws (keyOf t (suc n)) (keyOf t n) _ (usesIn es) (drew t n es z h)
+drew t n (Stores u l f ∷ es) z h = more-draws (keyOf t (suc n)) (keyOf t n) _ (usesIn es) (drew t n es z h)
+drew t n (Cuts ∷ es) z h = drew t n es z h
+drew t n (Nothing ∷ es) z h = drew t n es z h
 
-module _ {start : ℕ → List ℕ} {b : Board} {es : List Event} {s : u.State (List ℕ)} {h : v.History (List ℕ)} (rc : Reach start s h) (i : Sim b es s h) where
+module _ {start : ℕ → List ℕ} {b : Board} {es : List Account} {s : u.State (List ℕ)} {h : v.History (List ℕ)} (rc : Reach start s h) (i : Sim b es s h) where
   pub whole : Structure s h
   whole = structured start s h rc
 

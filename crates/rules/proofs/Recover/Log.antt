@@ -31,13 +31,13 @@ use Rattle.rules.specs.Refusal.{isSetUp}
 use Rattle.rules.specs.Slots.{counted}
 use Rattle.rules.specs.Tables.{Board, lineOf, listed, noEntry, threadAt, threadOf}
 use Rattle.rules.specs.declared.Entry.{Entry}
-use Rattle.rules.specs.declared.Event.{Event}
 use Rattle.undo.proofs.Laws.{and-true, cons-nil, flip, is-same, never, or-false, or-right, test}
 use Rattle.undo.specs.Claim.{start}
 use Rattle.undo.specs.History.{History}
 use Rattle.undo.specs.Machine.{State, owns}
 use Rattle.undo.specs.Recovery.{Undo, aimed, older, olds}
 use Rattle.undo.specs.Table.{any, isIn, keep}
+use Rattle.rules.specs.History.{Account}
 
 -- ---- the old lines of a region's entries of a line
 
@@ -176,7 +176,7 @@ pub record Spotted (b : Board) (s : u.State (List ℕ)) (t o : ℕ) : Type 0 whe
   pub small : entryAt t (spot b t o) (b .tables) .rank < 256
   pub good : GoodEntry b s t (spot b t o) (entryAt t (spot b t o) (b .tables))
 
-module _ {start : ℕ → List ℕ} {b : Board} {es : List Event} {s : u.State (List ℕ)} {h : v.History (List ℕ)} (rc : Reach start s h) (i : Sim b es s h) where
+module _ {start : ℕ → List ℕ} {b : Board} {es : List Account} {s : u.State (List ℕ)} {h : v.History (List ℕ)} (rc : Reach start s h) (i : Sim b es s h) where
   small-rank : (t j : ℕ) → entryAt t j (b .tables) .key ≢ 0 → entryAt t j (b .tables) .rank < 256
   small-rank t j n =
       let g = i .logs .entry t j n .rank in

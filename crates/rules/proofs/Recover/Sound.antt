@@ -22,11 +22,10 @@ use Rattle.rules.proofs.Places.{count-fewer, count-le, eqb-swap, key-at
 use Rattle.rules.proofs.Sim.State.{Rest, Sim}
 use Rattle.rules.specs.Commit.{commits}
 use Rattle.rules.specs.Contradiction.{anyBroken, anyClash, brokenBefore, clash, contradicts, inOrder, isAstray, isCircle, isLeftOver, isListed, isUnknownState, isUnnumbered, reaches, reachesIn}
-use Rattle.rules.specs.History.{openedIn}
+use Rattle.rules.specs.History.{Account, openedIn}
 use Rattle.rules.specs.Image.{Logged, saved, savedLog}
 use Rattle.rules.specs.Lists.{all, count, place}
 use Rattle.rules.specs.Tables.{Board, isHeld, listed, numberOf, placeOf, regionAt, threadOf}
-use Rattle.rules.specs.declared.Event.{Event}
 use Rattle.rules.specs.declared.Listed.{Listed}
 use Rattle.undo.proofs.Inv.{held}
 use Rattle.undo.proofs.Laws.{and-true, cons-nil, is-same, never, or-right, or-true, test}
@@ -36,7 +35,7 @@ use Rattle.undo.specs.History.{History}
 use Rattle.undo.specs.Machine.{State}
 use Rattle.undo.specs.Table.{any, isIn}
 
-module _ {start : ℕ → List ℕ} {b : Board} {es : List Event} {s : u.State (List ℕ)} {h : v.History (List ℕ)} (rc : Reach start s h) (i : Sim b es s h) where
+module _ {start : ℕ → List ℕ} {b : Board} {es : List Account} {s : u.State (List ℕ)} {h : v.History (List ℕ)} (rc : Reach start s h) (i : Sim b es s h) where
   -- the regions of the image
   abbrev entries : List Listed
   entries = map (savedAt (b .tables .regions)) (keysOf (b .tables .regions))

@@ -32,13 +32,12 @@ use Rattle.rules.proofs.Places.{count-le}
 use Rattle.rules.proofs.Sim.State.{Sim}
 use Rattle.rules.specs.Bytes.{lineBytes}
 use Rattle.rules.specs.Contradiction.{contradicts}
-use Rattle.rules.specs.History.{expected, memoryFound}
+use Rattle.rules.specs.History.{Account, expected, memoryFound}
 use Rattle.rules.specs.Image.{Logged, encode, image, saved, savedLog}
 use Rattle.rules.specs.Lists.{flat}
 use Rattle.rules.specs.Refusal.{isSetUp}
 use Rattle.rules.specs.Tables.{Board, lineOf}
 use Rattle.rules.specs.Walk.{entriesFrom, entriesOf, walk, walkEntries}
-use Rattle.rules.specs.declared.Event.{Event}
 use Rattle.undo.proofs.Laws.{same, test}
 use Rattle.undo.specs.Claim.{start}
 use Rattle.undo.specs.History.{History}
@@ -79,7 +78,7 @@ undos-length : (es : List Logged) → length (undos es) ≡ length es
 undos-length [] = refl
 undos-length (e ∷ es) = ap suc (undos-length es)
 
-module _ {start : ℕ → List ℕ} {b : Board} {es : List Event} {s : u.State (List ℕ)} {h : v.History (List ℕ)} (rc : Reach start s h) (i : Sim b es s h)
+module _ {start : ℕ → List ℕ} {b : Board} {es : List Account} {s : u.State (List ℕ)} {h : v.History (List ℕ)} (rc : Reach start s h) (i : Sim b es s h)
     (up : isSetUp (b .tables) ≡ true) (quiet : contradicts (saved b) ≡ false) where
   -- the order of the regions, and the entries of each
   pub regionsWalked : List ℕ

@@ -24,17 +24,17 @@ use Rattle.rules.specs.Lists.{all}
 use Rattle.rules.specs.Reader.{isKnownThread}
 use Rattle.rules.specs.Refusal.{isSetUp}
 use Rattle.rules.specs.Tables.{Board, listed, regionAt, threadOf}
-use Rattle.rules.specs.declared.Event.{Event}
 use Rattle.undo.proofs.Laws.{test}
 use Rattle.undo.specs.Claim.{start}
 use Rattle.undo.specs.History.{History}
 use Rattle.undo.specs.Machine.{State}
+use Rattle.rules.specs.History.{Account}
 
 all-index : {A : Type 0} (p : A → Bool) (d : A) (xs : List A) → ((j : ℕ) → j < length xs → p (getD xs j d) ≡ true) → all p xs ≡ true
 all-index p d [] f = refl
 all-index p d (x ∷ xs) f = rw (f 0 (omega arith)) (all-index p d xs (λ j h. f (suc j) (omega arith)))
 
-module _ {start : ℕ → List ℕ} {b : Board} {es : List Event} {s : u.State (List ℕ)} {h : v.History (List ℕ)} (rc : Reach start s h) (i : Sim b es s h) (up : isSetUp (b .tables) ≡ true) where
+module _ {start : ℕ → List ℕ} {b : Board} {es : List Account} {s : u.State (List ℕ)} {h : v.History (List ℕ)} (rc : Reach start s h) (i : Sim b es s h) (up : isSetUp (b .tables) ≡ true) where
   fits-region : (k : ℕ) → listed k (b .tables .regions) ≡ true
       → fitsRegion (b .tables .size .threads) (savedAt (b .tables .regions) k) ≡ true
   fits-region k e =

@@ -23,14 +23,13 @@ use Rattle.rules.proofs.Views.{stateOf}
 use Rattle.rules.specs.Access.{dependence, isHad, joined, read}
 use Rattle.rules.specs.Acknowledge.{kept}
 use Rattle.rules.specs.Commit.{commits}
-use Rattle.rules.specs.History.{depthIn, drawsOn, endsIn, lastWriter, linesIn, openedIn, regionIn, usesIn, writesIn}
+use Rattle.rules.specs.History.{Account, Uses, depthIn, drawsOn, endsIn, lastWriter, linesIn, openedIn, regionIn, usesIn, writesIn}
 use Rattle.rules.specs.Lists.{place}
 use Rattle.rules.specs.Reader.{nothing}
 use Rattle.rules.specs.Refusal.{depthOf, isForeignOpen, noRoomForDep, testsOf}
 use Rattle.rules.specs.Step.{apply}
 use Rattle.rules.specs.Tables.{Board, current, isHeld, lineOf, listed, noRegion, ownerOf, placeOf, regionAt, startLines, threadOf, withDeps, withTables}
 use Rattle.rules.specs.declared.Entry.{Entry}
-use Rattle.rules.specs.declared.Event.{Event}
 use Rattle.rules.specs.declared.Event.the-variants.{Read}
 use Rattle.rules.specs.declared.Region.{Region}
 use Rattle.rules.specs.declared.Tables.{Tables}
@@ -98,11 +97,11 @@ read-none k l ts e = rw (e, set-getD (ts .regions) (placeOf k (ts .regions)) noR
 -- ---- region k, open, comes to depend on the owner of line l
 
 -- region k may read the line, and may write it if it is not locked
-pub data Joined (m : ℕ → List ℕ) (b : Board) (es : List Event) (k l : ℕ) : Type 0 where
+pub data Joined (m : ℕ → List ℕ) (b : Board) (es : List Account) (k l : ℕ) : Type 0 where
   joins : (s : u.State (List ℕ)) (h : v.History (List ℕ)) → Reach m s h → Sim b es s h → u.Open s k
       → (u.owns k (s .chain l) || u.follows (s .dep) k (s .chain l)) ≡ true → Joined m b es k l
 
-module _ {m : ℕ → List ℕ} {b : Board} {es : List Event} {s : u.State (List ℕ)} {h : v.History (List ℕ)} (t l : ℕ) (rc : Reach m s h) (i : Sim b es s h)
+module _ {m : ℕ → List ℕ} {b : Board} {es : List Account} {s : u.State (List ℕ)} {h : v.History (List ℕ)} (t l : ℕ) (rc : Reach m s h) (i : Sim b es s h)
     (deep : depthOf t (b .tables) ≢ 0) where
   pub current-is : current t (b .tables) ≡ regionIn t es
   current-is = rw (i .told .last t)
@@ -226,7 +225,7 @@ module _ {m : ℕ → List ℕ} {b : Board} {es : List Event} {s : u.State (List
 -- ---- what an access draws on, in both histories
 
 -- region k draws on the last writer of line l
-module _ {b : Board} {es : List Event} {s : u.State (List ℕ)} {h : v.History (List ℕ)} (k l : ℕ) (i : Told b es s h) (x q : ℕ) (n : q ≢ 0) where
+module _ {b : Board} {es : List Account} {s : u.State (List ℕ)} {h : v.History (List ℕ)} (k l : ℕ) (i : Told b es s h) (x q : ℕ) (n : q ≢ 0) where
   uses-later : (w : o.Option ℕ) → v.used x q (h .uses) ≡ true → v.used x q (v.drawing k w (h .uses)) ≡ true
   uses-later o.none y = y
   uses-later (o.some p) y = or-right (eqb x k && eqb q p) y
@@ -249,15 +248,15 @@ module _ {b : Board} {es : List Event} {s : u.State (List ℕ)} {h : v.History (
 
 -- ---- a read
 
-told-read : {b : Board} {es : List Event} {s : u.State (List ℕ)} {h : v.History (List ℕ)} (t l w : ℕ) → Told b es s h
-    → Told b (Read t l w ∷ es) (act s (u.Read (regionIn t es) l)) (note h (u.Read (regionIn t es) l))
+told-read : {b : Board} {es : List Account} {s : u.State (List ℕ)} {h : v.History (List ℕ)} (t l w : ℕ) → Told b es s h
+    → Told b (Uses t l ∷ es) (act s (u.Read (regionIn t es) l)) (note h (u.Read (regionIn t es) l))
 unfolding act note depthIn openedIn linesIn endsIn writesIn usesIn
 told-read {es = es} t l w i =
     told-kept (λ t. refl) (λ t. refl) refl (record { depth = λ t. refl; opened = λ t. refl; lines = refl; ends = refl }) refl refl refl
     (i .writes) (λ x q d n. uses-access (regionIn t es) l i x q n d) (i .owner) i
 
-read-sim : {b : Board} {es : List Event} {s : u.State (List ℕ)} {h : v.History (List ℕ)} (t l w : ℕ) → Sim b es s h
-    → Sim b (Read t l w ∷ es) (act s (u.Read (regionIn t es) l)) (note h (u.Read (regionIn t es) l))
+read-sim : {b : Board} {es : List Account} {s : u.State (List ℕ)} {h : v.History (List ℕ)} (t l w : ℕ) → Sim b es s h
+    → Sim b (Uses t l ∷ es) (act s (u.Read (regionIn t es) l)) (note h (u.Read (regionIn t es) l))
 unfolding act
 read-sim t l w i =
     record {
@@ -281,7 +280,7 @@ unfolding commits
 undone-stays r d = test (isHeld r) (λ e. rw (e, d)) (λ e. rw e)
 
 -- an open region is not done
-pub open-undone : {b : Board} {es : List Event} {s : u.State (List ℕ)} {h : v.History (List ℕ)} (k : ℕ) → Sim b es s h → u.Open s k
+pub open-undone : {b : Board} {es : List Account} {s : u.State (List ℕ)} {h : v.History (List ℕ)} (k : ℕ) → Sim b es s h → u.Open s k
     → listed k (b .tables .regions) ≡ true → regionAt k (b .tables .regions) .done ≡ false
 open-undone {b} k i o in′ =
     test (regionAt k (b .tables .regions) .done)
@@ -289,7 +288,7 @@ open-undone {b} k i o in′ =
     (λ d. d)
 
 -- the current region stores other dependences
-pub rest-read : {b : Board} {es : List Event} {s : u.State (List ℕ)} {h : v.History (List ℕ)} (k l : ℕ) → Sim b es s h → u.Open s k
+pub rest-read : {b : Board} {es : List Account} {s : u.State (List ℕ)} {h : v.History (List ℕ)} (k l : ℕ) → Sim b es s h → u.Open s k
     → listed k (b .tables .regions) ≡ true → Rest b → Rest (withTables (read k l (b .tables)) b)
 unfolding read
 rest-read {b} k l i o in′ r =
@@ -318,13 +317,13 @@ read-keeps t l w m b es sound ref kept = go (kept .simulated)
 
     after : (s : u.State (List ℕ)) (h : v.History (List ℕ)) → Sim b es s h
         → Joined (λ x. lineOf x (startLines m)) (withTables (read (current t (b .tables)) l (b .tables)) b) es (current t (b .tables)) l
-        → Simulated m (withTables (read (current t (b .tables)) l (b .tables)) b) (Read t l w ∷ es)
+        → Simulated m (withTables (read (current t (b .tables)) l (b .tables)) b) (Uses t l ∷ es)
     after s h i (joins s′ h′ rc′ i′ op f) =
         let q : current t (b .tables) ≡ regionIn t es = rw (i .told .last t) in
         by (act s′ (u.Read (regionIn t es) l)) (note h′ (u.Read (regionIn t es) l))
         (then rc′ (u.Read (regionIn t es) l) (u.reads {r = regionIn t es} {l = l} (rw q at f))) (read-sim t l w i′)
 
-    go : Simulated m b es → Kept m (withTables (read (current t (b .tables)) l (b .tables)) b) (Read t l w ∷ es)
+    go : Simulated m b es → Kept m (withTables (read (current t (b .tables)) l (b .tables)) b) (Uses t l ∷ es)
     go (by s h rc i) =
         let o : u.Open s (current t (b .tables)) = current-open t l rc i deep in
         record {

@@ -22,13 +22,12 @@ use Rattle.rules.proofs.SlotLaws.{distinct-dropped, dropped-none, state
 use Rattle.rules.proofs.Views.{carryOf, entryAt, newest, stateOf}
 use Rattle.rules.specs.Access.{isOf}
 use Rattle.rules.specs.Acknowledge.{dropped, droppedSlot, isEntry, kept, keptEntry, logAck, unlocked}
-use Rattle.rules.specs.History.{depthIn, endsIn, linesIn, openedIn, usesIn, writesIn}
+use Rattle.rules.specs.History.{Account, Nothing, depthIn, endsIn, linesIn, openedIn, usesIn, writesIn}
 use Rattle.rules.specs.Lists.{count}
 use Rattle.rules.specs.Refusal.{isSetUp, refusal, testsOf}
 use Rattle.rules.specs.Slots.{isFlight}
 use Rattle.rules.specs.Tables.{Board, Memory, isKey, lineOf, listed, noEntry, noRegion, noThread, ownerOf, placeOf, regionAt, startLines, threadAt, threadOf, withSlots, withTables}
 use Rattle.rules.specs.declared.Entry.{Entry}
-use Rattle.rules.specs.declared.Event.{Event}
 use Rattle.rules.specs.declared.Event.the-variants.{LogAck}
 use Rattle.rules.specs.declared.Region.{Region}
 use Rattle.rules.specs.declared.SlotState.{SlotState}
@@ -184,7 +183,7 @@ waiting-stays InFlight c e = let z : _≡_ {A = ℕ} 0 1 = cc in absurd (omega a
 clear-not-waits : _≡_ {A = u.Carry (List ℕ)} u.Clear u.Waits → ⊥
 clear-not-waits e = let z : _≡_ {A = ℕ} 0 1 = cc in omega arith
 
-module _ {b : Board} {es : List Event} {s : u.State (List ℕ)} {h : v.History (List ℕ)} (l : ℕ) (e : u.Entry (List ℕ)) (ch : List (u.Entry (List ℕ)))
+module _ {b : Board} {es : List Account} {s : u.State (List ℕ)} {h : v.History (List ℕ)} (l : ℕ) (e : u.Entry (List ℕ)) (ch : List (u.Entry (List ℕ)))
     (i : Sim b es s h) (is : s .chain l ≡ e ∷ ch) (in′ : listed (e .rid) (b .tables .regions) ≡ true) (loc : getD (b .tables .lock) l false ≡ true)
     (inside : l < 256) where
   rid-nz : eqb (e .rid) 0 ≡ false
@@ -287,7 +286,7 @@ module _ {b : Board} {es : List Event} {s : u.State (List ℕ)} {h : v.History (
       rank : (x j : ℕ) → keptIn (threadOf (e .rid)) (e .rid) l x (entryAt x j (b .tables)) .rank ≡ entryAt x j (b .tables) .rank
       rank x j = keptIn-rank (e .rid) l rid-nz (i .shape) rid-thread x (entryAt x j (b .tables))
 
-  ack-told : Told (withTables (unlocked (e .rid) l (b .tables)) b) (LogAck l ∷ es) (act s (u.LogAck (e .rid) l)) h
+  ack-told : Told (withTables (unlocked (e .rid) l (b .tables)) b) (Nothing ∷ es) (act s (u.LogAck (e .rid) l)) h
   unfolding act unlocked kept depthIn openedIn linesIn endsIn writesIn usesIn
   ack-told =
       told-kept
@@ -295,7 +294,7 @@ module _ {b : Board} {es : List Event} {s : u.State (List ℕ)} {h : v.History (
       (λ x. rw (unlocked-thread (e .rid) l rid-nz (i .shape) rid-thread x) (test (eqb x (threadOf (e .rid))) (λ d. rw (d, eqb-true x (threadOf (e .rid)) d)) (λ d. rw d)))
       refl (record { depth = λ t. refl; opened = λ t. refl; lines = refl; ends = refl }) refl refl refl (i .told .writes) (i .told .uses) (i .told .owner) (i .told)
 
-  ack-sim : Sim (withTables (unlocked (e .rid) l (b .tables)) b) (LogAck l ∷ es) (act s (u.LogAck (e .rid) l)) h
+  ack-sim : Sim (withTables (unlocked (e .rid) l (b .tables)) b) (Nothing ∷ es) (act s (u.LogAck (e .rid) l)) h
   unfolding act unlocked ownerOf
   ack-sim =
       record {
@@ -352,8 +351,8 @@ acked : {m : ℕ → List ℕ} {s : u.State (List ℕ)} {h : v.History (List ℕ
 unfolding note
 acked rc k l own lo = then rc (u.LogAck k l) (u.log-acks own lo)
 
-pub log-ack : (l : ℕ) (m : Memory) (b : Board) (es : List Event) → refusal (b .tables) (LogAck l) ≡ 0 → Kept m b es
-    → Simulated m (logAck l b) (LogAck l ∷ es) × Flown (logAck l b)
+pub log-ack : (l : ℕ) (m : Memory) (b : Board) (es : List Account) → refusal (b .tables) (LogAck l) ≡ 0 → Kept m b es
+    → Simulated m (logAck l b) (Nothing ∷ es) × Flown (logAck l b)
 unfolding testsOf logAck
 log-ack l m b es ref kept = go (kept .simulated)
   where
@@ -366,10 +365,10 @@ log-ack l m b es ref kept = go (kept .simulated)
     inside : l < 256
     inside = omega (arith, leb-false (b .tables .size .lines) l (p .1 .0), lines-256 (b .tables) (not-false (isSetUp (b .tables)) (p .0)))
 
-    go : Simulated m b es → Simulated m (logAck l b) (LogAck l ∷ es) × Flown (logAck l b)
+    go : Simulated m b es → Simulated m (logAck l b) (Nothing ∷ es) × Flown (logAck l b)
     go (by s h rc i) = pass (owner-is rc i l)
       where
-        pass : Owner b s l → Simulated m (logAck l b) (LogAck l ∷ es) × Flown (logAck l b)
+        pass : Owner b s l → Simulated m (logAck l b) (Nothing ∷ es) × Flown (logAck l b)
         pass (unowned q o) = absurd (structured (λ x. lineOf x (startLines m)) s h rc .lock-logged l (i .lock l ∙ loc) q)
         pass (owned e ch q o bo dn in′) =
             let k : getD (b .tables .owner) l 0 ≡ e .rid = top-owner (e .rid) l i (listed-key (e .rid) (b .tables .regions) in′) (rw q) in

@@ -19,7 +19,7 @@ use Rattle.rules.proofs.Sim.Write.{write-keeps}
 use Rattle.rules.proofs.Start.{initially}
 use Rattle.rules.specs.Bytes.{numOf}
 use Rattle.rules.specs.Claim.{boardAfter, isByte, isByteMemory}
-use Rattle.rules.specs.History.{acceptedFrom, acceptedIn, noted}
+use Rattle.rules.specs.History.{Account, acceptedFrom, acceptedIn, noted}
 use Rattle.rules.specs.Lists.{all}
 use Rattle.rules.specs.Record.{bodyLength, eventOf, readRecord}
 use Rattle.rules.specs.Refusal.{depthOf, refusal, testsOf}
@@ -88,7 +88,7 @@ keeps (DataAck l) = keeps-data l
 keeps (Fence t) = keeps-fence t
 keeps Cut = keeps-cut
 
-pub step-kept : (m : Memory) (b : Board) (es : List Event) (x : Reading) → isSoundReading x ≡ true → Kept m b es
+pub step-kept : (m : Memory) (b : Board) (es : List Account) (x : Reading) → isSoundReading x ≡ true → Kept m b es
     → Kept m (stepRead b x .board) (noted (stepRead b x .answer .refusal) x es)
 unfolding stepEvent stepBy
 step-kept m b es (Refused zero) q k = k
@@ -99,7 +99,7 @@ step-kept m b es (Whole e) q k = go (refusal (b .tables) e) refl
     go zero r = keeps e m b es q r k
     go (suc n) r = k
 
-run-kept : (m : Memory) (rs : List (List ℕ)) (b : Board) (es : List Event) → all (all isByte) rs ≡ true → Kept m b es
+run-kept : (m : Memory) (rs : List (List ℕ)) (b : Board) (es : List Account) → all (all isByte) rs ≡ true → Kept m b es
     → Kept m (run b rs .board) (acceptedFrom b rs es)
 unfolding run acceptedFrom step
 run-kept m [] b es e k = k

@@ -19,7 +19,7 @@ use Rattle.rules.proofs.Places.{eqb-swap, getD-set}
 use Rattle.rules.proofs.Sim.State.{GoodEntry, Logs, Memories, Rest, Shape, Sim, Told, conv, none}
 use Rattle.rules.proofs.Views.{entryAt}
 use Rattle.rules.specs.Access.{logged}
-use Rattle.rules.specs.History.{Change, depthIn, endsIn, lastWriter, linesIn, openedIn, usesIn, writesIn}
+use Rattle.rules.specs.History.{Account, Change, depthIn, endsIn, lastWriter, linesIn, openedIn, usesIn, writesIn}
 use Rattle.rules.specs.Lists.{all}
 use Rattle.rules.specs.Reader.{Last}
 use Rattle.rules.specs.Refusal.{Test, firstBad, isSetUp, refusal, testsOf}
@@ -159,7 +159,7 @@ shape-thread t th ts h e sh =
 -- ---- the history
 
 -- one event more that opens no region, ends none, reads and writes nothing
-pub record Alike (es es′ : List Event) : Type 0 where
+pub record Alike (es es′ : List Account) : Type 0 where
   pub opened : (t : ℕ) → openedIn t es′ ≡ openedIn t es
   pub inside : (t : ℕ) → depthIn t es ≢ 0 → depthIn t es′ ≢ 0
   pub outside : (t : ℕ) → depthIn t es′ ≢ 0 → depthIn t es ≢ 0
@@ -167,7 +167,7 @@ pub record Alike (es es′ : List Event) : Type 0 where
   pub writes : writesIn es′ ≡ writesIn es
   pub uses : usesIn es′ ≡ usesIn es
 
-pub told-alike : {b b′ : Board} {es es′ : List Event} {s : u.State (List ℕ)} {h : v.History (List ℕ)} → Alike es es′
+pub told-alike : {b b′ : Board} {es es′ : List Account} {s : u.State (List ℕ)} {h : v.History (List ℕ)} → Alike es es′
     → ((t : ℕ) → threadAt t (b′ .tables) .depth ≡ depthIn t es′) → ((t : ℕ) → threadAt t (b′ .tables) .last ≡ threadAt t (b .tables) .last)
     → (isSetUp (b′ .tables) ≡ true → linesIn es′ ≡ b′ .tables .size .lines) → b′ .tables .owner ≡ b .tables .owner → Told b es s h → Told b′ es′ s h
 told-alike {b} {b′} {es} {es′} {s} {h} a f g n o i =
@@ -187,7 +187,7 @@ told-alike {b} {b′} {es} {es′} {s} {h} a f g n o i =
 
 -- ---- the relation when regions, owners and locks stay
 
-pub sim-alter : {b : Board} {es es′ : List Event} {s : u.State (List ℕ)} {h : v.History (List ℕ)} (z : Size) (c : Bool) (n : ℕ) (ths : List Thread)
+pub sim-alter : {b : Board} {es es′ : List Account} {s : u.State (List ℕ)} {h : v.History (List ℕ)} (z : Size) (c : Bool) (n : ℕ) (ths : List Thread)
     → Shape (alter z c n ths (b .tables)) → Logs (withTables (alter z c n ths (b .tables)) b) s → Told (withTables (alter z c n ths (b .tables)) b) es′ s h
     → Sim b es s h → Sim (withTables (alter z c n ths (b .tables)) b) es′ s h
 unfolding ownerOf
@@ -224,7 +224,7 @@ writer-same l (w ∷ ws) =
     let ih = writer-same l ws in
     test (eqb l (w .line)) (λ d. rw (d, eqb-swap (w .line) l, d)) (λ d. rw (d, eqb-swap (w .line) l, d) ih)
 
-module _ {m : ℕ → List ℕ} {b : Board} {es : List Event} {s : u.State (List ℕ)} {h : v.History (List ℕ)} (rc : Reach m s h) (i : Sim b es s h) where
+module _ {m : ℕ → List ℕ} {b : Board} {es : List Account} {s : u.State (List ℕ)} {h : v.History (List ℕ)} (rc : Reach m s h) (i : Sim b es s h) where
   -- a line's owner has begun, if it has one
   pub owner-born : (l : ℕ) → (getD (b .tables .owner) l 0 ≡ 0) ⊎ (s .born (getD (b .tables .owner) l 0) ≡ true)
   owner-born l = rw (i .told .owner l, writer-same l (writesIn es), ← i .told .writes) (go (reached rc .last l) (λ r e. reached rc .listed l r e .0))

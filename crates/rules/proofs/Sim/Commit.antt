@@ -22,14 +22,13 @@ use Rattle.rules.proofs.Views.{entryAt, newest}
 use Rattle.rules.specs.Access.{isOf, logged}
 use Rattle.rules.specs.Acknowledge.{isEntry}
 use Rattle.rules.specs.Commit.{Settled, afterCommit, before, commit, commits, doneRegion, earlier, earliest, earliestFrom, freed, freedEntry, settle, settled, withoutDep}
-use Rattle.rules.specs.History.{openedIn}
+use Rattle.rules.specs.History.{Account, openedIn}
 use Rattle.rules.specs.Lists.{all, count}
 use Rattle.rules.specs.Recovery.{act}
 use Rattle.rules.specs.Slots.{hasSlot}
 use Rattle.rules.specs.Step.{settledBoard}
 use Rattle.rules.specs.Tables.{Board, Memory, isHeld, isKey, listed, noEntry, noRegion, noThread, numberOf, ownerOf, placeOf, regionAt, threadAt, threadOf, withDeps, withRegions, withTables}
 use Rattle.rules.specs.declared.Entry.{Entry}
-use Rattle.rules.specs.declared.Event.{Event}
 use Rattle.rules.specs.declared.Region.{Region}
 use Rattle.rules.specs.declared.SlotState.the-variants.{Empty, Waiting}
 use Rattle.undo.proofs.Inv.{Link, entries, held, no-entry, one-entry}
@@ -70,7 +69,7 @@ good-done r g =
 abbrev pub afterDone : Board → Board
 afterDone b = withTables (withRegions (map doneRegion (b .tables .regions)) (b .tables)) b
 
-module _ {b : Board} {es : List Event} {s : u.State (List ℕ)} {h : v.History (List ℕ)} (i : Sim b es s h) where
+module _ {b : Board} {es : List Account} {s : u.State (List ℕ)} {h : v.History (List ℕ)} (i : Sim b es s h) where
   region-done : (j : ℕ) → regionAt j (map doneRegion (b .tables .regions)) ≡ doneRegion (regionAt j (b .tables .regions))
   region-done = region-mapped doneRegion (b .tables .regions) done-free done-key
 
@@ -278,7 +277,7 @@ logged-freed k j es e = (test (eqb j k) (λ d. never (rw (eqb-true j k d) at e) 
 
 -- ---- one commit
 
-module _ {m : ℕ → List ℕ} {b : Board} {es : List Event} {s : u.State (List ℕ)} {h : v.History (List ℕ)} (rc : Reach m s h) (i : Sim b es s h)
+module _ {m : ℕ → List ℕ} {b : Board} {es : List Account} {s : u.State (List ℕ)} {h : v.History (List ℕ)} (rc : Reach m s h) (i : Sim b es s h)
     (k : ℕ) (in′ : listed k (b .tables .regions) ≡ true) (cm : commits (regionAt k (b .tables .regions)) ≡ true) where
   nz : eqb k 0 ≡ false
   nz = listed-key k (b .tables .regions) in′
@@ -495,11 +494,11 @@ finished-commit k rs nz f j =
 
 -- ---- the commits of a step
 
-commits-one : {m : Memory} {b : Board} {es : List Event} (k : ℕ) → listed k (b .tables .regions) ≡ true → commits (regionAt k (b .tables .regions)) ≡ true
+commits-one : {m : Memory} {b : Board} {es : List Account} (k : ℕ) → listed k (b .tables .regions) ≡ true → commits (regionAt k (b .tables .regions)) ≡ true
     → Simulated m b es → Flown b → Simulated m (withTables (commit k (b .tables)) b) es × Flown (withTables (commit k (b .tables)) b)
 commits-one k in′ cm (by s h rc i) f = (by (u.act s (u.Commit k)) h (reach-commit rc i k in′ cm) (sim-commit rc i k in′ cm), flown-commit rc i k in′ cm f)
 
-pub unique-regions : {m : Memory} {b : Board} {es : List Event} → Simulated m b es → Unique (b .tables .regions)
+pub unique-regions : {m : Memory} {b : Board} {es : List Account} → Simulated m b es → Unique (b .tables .regions)
 unique-regions (by s h rc i) = i .shape .unique
 
 -- no region of the list commits
@@ -517,7 +516,7 @@ free-list [] e = refl
 free-list (r ∷ rs) e = let z = or-false (isHeld r) (any isHeld rs) e in rw (z .0) (free-list rs (z .1))
 
 -- n commits are enough where n regions are listed
-settle-kept : {m : Memory} {es : List Event} (n : ℕ) (b : Board) → count isHeld (b .tables .regions) ≤ n → Simulated m b es → Flown b
+settle-kept : {m : Memory} {es : List Account} (n : ℕ) (b : Board) → count isHeld (b .tables .regions) ≤ n → Simulated m b es → Flown b
     → ((j : ℕ) → Finished (getD (b .tables .regions) j noRegion)) → Kept m (withTables (settle n (b .tables) .tables) b) es
 unfolding settle commit
 settle-kept zero b le k f g =
@@ -556,7 +555,7 @@ settle-kept {m} {es} (suc n) b le k f g = go (commits (earliest (b .tables .regi
         (finished-commit (earliest (b .tables .regions) .key) (b .tables .regions) (listed-key (earliest (b .tables .regions) .key) (b .tables .regions) (r .0)) g)
 
 -- what the done pass and the commits make of a board
-pub settles : {m : Memory} {b : Board} {es : List Event} → Simulated m b es → Flown b → Kept m (settledBoard b .board) es
+pub settles : {m : Memory} {b : Board} {es : List Account} → Simulated m b es → Flown b → Kept m (settledBoard b .board) es
 unfolding settledBoard settled
 settles {b} (by s h rc i) f =
     settle-kept (length (b .tables .regions)) (afterDone b)

@@ -18,13 +18,12 @@ use Rattle.rules.proofs.Sim.Parts.{Flown, Quiet, logs-kept, once-at, ow
 use Rattle.rules.proofs.SlotLaws.{distinct-dropped, dropped-none, flight-carried, flight-state, landed-dropped, state-dropped, state-dropped-other}
 use Rattle.rules.proofs.Views.{carryOf, newest, slotView, stateOf}
 use Rattle.rules.specs.Acknowledge.{dataAck, droppedSlot, flightPlace, kept, landed}
-use Rattle.rules.specs.History.{depthIn, endsIn, linesIn, openedIn, usesIn, writesIn}
+use Rattle.rules.specs.History.{Account, Nothing, depthIn, endsIn, linesIn, openedIn, usesIn, writesIn}
 use Rattle.rules.specs.Recovery.{act}
 use Rattle.rules.specs.Refusal.{inFlight, isSetUp, refusal, testsOf}
 use Rattle.rules.specs.Slots.{carries, isFlight}
 use Rattle.rules.specs.Step.{apply}
 use Rattle.rules.specs.Tables.{Board, Memory, lineOf, listed, noRegion, placeOf, regionAt, withSlots}
-use Rattle.rules.specs.declared.Event.{Event}
 use Rattle.rules.specs.declared.Event.the-variants.{DataAck}
 use Rattle.rules.specs.declared.Region.{Region}
 use Rattle.rules.specs.declared.SlotState.the-variants.{Empty, Waiting}
@@ -43,11 +42,11 @@ abbrev landedBoard : ℕ → ℕ → Board → Board
 landedBoard k l b =
     rebuilt (set (b .tables .regions) (placeOf k (b .tables .regions)) (landedRegion k l b)) (b .cur) (set (b .med) l (lineOf l (b .car))) (b .car) b
 
-quiet-data : (l : ℕ) (es : List Event) → Quiet es (DataAck l ∷ es)
+quiet-data : (l : ℕ) (es : List Account) → Quiet es (Nothing ∷ es)
 unfolding depthIn openedIn linesIn endsIn
 quiet-data l es = record { depth = λ t. refl; opened = λ t. refl; lines = refl; ends = refl }
 
-module _ {m : ℕ → List ℕ} {b : Board} {es : List Event} {s : u.State (List ℕ)} {h : v.History (List ℕ)} (k l : ℕ) (rc : Reach m s h) (i : Sim b es s h)
+module _ {m : ℕ → List ℕ} {b : Board} {es : List Account} {s : u.State (List ℕ)} {h : v.History (List ℕ)} (k l : ℕ) (rc : Reach m s h) (i : Sim b es s h)
     (ln : l < 256) (in′ : listed k (b .tables .regions) ≡ true) (fl : any (carries l) (regionAt k (b .tables .regions) .slots) ≡ true) where
   good-at : GoodRegion (regionAt k (b .tables .regions))
   good-at = i .shape .good (placeOf k (b .tables .regions))
@@ -107,7 +106,7 @@ module _ {m : ℕ → List ℕ} {b : Board} {es : List Event} {s : u.State (List
       (λ d. rw (eqb-true j l e) (i .waits l q (rw (e, d) at w))))
       (λ e. i .waits j q (rw e at w))
 
-  landed-sim : Sim (landedBoard k l b) (DataAck l ∷ es) (u.act s (u.DataAck k l (lineOf l (b .car)))) h
+  landed-sim : Sim (landedBoard k l b) (Nothing ∷ es) (u.act s (u.DataAck k l (lineOf l (b .car)))) h
   unfolding u.act writesIn usesIn
   landed-sim =
       record {
@@ -159,8 +158,8 @@ module _ (rs : List Region) (l : ℕ) (g : Good rs) (e : any (λ r. any (carries
   found-listed : listed (getD rs (flightPlace l rs) noRegion .key) rs ≡ true
   found-listed = listed-at (flightPlace l rs) rs found-key (place-lt (λ r. any (carries l) (r .slots)) rs e)
 
-pub lands : (l : ℕ) (m : Memory) (b : Board) (es : List Event) → refusal (b .tables) (DataAck l) ≡ 0 → Kept m b es
-    → Simulated m (dataAck l b) (DataAck l ∷ es) × Flown (dataAck l b)
+pub lands : (l : ℕ) (m : Memory) (b : Board) (es : List Account) → refusal (b .tables) (DataAck l) ≡ 0 → Kept m b es
+    → Simulated m (dataAck l b) (Nothing ∷ es) × Flown (dataAck l b)
 unfolding testsOf
 lands l m b es r kept = go (kept .simulated)
   where
@@ -179,7 +178,7 @@ lands l m b es r kept = go (kept .simulated)
     k : ℕ
     k = getD (b .tables .regions) (flightPlace l (b .tables .regions)) noRegion .key
 
-    go : Simulated m b es → Simulated m (dataAck l b) (DataAck l ∷ es) × Flown (dataAck l b)
+    go : Simulated m b es → Simulated m (dataAck l b) (Nothing ∷ es) × Flown (dataAck l b)
     go (by s h rc i) =
         let in′ : listed k (b .tables .regions) ≡ true = found-listed (b .tables .regions) l (i .shape .good) flying in
         let at : placeOf k (b .tables .regions) ≡ flightPlace l (b .tables .regions)

@@ -19,7 +19,6 @@ use Rattle.rules.proofs.Views.{carryOf, newest, stateOf}
 use Rattle.rules.specs.Flight.{flown}
 use Rattle.rules.specs.Slots.{carried, flownSlots, isFlight, isRipe}
 use Rattle.rules.specs.Tables.{Board, Memory, lineOf, listed, placeOf, regionAt, withSlots}
-use Rattle.rules.specs.declared.Event.{Event}
 use Rattle.rules.specs.declared.Region.{Region}
 use Rattle.rules.specs.declared.SlotState.{SlotState}
 use Rattle.rules.specs.declared.SlotState.the-variants.{Empty, InFlight, Waiting}
@@ -28,6 +27,7 @@ use Rattle.undo.proofs.Main.{structured}
 use Rattle.undo.specs.Claim.{Reach, then}
 use Rattle.undo.specs.History.{History}
 use Rattle.undo.specs.Machine.{Flies, Launch, State, Waits, launches}
+use Rattle.rules.specs.History.{Account}
 
 ripe-waits : (car : List (List ℕ)) (l : ℕ) (ended : Bool) (st : SlotState) → isRipe ended st ≡ true → carryOf car l st ≡ u.Waits
 ripe-waits car l ended Empty e = absurd (false≢true e)
@@ -52,7 +52,7 @@ flownRegion k b =
 abbrev flownLines : ℕ → Board → List (List ℕ)
 flownLines k b = carried (b .tables .lock) (regionAt k (b .tables .regions) .ended) (regionAt k (b .tables .regions) .slots) (b .cur) (b .car)
 
-module _ {m : ℕ → List ℕ} {b : Board} {es : List Event} {s : u.State (List ℕ)} {h : v.History (List ℕ)} (k : ℕ)
+module _ {m : ℕ → List ℕ} {b : Board} {es : List Account} {s : u.State (List ℕ)} {h : v.History (List ℕ)} (k : ℕ)
     (rc : Reach m s h) (i : Sim b es s h) (in′ : listed k (b .tables .regions) ≡ true) where
   good : GoodRegion (regionAt k (b .tables .regions))
   good = i .shape .good (placeOf k (b .tables .regions))
@@ -154,7 +154,7 @@ module _ {m : ℕ → List ℕ} {b : Board} {es : List Event} {s : u.State (List
       allowed l q e = let z = and-true (eqb q k) (off k b l) e in rw (eqb-true q k (z .0)) (off-facts l (z .1))
 
 -- region k's slots fly where they can
-pub flights : {m : Memory} {b : Board} {es : List Event} (k : ℕ) → listed k (b .tables .regions) ≡ true → Simulated m b es → Simulated m (flown k b) es
+pub flights : {m : Memory} {b : Board} {es : List Account} (k : ℕ) → listed k (b .tables .regions) ≡ true → Simulated m b es → Simulated m (flown k b) es
 flights {b = b} k in′ (by s h rc i) = by (act s (u.Launch (λ l q. eqb q k && off k b l))) h (flown-reach k rc i in′) (flown-sim k rc i in′)
 
 -- after it no slot of region k that could fly waits

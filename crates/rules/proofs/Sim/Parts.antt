@@ -14,10 +14,9 @@ use Rattle.rules.proofs.Places.{Once, good-stored, listed-stored, once-
 use Rattle.rules.proofs.Sim.State.{GoodRegion, Logs, Shape, Sim, Told, conv}
 use Rattle.rules.proofs.Views.{stateOf}
 use Rattle.rules.specs.Access.{logged}
-use Rattle.rules.specs.History.{depthIn, drawsOn, endsIn, lastWriter, linesIn, openedIn, regionIn, usesIn, writesIn}
+use Rattle.rules.specs.History.{Account, depthIn, drawsOn, endsIn, lastWriter, linesIn, openedIn, regionIn, usesIn, writesIn}
 use Rattle.rules.specs.Tables.{Board, listed, ownerOf, placeOf, regionAt, threadAt, threadOf, withRegions}
 use Rattle.rules.specs.declared.Entry.{Entry}
-use Rattle.rules.specs.declared.Event.{Event}
 use Rattle.rules.specs.declared.Region.{Region}
 use Rattle.rules.specs.declared.SlotState.the-variants.{Waiting}
 use Rattle.rules.specs.declared.Tables.{Tables}
@@ -37,17 +36,17 @@ abbrev pub rebuilt : List Region → List (List ℕ) → List (List ℕ) → Lis
 rebuilt rs cu me ca b = record { tables = withRegions rs (b .tables); cur = cu; med = me; old = b .old; car = ca }
 
 -- an event that opens and ends no region
-pub record Quiet (es es′ : List Event) : Type 0 where
+pub record Quiet (es es′ : List Account) : Type 0 where
   pub depth : (t : ℕ) → depthIn t es′ ≡ depthIn t es
   pub opened : (t : ℕ) → openedIn t es′ ≡ openedIn t es
   pub lines : linesIn es′ ≡ linesIn es
   pub ends : endsIn es′ ≡ endsIn es
 
-pub no-event : (es : List Event) → Quiet es es
+pub no-event : (es : List Account) → Quiet es es
 no-event es = record { depth = λ t. refl; opened = λ t. refl; lines = refl; ends = refl }
 
 -- depths, numbers and the lives of regions stay; writes, uses and owners are as told
-module _ {b b′ : Board} {es es′ : List Event} {s s′ : u.State (List ℕ)} {h h′ : v.History (List ℕ)} where
+module _ {b b′ : Board} {es es′ : List Account} {s s′ : u.State (List ℕ)} {h h′ : v.History (List ℕ)} where
   pub told-kept : ((t : ℕ) → threadAt t (b′ .tables) .depth ≡ threadAt t (b .tables) .depth)
       → ((t : ℕ) → threadAt t (b′ .tables) .last ≡ threadAt t (b .tables) .last) → b′ .tables .size ≡ b .tables .size → Quiet es es′
       → s′ .born ≡ s .born → s′ .over ≡ s .over → h′ .ends ≡ h .ends
@@ -131,7 +130,7 @@ pub data Owner (b : Board) (s : u.State (List ℕ)) (l : ℕ) : Type 0 where
   owned : (e : u.Entry (List ℕ)) (c : List (u.Entry (List ℕ))) → s .chain l ≡ e ∷ c → ownerOf l (b .tables) ≡ e .rid → s .born (e .rid) ≡ true
       → s .done (e .rid) ≡ false → listed (e .rid) (b .tables .regions) ≡ true → Owner b s l
 
-module _ {m : ℕ → List ℕ} {b : Board} {es : List Event} {s : u.State (List ℕ)} {h : v.History (List ℕ)} (rc : Reach m s h) (i : Sim b es s h) where
+module _ {m : ℕ → List ℕ} {b : Board} {es : List Account} {s : u.State (List ℕ)} {h : v.History (List ℕ)} (rc : Reach m s h) (i : Sim b es s h) where
   -- what has begun and has not committed is listed
   pub live-listed : (k : ℕ) → s .born k ≡ true → s .done k ≡ false → listed k (b .tables .regions) ≡ true
   live-listed k x y = i .live k ∙ rw (x, y)

@@ -21,13 +21,13 @@ use Rattle.rules.specs.Begin.{begin, begun, deeper, opened}
 use Rattle.rules.specs.Commit.{commits}
 use Rattle.rules.specs.End.{closed, endRegion, endedRegion, shallower, tick}
 use Rattle.rules.specs.Flight.{flown}
-use Rattle.rules.specs.History.{Use, depthIn, drawsOn, endsIn, linesIn, openedIn, regionIn, usesIn, writesIn}
+use Rattle.rules.specs.History.{Account, Closes, Cuts, Nothing, Opens, Sets, Use, depthIn, drawsOn, endsIn, linesIn, openedIn, regionIn, usesIn, writesIn}
 use Rattle.rules.specs.Lists.{count}
 use Rattle.rules.specs.Reader.{nothing}
 use Rattle.rules.specs.Recovery.{act}
 use Rattle.rules.specs.Refusal.{depthOf, inRange, isSetUp, refusal, testsOf}
-use Rattle.rules.specs.Step.{apply, setup, withCut}
-use Rattle.rules.specs.Tables.{Board, Memory, current, isHeld, isKey, keyOf, listed, noEntry, noRegion, noSlot, noThread, numberOf, ownerOf, placeOf, regionAt, threadAt, threadOf, withTables, withThread}
+use Rattle.rules.specs.Step.{apply, setup}
+use Rattle.rules.specs.Tables.{Board, Memory, current, isHeld, isKey, keyOf, listed, noEntry, noRegion, noSlot, noThread, numberOf, ownerOf, placeOf, regionAt, threadAt, threadOf, withCut, withTables, withThread}
 use Rattle.rules.specs.declared.Entry.{Entry}
 use Rattle.rules.specs.declared.Event.{Event}
 use Rattle.rules.specs.declared.Event.the-variants.{Begin, Cut, End, Fence, Setup}
@@ -45,17 +45,17 @@ use Rattle.undo.specs.Recovery.{older}
 use Rattle.undo.specs.Table.{any, put}
 
 -- an event that says nothing of regions and lines
-pub alike-cut : (es : List Event) → Alike es (Cut ∷ es)
+pub alike-cut : (es : List Account) → Alike es (Cuts ∷ es)
 unfolding openedIn depthIn endsIn writesIn usesIn
 alike-cut es =
     record { opened = λ t. refl; inside = λ t n. n; outside = λ t n. n; ends = refl; writes = refl; uses = refl }
 
-pub alike-fence : (t : ℕ) (es : List Event) → Alike es (Fence t ∷ es)
+pub alike-fence : (t : ℕ) (es : List Account) → Alike es (Nothing ∷ es)
 unfolding openedIn depthIn endsIn writesIn usesIn
 alike-fence t es =
     record { opened = λ t. refl; inside = λ t n. n; outside = λ t n. n; ends = refl; writes = refl; uses = refl }
 
-pub alike-setup : (n l : ℕ) (es : List Event) → Alike es (Setup n l ∷ es)
+pub alike-setup : (n l : ℕ) (es : List Account) → Alike es (Sets l ∷ es)
 unfolding openedIn depthIn endsIn writesIn usesIn
 alike-setup n l es =
     record { opened = λ t. refl; inside = λ t n. n; outside = λ t n. n; ends = refl; writes = refl; uses = refl }
@@ -66,7 +66,7 @@ pub keeps-fence : (t : ℕ) → Keeps (Fence t)
 unfolding apply depthIn linesIn
 keeps-fence t m b es q r k = record { simulated = go (k .simulated); rest = k .rest }
   where
-    go : Simulated m b es → Simulated m b (Fence t ∷ es)
+    go : Simulated m b es → Simulated m b (Nothing ∷ es)
     go (by s h rc i) =
         by s h rc
         (sim-alter {b = b} (b .tables .size) (b .tables .cut) (b .tables .clock) (b .tables .threads) (i .shape) (i .logs)
@@ -83,7 +83,7 @@ keeps-cut m b es q r k =
     set-up : isSetUp (b .tables) ≡ true
     set-up = not-false (isSetUp (b .tables)) (accepted (b .tables) Cut r .0)
 
-    go : Simulated m b es → Simulated m (withTables (withCut (b .tables)) b) (Cut ∷ es)
+    go : Simulated m b es → Simulated m (withTables (withCut true (b .tables)) b) (Cuts ∷ es)
     go (by s h rc i) =
         let sh : Shape (b .tables) = i .shape in
         by s h rc
@@ -122,7 +122,7 @@ keeps-setup n l m b es q r k =
         let p = accepted (b .tables) (Setup n l) r in
         (not-false (inRange n l) (p .0), p .1 .1 .0)
 
-    go : Simulated m b es → Simulated m (withTables (alter (size′ n l b) (b .tables .cut) (b .tables .clock) (b .tables .threads) (b .tables)) b) (Setup n l ∷ es)
+    go : Simulated m b es → Simulated m (withTables (alter (size′ n l b) (b .tables .cut) (b .tables .clock) (b .tables .threads) (b .tables)) b) (Sets l ∷ es)
     go (by s h rc i) =
         let sh : Shape (b .tables) = i .shape in
         let none′ : (t : ℕ) → threadAt t (b .tables) ≡ noThread = λ t. sh .thread-range t (rw (sh .size (facts .1)) (omega arith)) in
@@ -159,7 +159,7 @@ keeps-setup n l m b es q r k =
 abbrev deep : ℕ → ℕ → Tables → Tables
 deep t d ts = withThread t (record { depth = d; last = threadAt t ts .last; log = threadAt t ts .log }) ts
 
-kept-depth : (m : Memory) (b : Board) (es : List Event) (e : Event) (t d : ℕ) → t < b .tables .size .threads → Alike es (e ∷ es)
+kept-depth : (m : Memory) (b : Board) (es : List Account) (e : Account) (t d : ℕ) → t < b .tables .size .threads → Alike es (e ∷ es)
     → ((k : ℕ) → depthIn k (e ∷ es) ≡ cond (eqb k t) d (depthIn k es)) → linesIn (e ∷ es) ≡ linesIn es → Kept m b es
     → Kept m (withTables (deep t d (b .tables)) b) (e ∷ es)
 kept-depth m b es e t d lt a f g k =
@@ -182,14 +182,14 @@ kept-depth m b es e t d lt a f g k =
         (λ y. g ∙ i .told .lines y) refl (i .told)) i)
 
 -- the thread's depth by the events
-depth-told : {m : Memory} {b : Board} {es : List Event} → Simulated m b es → (t : ℕ) → threadAt t (b .tables) .depth ≡ depthIn t es
+depth-told : {m : Memory} {b : Board} {es : List Account} → Simulated m b es → (t : ℕ) → threadAt t (b .tables) .depth ≡ depthIn t es
 depth-told (by s h rc i) t = i .told .depth t
 
-pub keeps-deeper : (t : ℕ) (m : Memory) (b : Board) (es : List Event) → t < b .tables .size .threads → eqb (depthOf t (b .tables)) 0 ≡ false
-    → Kept m b es → Kept m (withTables (deeper t (b .tables)) b) (Begin t ∷ es)
+pub keeps-deeper : (t : ℕ) (m : Memory) (b : Board) (es : List Account) → t < b .tables .size .threads → eqb (depthOf t (b .tables)) 0 ≡ false
+    → Kept m b es → Kept m (withTables (deeper t (b .tables)) b) (Opens t ∷ es)
 unfolding openedIn depthIn endsIn writesIn usesIn linesIn
 keeps-deeper t m b es lt n k =
-    kept-depth m b es (Begin t) t (depthOf t (b .tables) + 1) lt
+    kept-depth m b es (Opens t) t (depthOf t (b .tables) + 1) lt
     (record {
       opened = λ j. test (eqb t j) (λ d. rw (d, ← eqb-true t j d, z)) (λ d. rw d);
       inside = λ j p. test (eqb t j) (λ d. rw d (λ y. omega arith)) (λ d. rw d p);
@@ -206,11 +206,11 @@ keeps-deeper t m b es lt n k =
     z : eqb (depthIn t es) 0 ≡ false
     z = rw (depth-told (k .simulated) t) at n
 
-pub keeps-shallower : (t : ℕ) (m : Memory) (b : Board) (es : List Event) → t < b .tables .size .threads → eqb (depthOf t (b .tables)) 0 ≡ false
-    → eqb (depthOf t (b .tables)) 1 ≡ false → Kept m b es → Kept m (withTables (shallower t (b .tables)) b) (End t ∷ es)
+pub keeps-shallower : (t : ℕ) (m : Memory) (b : Board) (es : List Account) → t < b .tables .size .threads → eqb (depthOf t (b .tables)) 0 ≡ false
+    → eqb (depthOf t (b .tables)) 1 ≡ false → Kept m b es → Kept m (withTables (shallower t (b .tables)) b) (Closes t ∷ es)
 unfolding openedIn depthIn endsIn writesIn usesIn linesIn
 keeps-shallower t m b es lt n n1 k =
-    kept-depth m b es (End t) t (depthOf t (b .tables) - 1) lt
+    kept-depth m b es (Closes t) t (depthOf t (b .tables) - 1) lt
     (record {
       opened = λ j. refl;
       inside = λ j p. test (eqb t j) (λ d. rw (d, ← eqb-true t j d) (λ y. omega (arith, eqb-false (depthIn t es) 0 z, eqb-false (depthIn t es) 1 z1))) (λ d. rw d p);
@@ -246,7 +246,7 @@ newKey t ts = keyOf t (threadAt t ts .last + 1)
 abbrev pub newRegion : ℕ → Tables → Region
 newRegion t ts = begun (newKey t ts) (current t ts) (ts .regions)
 
-module _ {m : ℕ → List ℕ} {b : Board} {es : List Event} {s : u.State (List ℕ)} {h : v.History (List ℕ)} (rc : Reach m s h) (i : Sim b es s h) where
+module _ {m : ℕ → List ℕ} {b : Board} {es : List Account} {s : u.State (List ℕ)} {h : v.History (List ℕ)} (rc : Reach m s h) (i : Sim b es s h) where
   st : Structure s h
   st = structured m s h rc
 
@@ -325,15 +325,15 @@ module _ {m : ℕ → List ℕ} {b : Board} {es : List Event} {s : u.State (List
           thread-range = λ j g. rw (thread-begun j, ne-eqb j t (λ q. omega arith)) (sh .thread-range j g);
         }
 
-    depth-begun : (j : ℕ) → depthIn j (Begin t ∷ es) ≡ cond (eqb j t) 1 (depthIn j es)
+    depth-begun : (j : ℕ) → depthIn j (Opens t ∷ es) ≡ cond (eqb j t) 1 (depthIn j es)
     unfolding depthIn
     depth-begun j = rw (eqb-swap t j) (test (eqb j t) (λ d. rw (d, eqb-true j t d, d0)) (λ d. rw d))
 
-    number-begun : (j : ℕ) → openedIn j (Begin t ∷ es) ≡ cond (eqb j t) (openedIn t es + 1) (openedIn j es)
+    number-begun : (j : ℕ) → openedIn j (Opens t ∷ es) ≡ cond (eqb j t) (openedIn t es + 1) (openedIn j es)
     unfolding openedIn
     number-begun j = rw (eqb-swap t j) (test (eqb j t) (λ d. rw (d, eqb-true j t d, d0)) (λ d. rw d))
 
-    pub born-begun : (j : ℕ) → put (newKey t (b .tables)) true (s .born) j ≡ isOpened (Begin t ∷ es) j
+    pub born-begun : (j : ℕ) → put (newKey t (b .tables)) true (s .born) j ≡ isOpened (Opens t ∷ es) j
     born-begun j =
         rw (number-begun (threadOf j))
         (test (eqb j (newKey t (b .tables)))
@@ -353,8 +353,8 @@ module _ {m : ℕ → List ℕ} {b : Board} {es : List Event} {s : u.State (List
             (λ e. let z = leb-false a n e in rw (e, lt-leb a (n + 1) (omega (arith, ne))))
 
     told-begun : (D : ℕ → ℕ → Bool) (us : List v.Use)
-        → ((x q : ℕ) → drawsOn x q (usesIn (Begin t ∷ es)) ≡ true → q ≢ 0 → (v.used x q us ≡ true) ⊎ (s .done q ≡ true))
-        → Told (withTables (opened t (b .tables)) b) (Begin t ∷ es) (u.withDep D (u.withBorn (put (newKey t (b .tables)) true (s .born)) s))
+        → ((x q : ℕ) → drawsOn x q (usesIn (Opens t ∷ es)) ≡ true → q ≢ 0 → (v.used x q us ≡ true) ⊎ (s .done q ≡ true))
+        → Told (withTables (opened t (b .tables)) b) (Opens t ∷ es) (u.withDep D (u.withBorn (put (newKey t (b .tables)) true (s .born)) s))
         (record { writes = h .writes; ends = h .ends; uses = us })
     unfolding endsIn writesIn linesIn opened
     told-begun D us f =
@@ -383,8 +383,8 @@ module _ {m : ℕ → List ℕ} {b : Board} {es : List Event} {s : u.State (List
     sim-begun : (D : ℕ → ℕ → Bool) (us : List v.Use)
         → ((a q : ℕ) → D a q ≡ cond (eqb a (newKey t (b .tables)))
         (not (eqb q 0) && eqb q (cond (listed (current t (b .tables)) (b .tables .regions)) (current t (b .tables)) 0)) (s .dep a q))
-        → ((x q : ℕ) → drawsOn x q (usesIn (Begin t ∷ es)) ≡ true → q ≢ 0 → (v.used x q us ≡ true) ⊎ (s .done q ≡ true))
-        → Sim (withTables (opened t (b .tables)) b) (Begin t ∷ es) (u.withDep D (u.withBorn (put (newKey t (b .tables)) true (s .born)) s))
+        → ((x q : ℕ) → drawsOn x q (usesIn (Opens t ∷ es)) ≡ true → q ≢ 0 → (v.used x q us ≡ true) ⊎ (s .done q ≡ true))
+        → Sim (withTables (opened t (b .tables)) b) (Opens t ∷ es) (u.withDep D (u.withBorn (put (newKey t (b .tables)) true (s .born)) s))
         (record { writes = h .writes; ends = h .ends; uses = us })
     unfolding opened ownerOf
     sim-begun D us g f =
@@ -425,7 +425,7 @@ module _ {m : ℕ → List ℕ} {b : Board} {es : List Event} {s : u.State (List
             (λ q. ⊎-elim (λ z. eqb-false (newKey t (b .tables)) 0 k-nz (sym q ∙ z)) (λ z. never (rw q at z) unborn) (owner-born rc i l))
 
     -- what the begin adds to the uses
-    use-begun : (x q : ℕ) → drawsOn x q (usesIn (Begin t ∷ es)) ≡ true
+    use-begun : (x q : ℕ) → drawsOn x q (usesIn (Opens t ∷ es)) ≡ true
         → ((x ≡ newKey t (b .tables)) × (q ≡ current t (b .tables)) × (0 < openedIn t es)) ⊎ (drawsOn x q (usesIn es) ≡ true)
     unfolding usesIn
     use-begun x q e =
@@ -450,10 +450,10 @@ module _ {m : ℕ → List ℕ} {b : Board} {es : List Event} {s : u.State (List
         (λ d. d)
         (λ d. absurd (i .told .open-last (current t (b .tables)) (record { began = z; goes-on = d }) .1 (rw (p-thread, d0))))
 
-    abbrev Opens : Type 0
-    Opens = (s′ : u.State (List ℕ)) × (h′ : v.History (List ℕ)) × (Reach m s′ h′ × Sim (withTables (opened t (b .tables)) b) (Begin t ∷ es) s′ h′)
+    abbrev Opened : Type 0
+    Opened = (s′ : u.State (List ℕ)) × (h′ : v.History (List ℕ)) × (Reach m s′ h′ × Sim (withTables (opened t (b .tables)) b) (Opens t ∷ es) s′ h′)
 
-    opens-after : listed (current t (b .tables)) (b .tables .regions) ≡ true → Opens
+    opens-after : listed (current t (b .tables)) (b .tables .regions) ≡ true → Opened
     unfolding u.act v.note
     opens-after y =
         let z = and-true (s .born (current t (b .tables))) (not (s .done (current t (b .tables)))) (sym (i .live (current t (b .tables))) ∙ y) in (
@@ -476,7 +476,7 @@ module _ {m : ℕ → List ℕ} {b : Board} {es : List Event} {s : u.State (List
           ),
         )
 
-    opens-alone : listed (current t (b .tables)) (b .tables .regions) ≡ false → Opens
+    opens-alone : listed (current t (b .tables)) (b .tables .regions) ≡ false → Opened
     unfolding u.act v.note
     opens-alone y = (
       _,
@@ -528,7 +528,7 @@ keeps-begin t m b es q r k =
     lt : t < b .tables .size .threads
     lt = leb-false (b .tables .size .threads) t (tests .1 .0)
 
-    opens : eqb (depthOf t (b .tables)) 0 ≡ true → Simulated m b es → Rest b → Kept m (withTables (opened t (b .tables)) b) (Begin t ∷ es)
+    opens : eqb (depthOf t (b .tables)) 0 ≡ true → Simulated m b es → Rest b → Kept m (withTables (opened t (b .tables)) b) (Opens t ∷ es)
     opens d (by s h rc i) rt =
         let d0 : depthIn t es ≡ 0 = sym (i .told .depth t) ∙ eqb-true (depthOf t (b .tables)) 0 d in
         let few : openedIn t es < 65535 = rw (i .told .last t) at (leb-false 65535 (threadAt t (b .tables) .last) (rw d at (tests .1 .1 .1 .1 .0))) in
@@ -552,7 +552,7 @@ overRegion t ts = endedRegion (tick (ts .clock)) (regionAt (current t ts) (ts .r
 abbrev overThread : ℕ → Tables → Thread
 overThread t ts = record { depth = threadAt t ts .depth - 1; last = threadAt t ts .last; log = threadAt t ts .log }
 
-module _ {m : ℕ → List ℕ} {b : Board} {es : List Event} {s : u.State (List ℕ)} {h : v.History (List ℕ)} (rc : Reach m s h) (i : Sim b es s h)
+module _ {m : ℕ → List ℕ} {b : Board} {es : List Account} {s : u.State (List ℕ)} {h : v.History (List ℕ)} (rc : Reach m s h) (i : Sim b es s h)
     (t : ℕ) (lt : t < b .tables .size .threads) (d1 : depthIn t es ≡ 1) where
   mine : current t (b .tables) ≡ regionIn t es
   mine = rw (i .told .last t)
@@ -615,11 +615,11 @@ module _ {m : ℕ → List ℕ} {b : Board} {es : List Event} {s : u.State (List
         thread-range = λ j g. rw (thread-over j, ne-eqb j t (λ q. omega arith)) (sh .thread-range j g);
       }
 
-  depth-over : (j : ℕ) → depthIn j (End t ∷ es) ≡ cond (eqb j t) 0 (depthIn j es)
+  depth-over : (j : ℕ) → depthIn j (Closes t ∷ es) ≡ cond (eqb j t) 0 (depthIn j es)
   unfolding depthIn
   depth-over j = rw (eqb-swap t j) (test (eqb j t) (λ d. rw (d, eqb-true j t d, d1)) (λ d. rw d))
 
-  told-over : Told (withTables (over t (b .tables)) b) (End t ∷ es) (u.withOver (put (current t (b .tables)) true (s .over)) s)
+  told-over : Told (withTables (over t (b .tables)) b) (Closes t ∷ es) (u.withOver (put (current t (b .tables)) true (s .over)) s)
       (record { writes = h .writes; ends = current t (b .tables) ∷ h .ends; uses = h .uses })
   unfolding openedIn writesIn endsIn usesIn linesIn closed
   told-over =
@@ -649,7 +649,7 @@ module _ {m : ℕ → List ℕ} {b : Board} {es : List Event} {s : u.State (List
         owner = i .told .owner;
       }
 
-  sim-over : Sim (withTables (over t (b .tables)) b) (End t ∷ es) (u.withOver (put (current t (b .tables)) true (s .over)) s)
+  sim-over : Sim (withTables (over t (b .tables)) b) (Closes t ∷ es) (u.withOver (put (current t (b .tables)) true (s .over)) s)
       (record { writes = h .writes; ends = current t (b .tables) ∷ h .ends; uses = h .uses })
   unfolding closed ownerOf
   sim-over =
@@ -686,8 +686,8 @@ module _ {m : ℕ → List ℕ} {b : Board} {es : List Event} {s : u.State (List
   over-listed = listed-over (current t (b .tables)) ∙ ended-listed
 
 -- the end to depth 0, with its flights
-pub ends-region : (t : ℕ) (m : Memory) (b : Board) (es : List Event) → refusal (b .tables) (End t) ≡ 0 → eqb (depthOf t (b .tables)) 1 ≡ true → Kept m b es
-    → Simulated m (endRegion t b) (End t ∷ es) × Flown (endRegion t b)
+pub ends-region : (t : ℕ) (m : Memory) (b : Board) (es : List Account) → refusal (b .tables) (End t) ≡ 0 → eqb (depthOf t (b .tables)) 1 ≡ true → Kept m b es
+    → Simulated m (endRegion t b) (Closes t ∷ es) × Flown (endRegion t b)
 unfolding testsOf endRegion
 ends-region t m b es r d k = go (k .simulated) (k .rest)
   where
@@ -695,7 +695,7 @@ ends-region t m b es r d k = go (k .simulated) (k .rest)
     lt = leb-false (b .tables .size .threads) t (accepted (b .tables) (End t) r .1 .0)
 
     go : Simulated m b es → Rest b
-        → Simulated m (flown (current t (b .tables)) (withTables (over t (b .tables)) b)) (End t ∷ es)
+        → Simulated m (flown (current t (b .tables)) (withTables (over t (b .tables)) b)) (Closes t ∷ es)
         × Flown (flown (current t (b .tables)) (withTables (over t (b .tables)) b))
     go (by s h rc i) rt =
         let d1 : depthIn t es ≡ 1 = sym (i .told .depth t) ∙ eqb-true (depthOf t (b .tables)) 1 d in (

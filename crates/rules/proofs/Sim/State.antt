@@ -14,7 +14,7 @@ use Rattle.rules.proofs.Views.{depView, entryAt, isOpened, newest, slot
 use Rattle.rules.specs.Access.{isOf, logged}
 use Rattle.rules.specs.Acknowledge.{isEntry}
 use Rattle.rules.specs.Commit.{commits}
-use Rattle.rules.specs.History.{Change, depthIn, drawsOn, endsIn, lastWriter, linesIn, openedIn, regionIn, usesIn, writesIn}
+use Rattle.rules.specs.History.{Account, Change, accountOf, depthIn, drawsOn, endsIn, lastWriter, linesIn, openedIn, regionIn, usesIn, writesIn}
 use Rattle.rules.specs.Lists.{count}
 use Rattle.rules.specs.Refusal.{isSetUp, refusal}
 use Rattle.rules.specs.Run.{Wrote}
@@ -100,9 +100,9 @@ pub record Logs (b : Board) (s : u.State (List ℕ)) : Type 0 where
 
 abbrev pub conv : List Change → List (v.Wrote (List ℕ))
 conv [] = []
-conv (w ∷ ws) = record { rid = w .region; line = w .line; change = λ x. set x (w .word) (w .value) } ∷ conv ws
+conv (w ∷ ws) = record { rid = w .region; line = w .line; change = w .change } ∷ conv ws
 
-pub record Told (b : Board) (es : List Event) (s : u.State (List ℕ)) (h : v.History (List ℕ)) : Type 0 where
+pub record Told (b : Board) (es : List Account) (s : u.State (List ℕ)) (h : v.History (List ℕ)) : Type 0 where
   pub depth : (t : ℕ) → threadAt t (b .tables) .depth ≡ depthIn t es
   pub last : (t : ℕ) → threadAt t (b .tables) .last ≡ openedIn t es
   pub numbers : (t : ℕ) → openedIn t es ≤ 65535
@@ -118,7 +118,7 @@ pub record Told (b : Board) (es : List Event) (s : u.State (List ℕ)) (h : v.Hi
 
 -- ---- the whole relation, inside an event and between two
 
-pub record Sim (b : Board) (es : List Event) (s : u.State (List ℕ)) (h : v.History (List ℕ)) : Type 0 where
+pub record Sim (b : Board) (es : List Account) (s : u.State (List ℕ)) (h : v.History (List ℕ)) : Type 0 where
   pub shape : Shape (b .tables)
   pub memories : Memories b
   pub logs : Logs b s
@@ -147,7 +147,7 @@ pub record Rest (b : Board) : Type 0 where
   pub settled : (i : ℕ) → commits (getD (b .tables .regions) i noRegion) ≡ false
 
 -- some reachable state of the undo log has the board's tables
-pub data Simulated (m : Memory) (b : Board) (es : List Event) : Type 0 where
+pub data Simulated (m : Memory) (b : Board) (es : List Account) : Type 0 where
   by : (s : u.State (List ℕ)) (h : v.History (List ℕ)) → Reach (λ l. lineOf l (startLines m)) s h → Sim b es s h → Simulated m b es
 
 -- a value that a record of bytes holds
@@ -163,9 +163,9 @@ isSound (Fence t) = true
 isSound Cut = true
 
 -- what every accepted event keeps
-pub record Kept (m : Memory) (b : Board) (es : List Event) : Type 0 where
+pub record Kept (m : Memory) (b : Board) (es : List Account) : Type 0 where
   pub simulated : Simulated m b es
   pub rest : Rest b
 
 abbrev pub Keeps : Event → Type 0
-Keeps e = (m : Memory) (b : Board) (es : List Event) → isSound e ≡ true → refusal (b .tables) e ≡ 0 → Kept m b es → Kept m (apply b e .board) (e ∷ es)
+Keeps e = (m : Memory) (b : Board) (es : List Account) → isSound e ≡ true → refusal (b .tables) e ≡ 0 → Kept m b es → Kept m (apply b e .board) (accountOf e ∷ es)

@@ -25,18 +25,17 @@ use Rattle.rules.proofs.Sim.Flight.{flights, flown-rest}
 use Rattle.rules.proofs.Sim.Parts.{Owner, logged-live, logs-kept, once-at, open-listed, owned, owner-is, owner-stored, part-stored, rebuilt, shape-stored, told-kept, unowned}
 use Rattle.rules.proofs.SlotLaws.{counted-view, distinct-written, length-written, line-set, state-written, state-written-other}
 use Rattle.rules.proofs.Views.{carryOf, entryAt, newest, stateOf}
-use Rattle.rules.specs.Access.{dependence, freeEntry, isOf, joined, logged, loggedOnce, needsLog, read, storeWord, stored, write, wrote}
+use Rattle.rules.specs.Access.{changeLine, dependence, freeEntry, freshEntry, isOf, joined, logged, loggedOnce, needsLog, read, stored, storedIn, write, wrote}
 use Rattle.rules.specs.Acknowledge.{isEntry, kept}
 use Rattle.rules.specs.Commit.{commits}
 use Rattle.rules.specs.Flight.{flown}
-use Rattle.rules.specs.History.{depthIn, endsIn, lastWriter, linesIn, openedIn, regionIn, usesIn, writesIn}
+use Rattle.rules.specs.History.{Account, Stores, depthIn, endsIn, lastWriter, linesIn, openedIn, regionIn, usesIn, writesIn}
 use Rattle.rules.specs.Lists.{count}
 use Rattle.rules.specs.Refusal.{depthOf, isForeignOpen, isSetUp, testsOf}
 use Rattle.rules.specs.Slots.{flownSlots, isFull, slotFor, written}
 use Rattle.rules.specs.Step.{apply, setup}
-use Rattle.rules.specs.Tables.{Board, Memory, current, lineOf, listed, locked, noEntry, noRegion, noThread, ownerOf, placeOf, regionAt, startLines, threadAt, threadOf, withDeps, withLock, withSlots, withTables}
+use Rattle.rules.specs.Tables.{Board, Memory, current, lineOf, listed, locked, noEntry, noRegion, noThread, ownerOf, placeOf, regionAt, startLines, threadAt, threadOf, withDeps, withLocks, withLog, withOld, withOwners, withSlots, withTables, withThreads}
 use Rattle.rules.specs.declared.Entry.{Entry}
-use Rattle.rules.specs.declared.Event.{Event}
 use Rattle.rules.specs.declared.Event.the-variants.{Write}
 use Rattle.rules.specs.declared.Region.{Region}
 use Rattle.rules.specs.declared.SlotState.{SlotState}
@@ -53,41 +52,33 @@ use Rattle.undo.specs.Machine.{Action, Again, Carry, Clear, First, Open, State,
 use Rattle.undo.specs.Recovery.{olds}
 use Rattle.undo.specs.Table.{any, put}
 
--- ---- the word is stored
+-- ---- the line is changed
+
+-- a change that leaves a line a line
+abbrev KeepsLine : (List ℕ → List ℕ) → Type 0
+KeepsLine put = (x : List ℕ) → isLine x ≡ true → isLine (put x) ≡ true
+
+word-keeps : (w y : ℕ) → ltb y 18446744073709551616 ≡ true → KeepsLine (storedIn w y)
+word-keeps w y sound x k = line-set x w y sound k
 
 -- the board with other logs, owners, locks and old lines
 abbrev relogged : List Thread → List ℕ → List Bool → List (List ℕ) → Board → Board
 relogged ths ow lo ol b =
-    record {
-      tables =
-          record {
-            size = b .tables .size;
-            cut = b .tables .cut;
-            clock = b .tables .clock;
-            threads = ths;
-            regions = b .tables .regions;
-            owner = ow;
-            lock = lo;
-          };
-      cur = b .cur;
-      med = b .med;
-      old = ol;
-      car = b .car;
-    }
+    withOld ol (withTables (withThreads ths (withOwners ow (withLocks lo (b .tables)))) b)
 
 -- region k's record with its slots after a write of line l
 abbrev slotted : ℕ → ℕ → Board → Region
 slotted k l b = withSlots (written l (regionAt k (b .tables .regions) .slots)) (regionAt k (b .tables .regions))
 
 -- the state of the undo log after a write: chains and locks are as they are given
-abbrev after : (ℕ → List (u.Entry (List ℕ))) → (ℕ → Bool) → ℕ → ℕ → ℕ → ℕ → u.State (List ℕ) → u.State (List ℕ)
-after ch lk k l w y s = u.withChain ch (u.withLock lk (u.stored k l (λ x. set x w y) s))
+abbrev after : (ℕ → List (u.Entry (List ℕ))) → (ℕ → Bool) → ℕ → ℕ → (List ℕ → List ℕ) → u.State (List ℕ) → u.State (List ℕ)
+after ch lk k l put s = u.withChain ch (u.withLock lk (u.stored k l put s))
 
 -- what logging leaves for the store of the word
-record Ready (b : Board) (es : List Event) (s : u.State (List ℕ)) (t l w y : ℕ) (ths : List Thread) (ow : List ℕ) (lo : List Bool)
+record Ready (b : Board) (es : List Account) (s : u.State (List ℕ)) (t l : ℕ) (put : List ℕ → List ℕ) (ths : List Thread) (ow : List ℕ) (lo : List Bool)
     (ol : List (List ℕ)) (ch : ℕ → List (u.Entry (List ℕ))) (lk : ℕ → Bool) : Type 0 where
   shape : Shape (relogged ths ow lo ol b .tables)
-  logs : Logs (relogged ths ow lo ol b) (after ch lk (regionIn t es) l w y s)
+  logs : Logs (relogged ths ow lo ol b) (after ch lk (regionIn t es) l put s)
   depth : (x : ℕ) → threadAt x (relogged ths ow lo ol b .tables) .depth ≡ threadAt x (b .tables) .depth
   last : (x : ℕ) → threadAt x (relogged ths ow lo ol b .tables) .last ≡ threadAt x (b .tables) .last
   old : length ol ≡ 256
@@ -95,15 +86,15 @@ record Ready (b : Board) (es : List Event) (s : u.State (List ℕ)) (t l w y : �
   lock : (x : ℕ) → lk x ≡ getD lo x false
   top : (x : ℕ) → newest (ch x) ≡ ownerOf x (relogged ths ow lo ol b .tables)
   owner : (x : ℕ) → getD ow x 0 ≡ cond (eqb l x) (regionIn t es) (lastWriter x (writesIn es))
-  waits : (x q : ℕ) → after ch lk (regionIn t es) l w y s .slot x q ≡ u.Waits → newest (ch x) ≡ q
+  waits : (x q : ℕ) → after ch lk (regionIn t es) l put s .slot x q ≡ u.Waits → newest (ch x) ≡ q
 
-module _ {b : Board} {es : List Event} {s : u.State (List ℕ)} {h : v.History (List ℕ)} (t l w y : ℕ) (ths : List Thread) (ow : List ℕ) (lo : List Bool)
-    (ol : List (List ℕ)) (ch : ℕ → List (u.Entry (List ℕ))) (lk : ℕ → Bool) (i : Sim b es s h) (re : Ready b es s t l w y ths ow lo ol ch lk)
+module _ {b : Board} {es : List Account} {s : u.State (List ℕ)} {h : v.History (List ℕ)} (t l : ℕ) (put : List ℕ → List ℕ) (ths : List Thread) (ow : List ℕ) (lo : List Bool)
+    (ol : List (List ℕ)) (ch : ℕ → List (u.Entry (List ℕ))) (lk : ℕ → Bool) (i : Sim b es s h) (re : Ready b es s t l put ths ow lo ol ch lk)
     (in′ : listed (regionIn t es) (b .tables .regions) ≡ true)
-    (room : isFull (slotFor l (regionAt (regionIn t es) (b .tables .regions) .slots)) ≡ false) (inside : l < 256) (sound : ltb y 18446744073709551616 ≡ true)
+    (room : isFull (slotFor l (regionAt (regionIn t es) (b .tables .regions) .slots)) ≡ false) (inside : l < 256) (kl : KeepsLine put)
     (op : u.Open s (regionIn t es)) where
-  store-told : Told (stored (regionIn t es) (slotted (regionIn t es) l b) l w y (relogged ths ow lo ol b)) (Write t l w y ∷ es)
-      (after ch lk (regionIn t es) l w y s) (v.wrote (regionIn t es) l (λ x. set x w y) h)
+  store-told : Told (stored (regionIn t es) (slotted (regionIn t es) l b) l put (relogged ths ow lo ol b)) (Stores t l put ∷ es)
+      (after ch lk (regionIn t es) l put s) (v.wrote (regionIn t es) l put h)
   unfolding stored depthIn openedIn linesIn endsIn writesIn usesIn lastWriter
   store-told =
       told-kept (re .depth) (re .last) refl (record { depth = λ t. refl; opened = λ t. refl; lines = refl; ends = refl }) refl refl refl
@@ -121,17 +112,17 @@ module _ {b : Board} {es : List Event} {s : u.State (List ℕ)} {h : v.History (
         finished = λ d. never d (open-undone (regionIn t es) i op in′);
       }
 
-  store-memories : Memories (stored (regionIn t es) (slotted (regionIn t es) l b) l w y (relogged ths ow lo ol b))
+  store-memories : Memories (stored (regionIn t es) (slotted (regionIn t es) l b) l put (relogged ths ow lo ol b))
   unfolding stored
   store-memories =
       record {
-        cur = length-set (b .cur) l (set (lineOf l (b .cur)) w y) ∙ i .memories .cur;
+        cur = length-set (b .cur) l (put (lineOf l (b .cur))) ∙ i .memories .cur;
         med = i .memories .med;
         old = re .old;
         car = i .memories .car;
-        cur-lines = λ x n. rw (getD-set (b .cur) l x (set (lineOf l (b .cur)) w y) [] within)
+        cur-lines = λ x n. rw (getD-set (b .cur) l x (put (lineOf l (b .cur))) [] within)
             (test (eqb x l)
-            (λ d. rw d (line-set (lineOf l (b .cur)) w y sound (i .memories .cur-lines l inside)))
+            (λ d. rw d (kl (lineOf l (b .cur)) (i .memories .cur-lines l inside)))
             (λ d. rw d (i .memories .cur-lines x n)));
         med-lines = i .memories .med-lines;
         old-lines = re .old-lines;
@@ -141,7 +132,7 @@ module _ {b : Board} {es : List Event} {s : u.State (List ℕ)} {h : v.History (
       within : l < length (b .cur)
       within = rw (i .memories .cur) inside
 
-  store-slot : (x q : ℕ) → after ch lk (regionIn t es) l w y s .slot x q
+  store-slot : (x q : ℕ) → after ch lk (regionIn t es) l put s .slot x q
       ≡ carryOf (b .car) x (stateOf x (regionAt q (set (b .tables .regions) (placeOf (regionIn t es) (b .tables .regions)) (slotted (regionIn t es) l b)) .slots))
   store-slot x q =
       rw (region-stored (regionIn t es) (b .tables .regions) (slotted (regionIn t es) l b) in′ (key-at (regionIn t es) (b .tables .regions) in′) q)
@@ -154,16 +145,16 @@ module _ {b : Board} {es : List Event} {s : u.State (List ℕ)} {h : v.History (
       (λ f. rw (f, d, eqb-true x l f) (i .slot l q))
       (λ f. rw (f, d) (i .slot x q))))
 
-  store-sim : Sim (stored (regionIn t es) (slotted (regionIn t es) l b) l w y (relogged ths ow lo ol b)) (Write t l w y ∷ es)
-      (after ch lk (regionIn t es) l w y s) (v.wrote (regionIn t es) l (λ x. set x w y) h)
+  store-sim : Sim (stored (regionIn t es) (slotted (regionIn t es) l b) l put (relogged ths ow lo ol b)) (Stores t l put ∷ es)
+      (after ch lk (regionIn t es) l put s) (v.wrote (regionIn t es) l put h)
   unfolding stored
   store-sim =
       record {
         shape = shape-stored (relogged ths ow lo ol b .tables) k r′ in′ key store-good (once-at k (i .shape)) (re .shape);
         memories = store-memories;
-        logs = logs-kept (set (b .tables .regions) (placeOf k (b .tables .regions)) r′) (storeWord l w y (b .cur)) (b .med) (b .car) refl refl (re .logs);
+        logs = logs-kept (set (b .tables .regions) (placeOf k (b .tables .regions)) r′) (changeLine l put (b .cur)) (b .med) (b .car) refl refl (re .logs);
         told = store-told;
-        cur = λ x. rw (getD-set (b .cur) l x (set (lineOf l (b .cur)) w y) [] (rw (i .memories .cur) inside))
+        cur = λ x. rw (getD-set (b .cur) l x (put (lineOf l (b .cur))) [] (rw (i .memories .cur) inside))
             (test (eqb x l) (λ d. rw (d, i .cur l)) (λ d. rw d (i .cur x)));
         med = i .med;
         lock = re .lock;
@@ -185,18 +176,18 @@ module _ {b : Board} {es : List Event} {s : u.State (List ℕ)} {h : v.History (
       key = key-at k (b .tables .regions) in′
 
 -- a slot that waits after the write is the one written, or waited before
-after-waits : (ch : ℕ → List (u.Entry (List ℕ))) (lk : ℕ → Bool) (k l w y : ℕ) (s : u.State (List ℕ)) (x q : ℕ) → after ch lk k l w y s .slot x q ≡ u.Waits
+after-waits : (ch : ℕ → List (u.Entry (List ℕ))) (lk : ℕ → Bool) (k l : ℕ) (put : List ℕ → List ℕ) (s : u.State (List ℕ)) (x q : ℕ) → after ch lk k l put s .slot x q ≡ u.Waits
     → ((eqb x l && eqb q k) ≡ true) ⊎ (s .slot x q ≡ u.Waits)
-after-waits ch lk k l w y s x q e =
+after-waits ch lk k l put s x q e =
     test (eqb x l)
     (λ d. test (eqb q k) (λ f. inl (rw (d, f))) (λ f. inr (rw (eqb-true x l d) (rw (d, f) at e))))
     (λ d. inr (rw d at e))
 
 -- ---- a write of a line that the region owns
 
-module _ {b : Board} {es : List Event} {s : u.State (List ℕ)} {h : v.History (List ℕ)} (t l w y : ℕ) (i : Sim b es s h)
+module _ {b : Board} {es : List Account} {s : u.State (List ℕ)} {h : v.History (List ℕ)} (t l : ℕ) (put : List ℕ → List ℕ) (i : Sim b es s h)
     (own : eqb (getD (b .tables .owner) l 0) (regionIn t es) ≡ true) (top : newest (s .chain l) ≡ regionIn t es) where
-  ready-again : Ready b es s t l w y (b .tables .threads) (b .tables .owner) (b .tables .lock) (b .old) (s .chain) (s .lock)
+  ready-again : Ready b es s t l put (b .tables .threads) (b .tables .owner) (b .tables .lock) (b .old) (s .chain) (s .lock)
   ready-again =
       record {
         shape = i .shape;
@@ -212,29 +203,21 @@ module _ {b : Board} {es : List Event} {s : u.State (List ℕ)} {h : v.History (
             (λ d. rw d (i .told .owner x));
         waits = λ x q e. ⊎-elim
             (λ d. let z = and-true (eqb x l) (eqb q (regionIn t es)) d in rw (eqb-true x l (z .0), eqb-true q (regionIn t es) (z .1)) top)
-            (λ d. i .waits x q d) (after-waits (s .chain) (s .lock) (regionIn t es) l w y s x q e);
+            (λ d. i .waits x q d) (after-waits (s .chain) (s .lock) (regionIn t es) l put s x q e);
       }
 
 -- ---- a write of a line that the region has to log
 
-abbrev freshEntry : ℕ → ℕ → ℕ → Tables → Entry
-freshEntry t k l ts = record { key = k; line = l; rank = count (isOf k) (threadAt t ts .log); persistent = false }
-
 abbrev loggedThreads : ℕ → ℕ → ℕ → Tables → List Thread
 loggedThreads t k l ts =
-    set (ts .threads) t
-    (record {
-      depth = threadAt t ts .depth;
-      last = threadAt t ts .last;
-      log = set (threadAt t ts .log) (freeEntry t ts) (freshEntry t k l ts);
-    })
+    set (ts .threads) t (withLog (set (threadAt t ts .log) (freeEntry t ts) (freshEntry t k l ts)) (threadAt t ts))
 
 abbrev loggedOld : ℕ → ℕ → Board → List (List ℕ)
 loggedOld t l b = set (b .old) (32 * t + freeEntry t (b .tables)) (lineOf l (b .cur))
 
 -- the board with the line logged
-abbrev withLog : ℕ → ℕ → ℕ → Board → Board
-withLog t k l b = relogged (loggedThreads t k l (b .tables)) (set (b .tables .owner) l k) (set (b .tables .lock) l true) (loggedOld t l b) b
+abbrev newLog : ℕ → ℕ → ℕ → Board → Board
+newLog t k l b = relogged (loggedThreads t k l (b .tables)) (set (b .tables .owner) l k) (set (b .tables .lock) l true) (loggedOld t l b) b
 
 abbrev chainOf : ℕ → ℕ → u.State (List ℕ) → ℕ → List (u.Entry (List ℕ))
 chainOf k l s = put l (record { rid = k; old = s .cur l } ∷ s .chain l) (s .chain)
@@ -251,18 +234,18 @@ module _ (t k l : ℕ) (b : Board) (inT : t < length (b .tables .threads)) (room
   free-lt : freeEntry t (b .tables) < length (threadAt t (b .tables) .log)
   free-lt = place-lt (isOf 0) (threadAt t (b .tables) .log) room
 
-  thread-logged : (x : ℕ) → threadAt x (withLog t k l b .tables)
+  thread-logged : (x : ℕ) → threadAt x (newLog t k l b .tables)
       ≡ cond (eqb x t) (record { depth = threadAt t (b .tables) .depth; last = threadAt t (b .tables) .last; log = set (threadAt t (b .tables) .log) (freeEntry t (b .tables)) (freshEntry t k l (b .tables)) }) (threadAt x (b .tables))
   thread-logged x = getD-set (b .tables .threads) t x _ noThread inT
 
-  entry-logged : (x j : ℕ) → entryAt x j (withLog t k l b .tables) ≡ cond (eqb x t && eqb j (freeEntry t (b .tables))) (freshEntry t k l (b .tables)) (entryAt x j (b .tables))
+  entry-logged : (x j : ℕ) → entryAt x j (newLog t k l b .tables) ≡ cond (eqb x t && eqb j (freeEntry t (b .tables))) (freshEntry t k l (b .tables)) (entryAt x j (b .tables))
   entry-logged x j =
       rw (thread-logged x)
       (test (eqb x t)
       (λ d. rw (d, eqb-true x t d) (getD-set (threadAt t (b .tables) .log) (freeEntry t (b .tables)) j (freshEntry t k l (b .tables)) noEntry free-lt))
       (λ d. rw d))
 
-  count-logged : (x q : ℕ) → eqb q 0 ≡ false → count (isOf q) (threadAt x (b .tables) .log) ≤ count (isOf q) (threadAt x (withLog t k l b .tables) .log)
+  count-logged : (x q : ℕ) → eqb q 0 ≡ false → count (isOf q) (threadAt x (b .tables) .log) ≤ count (isOf q) (threadAt x (newLog t k l b .tables) .log)
   count-logged x q z =
       rw (thread-logged x)
       (test (eqb x t)
@@ -274,12 +257,12 @@ module _ (t k l : ℕ) (b : Board) (inT : t < length (b .tables .threads)) (room
       (omega arith))))
       (λ d. rw d (omega arith)))
 
-  count-new : count (isOf k) (threadAt t (b .tables) .log) < count (isOf k) (threadAt t (withLog t k l b .tables) .log)
+  count-new : count (isOf k) (threadAt t (b .tables) .log) < count (isOf k) (threadAt t (newLog t k l b .tables) .log)
   count-new =
       rw (thread-logged t, is-same t, count-put (isOf k) (threadAt t (b .tables) .log) (freeEntry t (b .tables)) (freshEntry t k l (b .tables)) noEntry free-lt (is-same k) (rw free-key (flip k 0 nz)))
       (omega arith)
 
-  any-logged : (x q z : ℕ) → eqb q 0 ≡ false → any (isEntry q z) (threadAt x (b .tables) .log) ≡ true → any (isEntry q z) (threadAt x (withLog t k l b .tables) .log) ≡ true
+  any-logged : (x q z : ℕ) → eqb q 0 ≡ false → any (isEntry q z) (threadAt x (b .tables) .log) ≡ true → any (isEntry q z) (threadAt x (newLog t k l b .tables) .log) ≡ true
   any-logged x q z nq e =
       rw (thread-logged x)
       (test (eqb x t)
@@ -294,7 +277,7 @@ no-length : {A : Type 0} (xs : List A) → length xs ≤ 0 → xs ≡ []
 no-length [] e = refl
 no-length (x ∷ xs) e = absurd (omega arith)
 
-module _ {b : Board} {es : List Event} {s : u.State (List ℕ)} {h : v.History (List ℕ)} (t l w y : ℕ) (i : Sim b es s h)
+module _ {b : Board} {es : List Account} {s : u.State (List ℕ)} {h : v.History (List ℕ)} (t l : ℕ) (put : List ℕ → List ℕ) (i : Sim b es s h)
     (in′ : listed (regionIn t es) (b .tables .regions) ≡ true) (unl : getD (b .tables .lock) l false ≡ false)
     (room : any (isOf 0) (threadAt t (b .tables) .log) ≡ true) (setup : isSetUp (b .tables) ≡ true) (inT : t < b .tables .size .threads)
     (inL : l < b .tables .size .lines) (new : olds (eqb (regionIn t es)) (s .chain l) ≡ []) (lives : (q x : ℕ) → c.logged q (s .chain x) ≡ true → eqb q 0 ≡ false)
@@ -332,7 +315,7 @@ module _ {b : Board} {es : List Event} {s : u.State (List ℕ)} {h : v.History (
       (λ d. absurd (cons-nil (sym (i .logs .entry x j n .old) ∙ rw (e, eqb-true (entryAt x j (b .tables) .key) (regionIn t es) d) new)))
       (λ d. d)
 
-  good-fresh : GoodEntry (withLog t (regionIn t es) l b) (after (chainOf (regionIn t es) l s) (lockOf l s) (regionIn t es) l w y s) t (freeEntry t (b .tables))
+  good-fresh : GoodEntry (newLog t (regionIn t es) l b) (after (chainOf (regionIn t es) l s) (lockOf l s) (regionIn t es) l put s) t (freeEntry t (b .tables))
       (freshEntry t (regionIn t es) l (b .tables))
   good-fresh =
       record {
@@ -347,7 +330,7 @@ module _ {b : Board} {es : List Event} {s : u.State (List ℕ)} {h : v.History (
       place-256 = omega (arith, i .memories .old, free-32, threads-8 (b .tables) (i .shape))
 
   good-older : (x j : ℕ) → entryAt x j (b .tables) .key ≢ 0
-      → GoodEntry (withLog t (regionIn t es) l b) (after (chainOf (regionIn t es) l s) (lockOf l s) (regionIn t es) l w y s) x j (entryAt x j (b .tables))
+      → GoodEntry (newLog t (regionIn t es) l b) (after (chainOf (regionIn t es) l s) (lockOf l s) (regionIn t es) l put s) x j (entryAt x j (b .tables))
   good-older x j n =
       let g = i .logs .entry x j n in
       record {
@@ -386,7 +369,7 @@ module _ {b : Board} {es : List Event} {s : u.State (List ℕ)} {h : v.History (
           rw (d, other-key x j n q) (e ∙ rw o))
           (λ d. rw d e)
 
-  logs-first : Logs (withLog t (regionIn t es) l b) (after (chainOf (regionIn t es) l s) (lockOf l s) (regionIn t es) l w y s)
+  logs-first : Logs (newLog t (regionIn t es) l b) (after (chainOf (regionIn t es) l s) (lockOf l s) (regionIn t es) l put s)
   logs-first =
       record {
         entry = λ x j n. test (eqb x t && eqb j (freeEntry t (b .tables)))
@@ -401,15 +384,15 @@ module _ {b : Board} {es : List Event} {s : u.State (List ℕ)} {h : v.History (
         ranks = λ x j j′ n e d. ranks x j j′ n e d;
       }
     where
-      at : (x j : ℕ) → entryAt x j (withLog t (regionIn t es) l b .tables)
+      at : (x j : ℕ) → entryAt x j (newLog t (regionIn t es) l b .tables)
           ≡ cond (eqb x t && eqb j (freeEntry t (b .tables))) (freshEntry t (regionIn t es) l (b .tables)) (entryAt x j (b .tables))
       at = entry-logged t (regionIn t es) l b inside-thread room key-nz
 
-      before : (q x : ℕ) → c.logged q (s .chain x) ≡ true → any (isEntry q x) (threadAt (threadOf q) (withLog t (regionIn t es) l b .tables) .log) ≡ true
+      before : (q x : ℕ) → c.logged q (s .chain x) ≡ true → any (isEntry q x) (threadAt (threadOf q) (newLog t (regionIn t es) l b .tables) .log) ≡ true
       before q x e = any-logged t (regionIn t es) l b inside-thread room key-nz (threadOf q) q x (lives q x e) (i .logs .present q x e)
 
       present : (q x : ℕ) → c.logged q (chainOf (regionIn t es) l s x) ≡ true
-          → any (isEntry q x) (threadAt (threadOf q) (withLog t (regionIn t es) l b .tables) .log) ≡ true
+          → any (isEntry q x) (threadAt (threadOf q) (newLog t (regionIn t es) l b .tables) .log) ≡ true
       present q x e =
           test (eqb x l)
           (λ d. ⊎-elim
@@ -437,9 +420,9 @@ module _ {b : Board} {es : List Event} {s : u.State (List ℕ)} {h : v.History (
       twice : (x j : ℕ) → entryAt x j (b .tables) .key ≡ regionIn t es → entryAt x j (b .tables) .line ≡ l → ⊥
       twice x j e d = eqb-false (entryAt x j (b .tables) .key) (regionIn t es) (other-key x j (held x j e) d) e
 
-      once : (x j j′ : ℕ) → entryAt x j (withLog t (regionIn t es) l b .tables) .key ≢ 0
-          → entryAt x j (withLog t (regionIn t es) l b .tables) .key ≡ entryAt x j′ (withLog t (regionIn t es) l b .tables) .key
-          → entryAt x j (withLog t (regionIn t es) l b .tables) .line ≡ entryAt x j′ (withLog t (regionIn t es) l b .tables) .line → j ≡ j′
+      once : (x j j′ : ℕ) → entryAt x j (newLog t (regionIn t es) l b .tables) .key ≢ 0
+          → entryAt x j (newLog t (regionIn t es) l b .tables) .key ≡ entryAt x j′ (newLog t (regionIn t es) l b .tables) .key
+          → entryAt x j (newLog t (regionIn t es) l b .tables) .line ≡ entryAt x j′ (newLog t (regionIn t es) l b .tables) .line → j ≡ j′
       once x j j′ n e d =
           test (eqb x t && eqb j (freeEntry t (b .tables)))
           (λ p. test (eqb x t && eqb j′ (freeEntry t (b .tables)))
@@ -458,9 +441,9 @@ module _ {b : Board} {es : List Event} {s : u.State (List ℕ)} {h : v.History (
           = ap (λ q. count (isOf q) (threadAt x (b .tables) .log)) e ∙ ap (λ q. count (isOf (regionIn t es)) (threadAt q (b .tables) .log)) (eqb-true x t xt) in
           omega arith
 
-      ranks : (x j j′ : ℕ) → entryAt x j (withLog t (regionIn t es) l b .tables) .key ≢ 0
-          → entryAt x j (withLog t (regionIn t es) l b .tables) .key ≡ entryAt x j′ (withLog t (regionIn t es) l b .tables) .key
-          → entryAt x j (withLog t (regionIn t es) l b .tables) .rank ≡ entryAt x j′ (withLog t (regionIn t es) l b .tables) .rank → j ≡ j′
+      ranks : (x j j′ : ℕ) → entryAt x j (newLog t (regionIn t es) l b .tables) .key ≢ 0
+          → entryAt x j (newLog t (regionIn t es) l b .tables) .key ≡ entryAt x j′ (newLog t (regionIn t es) l b .tables) .key
+          → entryAt x j (newLog t (regionIn t es) l b .tables) .rank ≡ entryAt x j′ (newLog t (regionIn t es) l b .tables) .rank → j ≡ j′
       ranks x j j′ n e d =
           test (eqb x t && eqb j (freeEntry t (b .tables)))
           (λ p. test (eqb x t && eqb j′ (freeEntry t (b .tables)))
@@ -472,7 +455,7 @@ module _ {b : Board} {es : List Event} {s : u.State (List ℕ)} {h : v.History (
           (rw (at x j, at x j′, p, q) at e) (rw (at x j, at x j′, p, q) at d)))
           (λ q. i .logs .ranks x j j′ (rw (at x j, p) at n) (rw (at x j, at x j′, p, q) at e) (rw (at x j, at x j′, p, q) at d)))
 
-  shape-first : Shape (withLog t (regionIn t es) l b .tables)
+  shape-first : Shape (newLog t (regionIn t es) l b .tables)
   shape-first =
       let sh = shape-thread t _ (b .tables) inT
       (length-set (threadAt t (b .tables) .log) (freeEntry t (b .tables)) (freshEntry t (regionIn t es) l (b .tables)) ∙ i .shape .logs t) (i .shape) in
@@ -490,7 +473,7 @@ module _ {b : Board} {es : List Event} {s : u.State (List ℕ)} {h : v.History (
         thread-range = sh .thread-range;
       }
 
-  ready-first : Ready b es s t l w y (loggedThreads t (regionIn t es) l (b .tables)) (set (b .tables .owner) l (regionIn t es)) (set (b .tables .lock) l true)
+  ready-first : Ready b es s t l put (loggedThreads t (regionIn t es) l (b .tables)) (set (b .tables .owner) l (regionIn t es)) (set (b .tables .lock) l true)
       (loggedOld t l b) (chainOf (regionIn t es) l s) (lockOf l s)
   unfolding ownerOf
   ready-first =
@@ -508,7 +491,7 @@ module _ {b : Board} {es : List Event} {s : u.State (List ℕ)} {h : v.History (
         waits = λ x q e. ⊎-elim
             (λ d. let z = and-true (eqb x l) (eqb q (regionIn t es)) d in rw (z .0) (sym (eqb-true q (regionIn t es) (z .1))))
             (λ d. test (eqb x l) (λ f. absurd (calm q (rw (eqb-true x l f) at d))) (λ f. rw f (i .waits x q d)))
-            (after-waits (chainOf (regionIn t es) l s) (lockOf l s) (regionIn t es) l w y s x q e);
+            (after-waits (chainOf (regionIn t es) l s) (lockOf l s) (regionIn t es) l put s x q e);
       }
     where
       place-256 : 32 * t + freeEntry t (b .tables) < length (b .old)
@@ -520,16 +503,16 @@ module _ {b : Board} {es : List Event} {s : u.State (List ℕ)} {h : v.History (
 -- ---- the write, after the owner has joined the dependences
 
 -- a state of the undo log in which region k goes on
-data Going (m : ℕ → List ℕ) (b : Board) (es : List Event) (k : ℕ) : Type 0 where
+data Going (m : ℕ → List ℕ) (b : Board) (es : List Account) (k : ℕ) : Type 0 where
   going : (s : u.State (List ℕ)) (h : v.History (List ℕ)) → Reach m s h → Sim b es s h → u.Open s k → Going m b es k
 
 -- the owner of a line is the region of its newest entry
-owner-top : {b : Board} {es : List Event} {s : u.State (List ℕ)} {h : v.History (List ℕ)} (k l : ℕ) → Sim b es s h → listed k (b .tables .regions) ≡ true
+owner-top : {b : Board} {es : List Account} {s : u.State (List ℕ)} {h : v.History (List ℕ)} (k l : ℕ) → Sim b es s h → listed k (b .tables .regions) ≡ true
     → getD (b .tables .owner) l 0 ≡ k → newest (s .chain l) ≡ k
 unfolding ownerOf
 owner-top k l i in′ e = i .top l ∙ rw (e, in′)
 
-pub top-owner : {b : Board} {es : List Event} {s : u.State (List ℕ)} {h : v.History (List ℕ)} (k l : ℕ) → Sim b es s h → eqb k 0 ≡ false → newest (s .chain l) ≡ k
+pub top-owner : {b : Board} {es : List Account} {s : u.State (List ℕ)} {h : v.History (List ℕ)} (k l : ℕ) → Sim b es s h → eqb k 0 ≡ false → newest (s .chain l) ≡ k
     → getD (b .tables .owner) l 0 ≡ k
 unfolding ownerOf
 top-owner {b} k l i nz e =
@@ -545,9 +528,9 @@ newest-owns : (k : ℕ) (c : List (u.Entry (List ℕ))) → eqb k 0 ≡ false �
 newest-owns k [] nz e = absurd (eqb-false k 0 nz (sym e))
 newest-owns k (x ∷ c) nz e = eq-eqb k (x .rid) (sym e)
 
-module _ {m : ℕ → List ℕ} {b : Board} {es : List Event} {s : u.State (List ℕ)} {h : v.History (List ℕ)} (t l w y : ℕ) (rc : Reach m s h) (i : Sim b es s h)
+module _ {m : ℕ → List ℕ} {b : Board} {es : List Account} {s : u.State (List ℕ)} {h : v.History (List ℕ)} (t l : ℕ) (put : List ℕ → List ℕ) (rc : Reach m s h) (i : Sim b es s h)
     (op : u.Open s (regionIn t es)) (joined : (u.owns (regionIn t es) (s .chain l) || u.follows (s .dep) (regionIn t es) (s .chain l)) ≡ true)
-    (setup : isSetUp (b .tables) ≡ true) (inT : t < b .tables .size .threads) (inL : l < b .tables .size .lines) (sound : ltb y 18446744073709551616 ≡ true)
+    (setup : isSetUp (b .tables) ≡ true) (inT : t < b .tables .size .threads) (inL : l < b .tables .size .lines) (kl : KeepsLine put)
     (room : isFull (slotFor l (regionAt (regionIn t es) (b .tables .regions) .slots)) ≡ false) where
   going-in : listed (regionIn t es) (b .tables .regions) ≡ true
   going-in = open-listed rc i (regionIn t es) op
@@ -555,28 +538,28 @@ module _ {m : ℕ → List ℕ} {b : Board} {es : List Event} {s : u.State (List
   still : (a : u.Action (List ℕ)) → act s a .born ≡ s .born → act s a .over ≡ s .over → u.Open (act s a) (regionIn t es)
   still a p q = record { began = rw p (op .began); goes-on = rw q (op .goes-on) }
 
-  go-again : eqb (getD (b .tables .owner) l 0) (regionIn t es) ≡ true → Going m (stored (regionIn t es) (slotted (regionIn t es) l b) l w y b) (Write t l w y ∷ es) (regionIn t es)
+  go-again : eqb (getD (b .tables .owner) l 0) (regionIn t es) ≡ true → Going m (stored (regionIn t es) (slotted (regionIn t es) l b) l put b) (Stores t l put ∷ es) (regionIn t es)
   unfolding act note
   go-again own =
       let top : newest (s .chain l) ≡ regionIn t es = owner-top (regionIn t es) l i going-in (eqb-true (getD (b .tables .owner) l 0) (regionIn t es) own) in
-      going (act s (u.Again (regionIn t es) l (λ x. set x w y))) (note h (u.Again (regionIn t es) l (λ x. set x w y)))
-      (then rc (u.Again (regionIn t es) l (λ x. set x w y))
+      going (act s (u.Again (regionIn t es) l put)) (note h (u.Again (regionIn t es) l put))
+      (then rc (u.Again (regionIn t es) l put)
       (u.again op (newest-owns (regionIn t es) (s .chain l) (listed-key (regionIn t es) (b .tables .regions) going-in) top)))
-      (store-sim t l w y (b .tables .threads) (b .tables .owner) (b .tables .lock) (b .old) (s .chain) (s .lock) i (ready-again t l w y i own top) going-in room
-      (omega (arith, lines-256 (b .tables) setup)) sound op)
-      (still (u.Again (regionIn t es) l (λ x. set x w y)) refl refl)
+      (store-sim t l put (b .tables .threads) (b .tables .owner) (b .tables .lock) (b .old) (s .chain) (s .lock) i (ready-again t l put i own top) going-in room
+      (omega (arith, lines-256 (b .tables) setup)) kl op)
+      (still (u.Again (regionIn t es) l put) refl refl)
 
   go-first : eqb (getD (b .tables .owner) l 0) (regionIn t es) ≡ false → getD (b .tables .lock) l false ≡ false
       → any (isOf 0) (threadAt t (b .tables) .log) ≡ true → ((q : ℕ) → s .slot l q ≡ u.Waits → ⊥)
-      → Going m (stored (regionIn t es) (slotted (regionIn t es) l b) l w y (logged t (regionIn t es) l b)) (Write t l w y ∷ es) (regionIn t es)
+      → Going m (stored (regionIn t es) (slotted (regionIn t es) l b) l put (logged t (regionIn t es) l b)) (Stores t l put ∷ es) (regionIn t es)
   unfolding act note logged
   go-first own unl free calm =
-      going (act s (u.First (regionIn t es) l (λ x. set x w y))) (note h (u.First (regionIn t es) l (λ x. set x w y))) first
-      (store-sim t l w y (loggedThreads t (regionIn t es) l (b .tables)) (set (b .tables .owner) l (regionIn t es)) (set (b .tables .lock) l true) (loggedOld t l b)
+      going (act s (u.First (regionIn t es) l put)) (note h (u.First (regionIn t es) l put)) first
+      (store-sim t l put (loggedThreads t (regionIn t es) l (b .tables)) (set (b .tables .owner) l (regionIn t es)) (set (b .tables .lock) l true) (loggedOld t l b)
       (chainOf (regionIn t es) l s) (lockOf l s) i
-      (ready-first t l w y i going-in unl free setup inT inL new (λ q x e. listed-key q (b .tables .regions) (live q x e)) calm) going-in room
-      (omega (arith, lines-256 (b .tables) setup)) sound op)
-      (still (u.First (regionIn t es) l (λ x. set x w y)) refl refl)
+      (ready-first t l put i going-in unl free setup inT inL new (λ q x e. listed-key q (b .tables .regions) (live q x e)) calm) going-in room
+      (omega (arith, lines-256 (b .tables) setup)) kl op)
+      (still (u.First (regionIn t es) l put) refl refl)
     where
       nz : eqb (regionIn t es) 0 ≡ false
       nz = listed-key (regionIn t es) (b .tables .regions) going-in
@@ -587,13 +570,13 @@ module _ {m : ℕ → List ℕ} {b : Board} {es : List Event} {s : u.State (List
           (λ d. never (eq-eqb (getD (b .tables .owner) l 0) (regionIn t es) (top-owner (regionIn t es) l i nz (owns-newest (regionIn t es) (s .chain l) d))) own)
           (λ d. rw d at joined)
 
-      first : Reach m (act s (u.First (regionIn t es) l (λ x. set x w y))) (note h (u.First (regionIn t es) l (λ x. set x w y)))
-      first = then rc (u.First (regionIn t es) l (λ x. set x w y)) (u.firsts op follows (i .lock l ∙ unl))
+      first : Reach m (act s (u.First (regionIn t es) l put)) (note h (u.First (regionIn t es) l put))
+      first = then rc (u.First (regionIn t es) l put) (u.firsts op follows (i .lock l ∙ unl))
 
       new : olds (eqb (regionIn t es)) (s .chain l) ≡ []
       new =
           no-length (olds (eqb (regionIn t es)) (s .chain l))
-          (let z = structured m (act s (u.First (regionIn t es) l (λ x. set x w y))) (note h (u.First (regionIn t es) l (λ x. set x w y))) first .single l (regionIn t es) in
+          (let z = structured m (act s (u.First (regionIn t es) l put)) (note h (u.First (regionIn t es) l put)) first .single l (regionIn t es) in
           let z′ : suc (length (olds (eqb (regionIn t es)) (s .chain l))) ≤ 1 = rw (is-same l, is-same (regionIn t es)) at z in
           omega arith)
 
@@ -603,7 +586,7 @@ module _ {m : ℕ → List ℕ} {b : Board} {es : List Event} {s : u.State (List
 -- ---- the whole write
 
 -- a write is the join, the log, the store, the flights
-module _ (t l w y k : ℕ) (b : Board) (cur : current t (b .tables) ≡ k) (in′ : listed k (b .tables .regions) ≡ true) where
+module _ (t l k : ℕ) (put : List ℕ → List ℕ) (b : Board) (cur : current t (b .tables) ≡ k) (in′ : listed k (b .tables .regions) ≡ true) where
   write-regions : set (b .tables .regions) (placeOf k (b .tables .regions)) (wrote k l (b .tables) (regionAt k (b .tables .regions)))
       ≡ set (read k l (b .tables) .regions) (placeOf k (read k l (b .tables) .regions)) (slotted k l (withTables (read k l (b .tables)) b))
   unfolding wrote read
@@ -616,14 +599,14 @@ module _ (t l w y k : ℕ) (b : Board) (cur : current t (b .tables) ≡ k) (in�
       )
       (sym (set-set (b .tables .regions) (placeOf k (b .tables .regions)) r (withSlots (written l (r .slots)) r)))
 
-  write-is : write t l w y b ≡ flown k (stored k (slotted k l (withTables (read k l (b .tables)) b)) l w y (loggedOnce t k l (withTables (read k l (b .tables)) b)))
+  write-is : write t l put b ≡ flown k (stored k (slotted k l (withTables (read k l (b .tables)) b)) l put (loggedOnce t k l (withTables (read k l (b .tables)) b)))
   unfolding write stored logged read
   write-is =
       rw cur
       (ap (flown k)
       (test (eqb (getD (b .tables .owner) l 0) k)
-      (λ d. rw d (ap (λ x. rebuilt x (storeWord l w y (b .cur)) (b .med) (b .car) b) write-regions))
-      (λ d. rw d (ap (λ x. rebuilt x (storeWord l w y (b .cur)) (b .med) (b .car) (logged t k l b)) write-regions))))
+      (λ d. rw d (ap (λ x. rebuilt x (changeLine l put (b .cur)) (b .med) (b .car) b) write-regions))
+      (λ d. rw d (ap (λ x. rebuilt x (changeLine l put (b .cur)) (b .med) (b .car) (logged t k l b)) write-regions))))
 
 waits-state : (car : List (List ℕ)) (l : ℕ) (st : SlotState) → carryOf car l st ≡ u.Waits → (n : ℕ) × (st ≡ Waiting n)
 waits-state car l Empty e = let z : _≡_ {A = ℕ} 0 1 = cc in absurd (omega arith)
@@ -634,7 +617,7 @@ waits-clear : {c : u.Carry (List ℕ)} → c ≡ u.Waits → c ≡ u.Clear → �
 waits-clear {c} p q = let z : _≡_ {A = ℕ} 0 1 = cc in omega arith
 
 -- no slot of a line waits that a region may log: it would be of its owner, which has ended, on a line that is not locked
-calm-line : {m : ℕ → List ℕ} {b : Board} {es : List Event} {s : u.State (List ℕ)} {h : v.History (List ℕ)} (t l : ℕ) → Reach m s h → Sim b es s h → Rest b
+calm-line : {m : ℕ → List ℕ} {b : Board} {es : List Account} {s : u.State (List ℕ)} {h : v.History (List ℕ)} (t l : ℕ) → Reach m s h → Sim b es s h → Rest b
     → depthOf t (b .tables) ≢ 0 → isForeignOpen t (ownerOf l (b .tables)) (b .tables) ≡ false → eqb (getD (b .tables .owner) l 0) (regionIn t es) ≡ false
     → getD (b .tables .lock) l false ≡ false → (q : ℕ) → s .slot l q ≡ u.Waits → ⊥
 calm-line {m} {b} {es} {s} {h} t l rc i re deep fo own unl q e = go (owner-is rc i l)
@@ -650,14 +633,14 @@ calm-line {m} {b} {es} {s} {h} t l rc i re deep fo own unl q e = go (owner-is rc
         never (re .flown q l (st .0) (or-right (eqb (st .0) 4) (rw (← g) (i .ended (a .rid) li ∙ ov))) (st .1)) unl
 
 -- what is left to be done after the store and the flights of a region that goes on
-rest-wrote : (k l w y : ℕ) (b : Board) (ths : List Thread) (ow : List ℕ) (lo : List Bool) (ol : List (List ℕ))
+rest-wrote : (k l : ℕ) (put : List ℕ → List ℕ) (b : Board) (ths : List Thread) (ow : List ℕ) (lo : List Bool) (ol : List (List ℕ))
     → ((x : ℕ) → getD (b .tables .lock) x false ≡ true → getD lo x false ≡ true) → listed k (b .tables .regions) ≡ true
     → regionAt k (b .tables .regions) .ended ≡ false → regionAt k (b .tables .regions) .done ≡ false
-    → Rest b → Rest (flown k (stored k (slotted k l b) l w y (relogged ths ow lo ol b)))
+    → Rest b → Rest (flown k (stored k (slotted k l b) l put (relogged ths ow lo ol b)))
 unfolding flown stored
-rest-wrote k l w y b ths ow lo ol grow in′ en dn re =
+rest-wrote k l put b ths ow lo ol grow in′ en dn re =
     record {
-      flown = flown-rest k (stored k (slotted k l b) l w y (relogged ths ow lo ol b)) (rw (listed-stored k rs r′ in′ key k) in′)
+      flown = flown-rest k (stored k (slotted k l b) l put (relogged ths ow lo ol b)) (rw (listed-stored k rs r′ in′ key k) in′)
           (λ q x c n e st. grow x (re .flown q x c (rw (at q, n) at e) (rw (at q, n) at st)));
       finished = each-set Finished rs′ (placeOf k rs′) (withSlots (flownSlots lo (regionAt k rs′ .ended) (regionAt k rs′ .slots)) (regionAt k rs′)) noRegion
           (λ e n. never e (rw (at k, is-same k) en))
@@ -686,36 +669,36 @@ grown : (l : ℕ) (lo : List Bool) → l < length lo → (x : ℕ) → getD lo x
 grown l lo n x e = rw (getD-set lo l x true false n) (test (eqb x l) (λ d. rw d) (λ d. rw d e))
 
 -- log, store and flights, after the join
-write-joined : {m : Memory} {b : Board} {es : List Event} {s : u.State (List ℕ)} {h : v.History (List ℕ)} (t l w y : ℕ)
+write-joined : {m : Memory} {b : Board} {es : List Account} {s : u.State (List ℕ)} {h : v.History (List ℕ)} (t l : ℕ) (put : List ℕ → List ℕ)
     → Reach (λ x. lineOf x (startLines m)) s h → Sim b es s h → Rest b → u.Open s (regionIn t es)
     → (u.owns (regionIn t es) (s .chain l) || u.follows (s .dep) (regionIn t es) (s .chain l)) ≡ true
-    → isSetUp (b .tables) ≡ true → t < b .tables .size .threads → l < b .tables .size .lines → ltb y 18446744073709551616 ≡ true
+    → isSetUp (b .tables) ≡ true → t < b .tables .size .threads → l < b .tables .size .lines → KeepsLine put
     → (needsLog (regionIn t es) l (b .tables) && locked l (b .tables)) ≡ false
     → isFull (slotFor l (regionAt (regionIn t es) (b .tables .regions) .slots)) ≡ false
     → (needsLog (regionIn t es) l (b .tables) && not (any (isOf 0) (threadAt t (b .tables) .log))) ≡ false
     → (eqb (getD (b .tables .owner) l 0) (regionIn t es) ≡ false → getD (b .tables .lock) l false ≡ false → (q : ℕ) → s .slot l q ≡ u.Waits → ⊥)
-    → Kept m (flown (regionIn t es) (stored (regionIn t es) (slotted (regionIn t es) l b) l w y (loggedOnce t (regionIn t es) l b))) (Write t l w y ∷ es)
+    → Kept m (flown (regionIn t es) (stored (regionIn t es) (slotted (regionIn t es) l b) l put (loggedOnce t (regionIn t es) l b))) (Stores t l put ∷ es)
 unfolding logged
-write-joined {m} {b} {es} t l w y rc i re op jo su inT inL so lo ro fr calm =
+write-joined {m} {b} {es} t l put rc i re op jo su inT inL so lo ro fr calm =
     test (eqb (getD (b .tables .owner) l 0) (regionIn t es))
     (λ d. rw d (finish (b .tables .threads) (b .tables .owner) (b .tables .lock) (b .old) (λ x e. e)
-    (go-again t l w y rc i op jo su inT inL so ro d)))
+    (go-again t l put rc i op jo su inT inL so ro d)))
     (λ d. let unl : getD (b .tables .lock) l false ≡ false = rw d at lo in
     let z : any (isOf 0) (threadAt t (b .tables) .log) ≡ true = not-false (any (isOf 0) (threadAt t (b .tables) .log)) (rw d at fr) in
     rw d (finish (loggedThreads t (regionIn t es) l (b .tables)) (set (b .tables .owner) l (regionIn t es)) (set (b .tables .lock) l true) (loggedOld t l b)
     (grown l (b .tables .lock) (rw (i .shape .lock) (omega (arith, lines-256 (b .tables) su))))
-    (go-first t l w y rc i op jo su inT inL so ro d unl z (calm d unl))))
+    (go-first t l put rc i op jo su inT inL so ro d unl z (calm d unl))))
   where
     in′ : listed (regionIn t es) (b .tables .regions) ≡ true
     in′ = open-listed rc i (regionIn t es) op
 
     finish : (ths : List Thread) (ow : List ℕ) (lo : List Bool) (ol : List (List ℕ)) → ((x : ℕ) → getD (b .tables .lock) x false ≡ true → getD lo x false ≡ true)
-        → Going (λ x. lineOf x (startLines m)) (stored (regionIn t es) (slotted (regionIn t es) l b) l w y (relogged ths ow lo ol b)) (Write t l w y ∷ es) (regionIn t es)
-        → Kept m (flown (regionIn t es) (stored (regionIn t es) (slotted (regionIn t es) l b) l w y (relogged ths ow lo ol b))) (Write t l w y ∷ es)
+        → Going (λ x. lineOf x (startLines m)) (stored (regionIn t es) (slotted (regionIn t es) l b) l put (relogged ths ow lo ol b)) (Stores t l put ∷ es) (regionIn t es)
+        → Kept m (flown (regionIn t es) (stored (regionIn t es) (slotted (regionIn t es) l b) l put (relogged ths ow lo ol b))) (Stores t l put ∷ es)
     finish ths ow lo ol grow (going s h rc′ i′ op′) =
         record {
           simulated = flights (regionIn t es) (open-listed rc′ i′ (regionIn t es) op′) (by s h rc′ i′);
-          rest = rest-wrote (regionIn t es) l w y b ths ow lo ol grow in′ (i .ended (regionIn t es) in′ ∙ op .goes-on) (open-undone (regionIn t es) i op in′) re;
+          rest = rest-wrote (regionIn t es) l put b ths ow lo ol grow in′ (i .ended (regionIn t es) in′ ∙ op .goes-on) (open-undone (regionIn t es) i op in′) re;
         }
 
 -- the slots are as before the join
@@ -734,12 +717,15 @@ write-keeps t l w y m b es sound ref kept = go (kept .simulated)
     deep : depthOf t (b .tables) ≢ 0
     deep = eqb-false (depthOf t (b .tables)) 0 (p .1 .1 .1 .1 .1 .0)
 
-    go : Simulated m b es → Kept m (write t l w y b) (Write t l w y ∷ es)
+    put : List ℕ → List ℕ
+    put = storedIn w y
+
+    go : Simulated m b es → Kept m (write t l put b) (Stores t l put ∷ es)
     go (by s h rc i) =
         let cur : current t (b .tables) ≡ regionIn t es = current-is t l rc i deep in
         let op : u.Open s (regionIn t es) = rw (← cur) (current-open t l rc i deep) in
         let in′ : listed (regionIn t es) (b .tables .regions) ≡ true = open-listed rc i (regionIn t es) op in
-        rw (write-is t l w y (regionIn t es) b cur in′)
+        rw (write-is t l (regionIn t es) put b cur in′)
         (after-join cur op in′ (rw cur at (join t l rc i deep (p .1 .1 .1 .1 .1 .1 .0) (p .1 .1 .1 .1 .1 .1 .1 .1 .0))))
       where
         b′ : Board
@@ -747,13 +733,13 @@ write-keeps t l w y m b es sound ref kept = go (kept .simulated)
 
         after-join : current t (b .tables) ≡ regionIn t es → u.Open s (regionIn t es) → listed (regionIn t es) (b .tables .regions) ≡ true
             → Joined (λ x. lineOf x (startLines m)) b′ es (regionIn t es) l
-            → Kept m (flown (regionIn t es) (stored (regionIn t es) (slotted (regionIn t es) l b′) l w y (loggedOnce t (regionIn t es) l b′))) (Write t l w y ∷ es)
+            → Kept m (flown (regionIn t es) (stored (regionIn t es) (slotted (regionIn t es) l b′) l put (loggedOnce t (regionIn t es) l b′))) (Stores t l put ∷ es)
         after-join cur op in′ (joins s′ h′ rc′ i′ op′ f) =
-            write-joined t l w y rc′ i′ (rest-read (regionIn t es) l i op in′ (kept .rest)) op′ f
+            write-joined t l put rc′ i′ (rest-read (regionIn t es) l i op in′ (kept .rest)) op′ f
             (not-false (isSetUp (b .tables)) (p .0))
             (leb-false (b .tables .size .threads) t (p .1 .0))
             (leb-false (b .tables .size .lines) l (p .1 .1 .0))
-            sound
+            (word-keeps w y sound)
             (rw cur at (p .1 .1 .1 .1 .1 .1 .1 .0))
             (rw (slots-read (regionIn t es) l (b .tables) in′ (regionIn t es)) (rw cur at (p .1 .1 .1 .1 .1 .1 .1 .1 .1 .0)))
             (rw cur at (p .1 .1 .1 .1 .1 .1 .1 .1 .1 .1 .0))

@@ -1,0 +1,40 @@
+-- "Measures (all numbers decimal)." The lengths of the arrays in src/lib.rt are these numbers.
+use Prim.Native.Nat.{ℕ}
+
+-- "Threads T: 1 to 8. Lines L: 1 to 256. A line is eight words of 8 bytes"
+abbrev pub mostThreads : ℕ
+mostThreads = 8
+
+abbrev pub mostLines : ℕ
+mostLines = 256
+
+abbrev pub lineWords : ℕ
+lineWords = 8
+
+-- "Per thread: 4 regions in the modified list, 32 log entries, nesting depth 15, region numbers 1 to 65,535"
+abbrev pub mostModified : ℕ
+mostModified = 4
+
+abbrev pub mostEntries : ℕ
+mostEntries = 32
+
+abbrev pub mostDepth : ℕ
+mostDepth = 15
+
+abbrev pub mostNumber : ℕ
+mostNumber = 65535
+
+-- "Per region: 8 line slots, 4 dependences"
+abbrev pub mostSlots : ℕ
+mostSlots = 8
+
+abbrev pub mostDeps : ℕ
+mostDeps = 4
+
+-- "Dependence list: 32 entries shared by all threads"
+abbrev pub mostRegions : ℕ
+mostRegions = 32
+
+-- "A waiting slot flies when its line is unlocked and its count is 4"
+abbrev pub ripeCount : ℕ
+ripeCount = 4
