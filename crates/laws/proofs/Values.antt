@@ -21,7 +21,7 @@ use Rattle.rules.proofs.Places.{any-at, count-map, count-put, count-room, count
 use Rattle.rules.proofs.Sim.State.{Kept, Sim, Simulated, by}
 use Rattle.rules.proofs.Sim.Ack.{log-ack}
 use Rattle.rules.proofs.Sim.All.{every}
-use Rattle.rules.proofs.Sim.Base.{Unrefused, accepted}
+use Rattle.rules.proofs.Tests.{passed}
 use Rattle.rules.proofs.Sim.Commit.{unique-regions}
 use Rattle.rules.proofs.Sim.Data.{lands}
 use Rattle.rules.proofs.Sim.Regions.{ends-region}
@@ -105,14 +105,11 @@ balance-begin : (t : ℕ) (m : Memory) (b : Board) (es : List Event) (n : ℕ) �
 unfolding apply begin testsOf opensIn
 balance-begin t m b es n r k p = go (k .simulated)
   where
-    tests : Unrefused (testsOf (b .tables) (Begin t))
-    tests = accepted (b .tables) (Begin t) r
-
     go : Simulated m b es → Balance (apply b (Begin t) .board) (Begin t ∷ es) (n + 0)
     go (by s h rc i) =
         rw (← i .told .depth t)
         (test (eqb (depthOf t (b .tables)) 0)
-        (λ d. let full : held b < 32 = leb-false 32 (held b) (rw d at (tests .1 .1 .1 .1 .1 .1 .0)) in
+        (λ d. let full : held b < 32 = leb-false 32 (held b) (rw d at (passed (b .tables) (Begin t) r 16)) in
         let z = open-held t b (rw (i .shape .regions) full) in
         rw (d, z) (omega arith))
         (λ d. rw d (omega arith)))

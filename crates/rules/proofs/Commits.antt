@@ -12,7 +12,6 @@ use Rattle.rules.proofs.Places.{Unique, any-map, any-set, listed-commit
 use Rattle.rules.proofs.Sim.State.{Kept, Simulated, by}
 use Rattle.rules.proofs.Sim.Ack.{log-ack}
 use Rattle.rules.proofs.Sim.All.{sound-record, step-kept}
-use Rattle.rules.proofs.Sim.Base.{Unrefused, accepted}
 use Rattle.rules.proofs.Sim.Commit.{ready}
 use Rattle.rules.proofs.Sim.Data.{lands}
 use Rattle.rules.proofs.Sim.Regions.{born-begun, ends-region, listed-begun, newKey, unborn}
@@ -40,6 +39,7 @@ use Rattle.rules.specs.declared.Region.{Region}
 use Rattle.rules.specs.declared.Tables.{Tables}
 use Rattle.undo.proofs.Laws.{and-true, never, or-true, test}
 use Rattle.undo.specs.Table.{isIn}
+use Rattle.rules.proofs.Tests.{passed}
 
 is-in-both : (k : ℕ) (xs ys : List ℕ) → isIn k (xs ++ ys) ≡ (isIn k xs || isIn k ys)
 is-in-both k [] ys = refl
@@ -149,18 +149,15 @@ gone-begin : (t : ℕ) (m : Memory) (b : Board) (es : List Account) (ks : List �
 unfolding apply begin opened testsOf openedIn
 gone-begin t m b es ks r kept p k = go (kept .simulated)
   where
-    tests : Unrefused (testsOf (b .tables) (Begin t))
-    tests = accepted (b .tables) (Begin t) r
-
     lt : t < b .tables .size .threads
-    lt = leb-false (b .tables .size .threads) t (tests .1 .0)
+    lt = leb-false (b .tables .size .threads) t (passed (b .tables) (Begin t) r 3)
 
     go : Simulated m b es → isIn k ks ≡ (isOpened (Opens t ∷ es) k && not (isListed k (apply b (Begin t) .board)))
     go (by s h rc i) =
         test (eqb (depthOf t (b .tables)) 0)
         (λ d. let d0 : depthIn t es ≡ 0 = sym (i .told .depth t) ∙ eqb-true (depthOf t (b .tables)) 0 d in
-        let few : openedIn t es < 65535 = rw (i .told .last t) at (leb-false 65535 (threadAt t (b .tables) .last) (rw d at (tests .1 .1 .1 .1 .0))) in
-        let room : count isHeld (b .tables .regions) < 32 = leb-false 32 (count isHeld (b .tables .regions)) (rw d at (tests .1 .1 .1 .1 .1 .1 .0)) in
+        let few : openedIn t es < 65535 = rw (i .told .last t) at (leb-false 65535 (threadAt t (b .tables) .last) (rw d at (passed (b .tables) (Begin t) r 14))) in
+        let room : count isHeld (b .tables .regions) < 32 = leb-false 32 (count isHeld (b .tables .regions)) (rw d at (passed (b .tables) (Begin t) r 16)) in
         rw (d, listed-begun rc i t lt d0 few room k, ← born-begun rc i t lt d0 few room k)
         (test (eqb k (newKey t (b .tables)))
         (λ e. let un : isOpened es k ≡ false = sym (i .told .born k) ∙ rw (eqb-true k (newKey t (b .tables)) e) (unborn rc i t lt d0 few room) in

@@ -1,5 +1,6 @@
 pub mod Cases
 pub mod Laws
+pub mod Tests
 pub mod Codec
 pub mod Views
 pub mod Sim

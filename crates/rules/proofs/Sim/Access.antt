@@ -17,7 +17,7 @@ use lib.Seq.{set-getD}
 use Rattle.rules.proofs.Recover.Sound.{sound}
 use Rattle.rules.proofs.Places.{Once, any-none, any-put, any-set, each-set, getD-set, key-at, listed-key, listed-stored, place-lt, place-true, region-stored}
 use Rattle.rules.proofs.Sim.State.{Finished, GoodRegion, Keeps, Kept, Rest, Sim, Simulated, Told, by, none}
-use Rattle.rules.proofs.Sim.Base.{Unrefused, accepted, orZero, writer-same}
+use Rattle.rules.proofs.Sim.Base.{orZero, writer-same}
 use Rattle.rules.proofs.Sim.Parts.{Owner, logs-kept, no-event, once-at, open-listed, owned, owner-is, owner-stored, part-stored, shape-stored, told-kept, unowned}
 use Rattle.rules.proofs.Views.{stateOf}
 use Rattle.rules.specs.Access.{dependence, isHad, joined, read}
@@ -38,6 +38,7 @@ use Rattle.undo.specs.Claim.{Reach, then}
 use Rattle.undo.specs.History.{History, drawing, used}
 use Rattle.undo.specs.Machine.{Depend, Open, State, depends, follows, owns, reads}
 use Rattle.undo.specs.Table.{any, put}
+use Rattle.rules.proofs.Tests.{badAt, passed}
 
 -- ---- a dependence joins a set
 
@@ -309,11 +310,11 @@ pub read-keeps : (t l w : ℕ) → Keeps (Read t l w)
 unfolding apply testsOf
 read-keeps t l w m b es sound ref kept = go (kept .simulated)
   where
-    p : Unrefused (testsOf (b .tables) (Read t l w))
-    p = accepted (b .tables) (Read t l w) ref
+    p : (n : ℕ) → badAt n (testsOf (b .tables) (Read t l w)) ≡ false
+    p = passed (b .tables) (Read t l w) ref
 
     deep : depthOf t (b .tables) ≢ 0
-    deep = eqb-false (depthOf t (b .tables)) 0 (p .1 .1 .1 .1 .1 .0)
+    deep = eqb-false (depthOf t (b .tables)) 0 (p 12)
 
     after : (s : u.State (List ℕ)) (h : v.History (List ℕ)) → Sim b es s h
         → Joined (λ x. lineOf x (startLines m)) (withTables (read (current t (b .tables)) l (b .tables)) b) es (current t (b .tables)) l
@@ -327,6 +328,6 @@ read-keeps t l w m b es sound ref kept = go (kept .simulated)
     go (by s h rc i) =
         let o : u.Open s (current t (b .tables)) = current-open t l rc i deep in
         record {
-          simulated = after s h i (join t l rc i deep (p .1 .1 .1 .1 .1 .1 .0) (p .1 .1 .1 .1 .1 .1 .1 .0));
+          simulated = after s h i (join t l rc i deep (p 17) (p 19));
           rest = rest-read (current t (b .tables)) l i o (open-listed rc i (current t (b .tables)) o) (kept .rest);
         }

@@ -14,7 +14,7 @@ use native.Mathlib.Omega.{arith}
 use borrow.Author.Tests.{eq-eqb, eqb-false, eqb-true, leb-false, ltb-false, ltb-true, ne-eqb, not-false}
 use Rattle.rules.proofs.Places.{Good, any-map, count-map, getD-map, getD-set, good-free, good-mapped, key-at, listed-key, listed-mapped, once-mapped, region-mapped, region-none, unique-mapped}
 use Rattle.rules.proofs.Sim.State.{GoodEntry, GoodRegion, Kept, Logs, Rest, Shape, Sim, Simulated, Told, by}
-use Rattle.rules.proofs.Sim.Base.{Unrefused, accepted, lines-256, memories-same, shape-thread, thread-stored, threads-8}
+use Rattle.rules.proofs.Sim.Base.{lines-256, memories-same, shape-thread, thread-stored, threads-8}
 use Rattle.rules.proofs.Sim.Flight.{flights, flown-rest}
 use Rattle.rules.proofs.Sim.Parts.{Flown, Owner, owned, owner-is, told-kept, unowned}
 use Rattle.rules.proofs.Sim.Write.{top-owner}
@@ -40,6 +40,7 @@ use Rattle.undo.specs.Claim.{Reach, then}
 use Rattle.undo.specs.History.{History}
 use Rattle.undo.specs.Machine.{Carry, Clear, State, Waits, log-acks, owns}
 use Rattle.undo.specs.Table.{any, put}
+use Rattle.rules.proofs.Tests.{badAt, passed}
 
 -- ---- the other regions' flights are dropped
 
@@ -356,14 +357,14 @@ pub log-ack : (l : ℕ) (m : Memory) (b : Board) (es : List Account) → refusal
 unfolding testsOf logAck
 log-ack l m b es ref kept = go (kept .simulated)
   where
-    p : Unrefused (testsOf (b .tables) (LogAck l))
-    p = accepted (b .tables) (LogAck l) ref
+    p : (n : ℕ) → badAt n (testsOf (b .tables) (LogAck l)) ≡ false
+    p = passed (b .tables) (LogAck l) ref
 
     loc : getD (b .tables .lock) l false ≡ true
-    loc = not-false (getD (b .tables .lock) l false) (p .1 .1 .1 .0)
+    loc = not-false (getD (b .tables .lock) l false) (p 22)
 
     inside : l < 256
-    inside = omega (arith, leb-false (b .tables .size .lines) l (p .1 .0), lines-256 (b .tables) (not-false (isSetUp (b .tables)) (p .0)))
+    inside = omega (arith, leb-false (b .tables .size .lines) l (p 4), lines-256 (b .tables) (not-false (isSetUp (b .tables)) (p 6)))
 
     go : Simulated m b es → Simulated m (logAck l b) (Nothing ∷ es) × Flown (logAck l b)
     go (by s h rc i) = pass (owner-is rc i l)

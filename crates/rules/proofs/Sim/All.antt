@@ -11,7 +11,6 @@ use Rattle.rules.proofs.Codec.Bytes.{num-part-small}
 use Rattle.rules.proofs.Sim.State.{Keeps, Kept, isSound}
 use Rattle.rules.proofs.Sim.Access.{read-keeps}
 use Rattle.rules.proofs.Sim.Ack.{log-ack}
-use Rattle.rules.proofs.Sim.Base.{accepted}
 use Rattle.rules.proofs.Sim.Commit.{settles}
 use Rattle.rules.proofs.Sim.Data.{keeps-data}
 use Rattle.rules.proofs.Sim.Regions.{ends-region, keeps-begin, keeps-cut, keeps-fence, keeps-setup, keeps-shallower}
@@ -31,14 +30,14 @@ use Rattle.rules.specs.declared.Event.the-variants.{Begin, Cut, DataAck,
 use Rattle.rules.specs.declared.Reading.{Reading}
 use Rattle.rules.specs.declared.Reading.the-variants.{Refused, Whole}
 use Rattle.undo.proofs.Laws.{and-true, test}
+use Rattle.rules.proofs.Tests.{passed}
 
 pub keeps-end : (t : ℕ) → Keeps (End t)
 unfolding apply testsOf
 keeps-end t m b es q r k =
     test (eqb (depthOf t (b .tables)) 1)
     (λ d. let z = ends-region t m b es r d k in rw d (settles (z .0) (z .1)))
-    (λ d. let p = accepted (b .tables) (End t) r in
-    rw d (keeps-shallower t m b es (leb-false (b .tables .size .threads) t (p .1 .0)) (p .1 .1 .1 .0) d k))
+    (λ d. rw d (keeps-shallower t m b es (leb-false (b .tables .size .threads) t (passed (b .tables) (End t) r 3)) (passed (b .tables) (End t) r 12) d k))
 
 pub keeps-log : (l : ℕ) → Keeps (LogAck l)
 unfolding apply

@@ -37,41 +37,6 @@ use Rattle.undo.specs.Claim.{Reach}
 use Rattle.undo.specs.History.{History}
 use Rattle.undo.specs.Machine.{Carry, Clear, State, Waits}
 
--- ---- an accepted event has passed each of its tests
-
--- the tests of a list do not refuse
-abbrev pub Unrefused : List Test → Type 0
-Unrefused [] = Unit {0}
-Unrefused (t ∷ ts) = (t .bad ≡ false) × Unrefused ts
-
--- each test has a number above 0
-abbrev pub isNumbered : Test → Bool
-isNumbered t = ltb 0 (t .code)
-
-pub passed : (ts : List Test) → all isNumbered ts ≡ true → firstBad ts ≡ 0 → Unrefused ts
-passed [] n e = tt
-passed (t ∷ ts) n e =
-    let z = and-true (isNumbered t) (all isNumbered ts) n in
-    test (t .bad)
-    (λ d. let y : t .code ≡ 0 = rw d at e in let x : 0 < t .code = ltb-true 0 (t .code) (z .0) in absurd (omega arith))
-    (λ d. (d, passed ts (z .1) (rw d at e)))
-
--- with `unfolding testsOf` the tests stand there one by one
-pub accepted : (ts : Tables) (e : Event) → refusal ts e ≡ 0 → Unrefused (testsOf ts e)
-unfolding refusal testsOf
-accepted ts e r = passed (testsOf ts e) (numbered e) r
-  where
-    numbered : (e : Event) → all isNumbered (testsOf ts e) ≡ true
-    numbered (Setup n l) = refl
-    numbered (Begin t) = refl
-    numbered (End t) = refl
-    numbered (Read t l w) = refl
-    numbered (Write t l w v) = refl
-    numbered (LogAck l) = refl
-    numbered (DataAck l) = refl
-    numbered (Fence t) = refl
-    numbered Cut = refl
-
 -- ---- keys
 
 pub key-thread : (t n : ℕ) → n < 65536 → threadOf (keyOf t n) ≡ t

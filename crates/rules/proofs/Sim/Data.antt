@@ -4,7 +4,7 @@ use Rattle.undo.specs.History as v
 use Prim.Native.Nat.{_<_, ℕ}
 use mathlib.Core.Path.{_∙_, _≡_, ap, refl, sym}
 use mathlib.Core.Logic.{_≢_}
-use mathlib.Core.Bool.{cond, false≢true, true}
+use mathlib.Core.Bool.{cond, false, false≢true, true}
 use mathlib.Core.List.{List, [], _∷_, map}
 use lib.Dec.{eqb}
 use lib.ListN.{getD, length-map, length-set, set}
@@ -12,7 +12,7 @@ use native.Mathlib.Omega.{arith}
 use borrow.Author.Tests.{eqb-false, eqb-true, leb-false, not-false}
 use Rattle.rules.proofs.Places.{Good, getD-set, key-at, listed-at, listed-key, listed-stored, place-lt, place-true, region-stored}
 use Rattle.rules.proofs.Sim.State.{GoodRegion, Keeps, Kept, Memories, Sim, Simulated, by}
-use Rattle.rules.proofs.Sim.Base.{Unrefused, accepted, clear-waits, lines-256}
+use Rattle.rules.proofs.Sim.Base.{clear-waits, lines-256}
 use Rattle.rules.proofs.Sim.Commit.{settles}
 use Rattle.rules.proofs.Sim.Parts.{Flown, Quiet, logs-kept, once-at, owner-stored, part-stored, rebuilt, shape-stored, told-kept}
 use Rattle.rules.proofs.SlotLaws.{distinct-dropped, dropped-none, flight-carried, flight-state, landed-dropped, state-dropped, state-dropped-other}
@@ -33,6 +33,7 @@ use Rattle.undo.specs.Claim.{Reach, then}
 use Rattle.undo.specs.History.{History, note}
 use Rattle.undo.specs.Machine.{Clear, Flies, State, Waits, data-acks}
 use Rattle.undo.specs.Table.{any, put}
+use Rattle.rules.proofs.Tests.{badAt, passed}
 
 -- region k after the flight of line l has landed, and the board
 abbrev landedRegion : ℕ → ℕ → Board → Region
@@ -163,16 +164,16 @@ pub lands : (l : ℕ) (m : Memory) (b : Board) (es : List Account) → refusal (
 unfolding testsOf
 lands l m b es r kept = go (kept .simulated)
   where
-    p : Unrefused (testsOf (b .tables) (DataAck l))
-    p = accepted (b .tables) (DataAck l) r
+    p : (n : ℕ) → badAt n (testsOf (b .tables) (DataAck l)) ≡ false
+    p = passed (b .tables) (DataAck l) r
 
     ln : l < 256
     ln =
-        let z : l < b .tables .size .lines = leb-false (b .tables .size .lines) l (p .1 .0) in
-        omega (arith, lines-256 (b .tables) (not-false (isSetUp (b .tables)) (p .0)))
+        let z : l < b .tables .size .lines = leb-false (b .tables .size .lines) l (p 4) in
+        omega (arith, lines-256 (b .tables) (not-false (isSetUp (b .tables)) (p 6)))
 
     flying : any (λ r. any (carries l) (r .slots)) (b .tables .regions) ≡ true
-    flying = not-false (inFlight l (b .tables)) (p .1 .1 .1 .0)
+    flying = not-false (inFlight l (b .tables)) (p 22)
 
     -- the region that carries the line
     k : ℕ

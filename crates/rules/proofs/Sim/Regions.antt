@@ -13,7 +13,7 @@ use borrow.Author.Tests.{eqb-false, eqb-true, le-leb, leb-false, leb-true, lt-le
 use Rattle.rules.proofs.Recover.Rising.{no-more}
 use Rattle.rules.proofs.Places.{count-room, each-set, eqb-swap, getD-set, good-free, good-new, good-stored, key-at, listed-key, listed-new, listed-stored, once-new, once-one, once-stored, region-new, region-none, region-stored, unique-new, unique-stored, unlisted-any}
 use Rattle.rules.proofs.Sim.State.{Distinct, Finished, GoodRegion, Keeps, Kept, Rest, Shape, Sim, Simulated, Told, by, more, none}
-use Rattle.rules.proofs.Sim.Base.{Alike, Unrefused, accepted, alter, key-number, key-split, key-thread, logs-over, logs-same, memories-same, owner-born, rest-alter, shape-thread, sim-alter, thread-stored, threads-8, told-alike}
+use Rattle.rules.proofs.Sim.Base.{Alike, alter, key-number, key-split, key-thread, logs-over, logs-same, memories-same, owner-born, rest-alter, shape-thread, sim-alter, thread-stored, threads-8, told-alike}
 use Rattle.rules.proofs.Sim.Flight.{flights, flown-rest}
 use Rattle.rules.proofs.Sim.Parts.{Flown, once-at, open-listed}
 use Rattle.rules.proofs.Views.{entryAt, isOpened, stateOf}
@@ -43,6 +43,7 @@ use Rattle.undo.specs.History.{History, note, used}
 use Rattle.undo.specs.Machine.{Depend, Open, State, begins, depends, ends, withBorn, withDep, withOver}
 use Rattle.undo.specs.Recovery.{older}
 use Rattle.undo.specs.Table.{any, put}
+use Rattle.rules.proofs.Tests.{passed, setup-passed}
 
 -- an event that says nothing of regions and lines
 pub alike-cut : (es : List Account) → Alike es (Cuts ∷ es)
@@ -81,7 +82,7 @@ keeps-cut m b es q r k =
     }
   where
     set-up : isSetUp (b .tables) ≡ true
-    set-up = not-false (isSetUp (b .tables)) (accepted (b .tables) Cut r .0)
+    set-up = not-false (isSetUp (b .tables)) (passed (b .tables) Cut r 6)
 
     go : Simulated m b es → Simulated m (withTables (withCut true (b .tables)) b) (Cuts ∷ es)
     go (by s h rc i) =
@@ -118,9 +119,7 @@ keeps-setup n l m b es q r k =
     }
   where
     facts : (inRange n l ≡ true) × (isSetUp (b .tables) ≡ false)
-    facts =
-        let p = accepted (b .tables) (Setup n l) r in
-        (not-false (inRange n l) (p .0), p .1 .1 .0)
+    facts = setup-passed (b .tables) n l r
 
     go : Simulated m b es → Simulated m (withTables (alter (size′ n l b) (b .tables .cut) (b .tables .clock) (b .tables .threads) (b .tables)) b) (Sets l ∷ es)
     go (by s h rc i) =
@@ -522,17 +521,14 @@ keeps-begin t m b es q r k =
     (λ d. rw d (opens d (k .simulated) (k .rest)))
     (λ d. rw d (keeps-deeper t m b es lt d k))
   where
-    tests : Unrefused (testsOf (b .tables) (Begin t))
-    tests = accepted (b .tables) (Begin t) r
-
     lt : t < b .tables .size .threads
-    lt = leb-false (b .tables .size .threads) t (tests .1 .0)
+    lt = leb-false (b .tables .size .threads) t (passed (b .tables) (Begin t) r 3)
 
     opens : eqb (depthOf t (b .tables)) 0 ≡ true → Simulated m b es → Rest b → Kept m (withTables (opened t (b .tables)) b) (Opens t ∷ es)
     opens d (by s h rc i) rt =
         let d0 : depthIn t es ≡ 0 = sym (i .told .depth t) ∙ eqb-true (depthOf t (b .tables)) 0 d in
-        let few : openedIn t es < 65535 = rw (i .told .last t) at (leb-false 65535 (threadAt t (b .tables) .last) (rw d at (tests .1 .1 .1 .1 .0))) in
-        let room : count isHeld (b .tables .regions) < 32 = leb-false 32 (count isHeld (b .tables .regions)) (rw d at (tests .1 .1 .1 .1 .1 .1 .0)) in
+        let few : openedIn t es < 65535 = rw (i .told .last t) at (leb-false 65535 (threadAt t (b .tables) .last) (rw d at (passed (b .tables) (Begin t) r 14))) in
+        let room : count isHeld (b .tables .regions) < 32 = leb-false 32 (count isHeld (b .tables .regions)) (rw d at (passed (b .tables) (Begin t) r 16)) in
         record {
           simulated = test (listed (current t (b .tables)) (b .tables .regions))
               (λ y. let z = opens-after rc i t lt d0 few room y in by (z .0) (z .1) (z .2 .0) (z .2 .1))
@@ -692,7 +688,7 @@ unfolding testsOf endRegion
 ends-region t m b es r d k = go (k .simulated) (k .rest)
   where
     lt : t < b .tables .size .threads
-    lt = leb-false (b .tables .size .threads) t (accepted (b .tables) (End t) r .1 .0)
+    lt = leb-false (b .tables .size .threads) t (passed (b .tables) (End t) r 3)
 
     go : Simulated m b es → Rest b
         → Simulated m (flown (current t (b .tables)) (withTables (over t (b .tables)) b)) (Closes t ∷ es)

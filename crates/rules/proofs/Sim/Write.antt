@@ -20,7 +20,7 @@ use Rattle.rules.proofs.Recover.Sound.{sound}
 use Rattle.rules.proofs.Places.{any-put, any-set, count-put, count-set, each-set, eqb-swap, getD-set, key-at, listed-key, listed-stored, place-lt, place-stored, place-true, region-stored}
 use Rattle.rules.proofs.Sim.State.{Finished, GoodEntry, GoodRegion, Keeps, Kept, Logs, Memories, Rest, Shape, Sim, Simulated, Told, by}
 use Rattle.rules.proofs.Sim.Access.{Joined, current-is, current-open, join, joins, open-undone, owner-ended, rest-read, undone-stays, uses-access}
-use Rattle.rules.proofs.Sim.Base.{Unrefused, accepted, key-thread, lines-256, shape-thread, threads-8}
+use Rattle.rules.proofs.Sim.Base.{key-thread, lines-256, shape-thread, threads-8}
 use Rattle.rules.proofs.Sim.Flight.{flights, flown-rest}
 use Rattle.rules.proofs.Sim.Parts.{Owner, logged-live, logs-kept, once-at, open-listed, owned, owner-is, owner-stored, part-stored, rebuilt, shape-stored, told-kept, unowned}
 use Rattle.rules.proofs.SlotLaws.{counted-view, distinct-written, length-written, line-set, state-written, state-written-other}
@@ -51,6 +51,7 @@ use Rattle.undo.specs.History.{History}
 use Rattle.undo.specs.Machine.{Action, Again, Carry, Clear, First, Open, State, Waits, again, firsts, follows, owns, withChain}
 use Rattle.undo.specs.Recovery.{olds}
 use Rattle.undo.specs.Table.{any, put}
+use Rattle.rules.proofs.Tests.{badAt, passed}
 
 -- ---- the line is changed
 
@@ -711,11 +712,11 @@ pub write-keeps : (t l w y : ℕ) → Keeps (Write t l w y)
 unfolding apply testsOf read
 write-keeps t l w y m b es sound ref kept = go (kept .simulated)
   where
-    p : Unrefused (testsOf (b .tables) (Write t l w y))
-    p = accepted (b .tables) (Write t l w y) ref
+    p : (n : ℕ) → badAt n (testsOf (b .tables) (Write t l w y)) ≡ false
+    p = passed (b .tables) (Write t l w y) ref
 
     deep : depthOf t (b .tables) ≢ 0
-    deep = eqb-false (depthOf t (b .tables)) 0 (p .1 .1 .1 .1 .1 .0)
+    deep = eqb-false (depthOf t (b .tables)) 0 (p 12)
 
     put : List ℕ → List ℕ
     put = storedIn w y
@@ -726,7 +727,7 @@ write-keeps t l w y m b es sound ref kept = go (kept .simulated)
         let op : u.Open s (regionIn t es) = rw (← cur) (current-open t l rc i deep) in
         let in′ : listed (regionIn t es) (b .tables .regions) ≡ true = open-listed rc i (regionIn t es) op in
         rw (write-is t l (regionIn t es) put b cur in′)
-        (after-join cur op in′ (rw cur at (join t l rc i deep (p .1 .1 .1 .1 .1 .1 .0) (p .1 .1 .1 .1 .1 .1 .1 .1 .0))))
+        (after-join cur op in′ (rw cur at (join t l rc i deep (p 17) (p 19))))
       where
         b′ : Board
         b′ = withTables (read (regionIn t es) l (b .tables)) b
@@ -736,12 +737,12 @@ write-keeps t l w y m b es sound ref kept = go (kept .simulated)
             → Kept m (flown (regionIn t es) (stored (regionIn t es) (slotted (regionIn t es) l b′) l put (loggedOnce t (regionIn t es) l b′))) (Stores t l put ∷ es)
         after-join cur op in′ (joins s′ h′ rc′ i′ op′ f) =
             write-joined t l put rc′ i′ (rest-read (regionIn t es) l i op in′ (kept .rest)) op′ f
-            (not-false (isSetUp (b .tables)) (p .0))
-            (leb-false (b .tables .size .threads) t (p .1 .0))
-            (leb-false (b .tables .size .lines) l (p .1 .1 .0))
+            (not-false (isSetUp (b .tables)) (p 6))
+            (leb-false (b .tables .size .threads) t (p 3))
+            (leb-false (b .tables .size .lines) l (p 4))
             (word-keeps w y sound)
-            (rw cur at (p .1 .1 .1 .1 .1 .1 .1 .0))
-            (rw (slots-read (regionIn t es) l (b .tables) in′ (regionIn t es)) (rw cur at (p .1 .1 .1 .1 .1 .1 .1 .1 .1 .0)))
-            (rw cur at (p .1 .1 .1 .1 .1 .1 .1 .1 .1 .1 .0))
-            (λ own unl q e. calm-line t l rc i (kept .rest) deep (p .1 .1 .1 .1 .1 .1 .0) own unl q
+            (rw cur at (p 18))
+            (rw (slots-read (regionIn t es) l (b .tables) in′ (regionIn t es)) (rw cur at (p 20)))
+            (rw cur at (p 21))
+            (λ own unl q e. calm-line t l rc i (kept .rest) deep (p 17) own unl q
             (i .slot l q ∙ sym (ap (λ ss. carryOf (b .car) l (stateOf l ss)) (slots-read (regionIn t es) l (b .tables) in′ q)) ∙ sym (i′ .slot l q) ∙ e))
