@@ -43,7 +43,7 @@ by-flights {m} {b} {es} (by s h rc sim) l i j p q f g = (here, slots here)
     flies i p f =
         let n = slot-held b (sim .shape) i p (full i p f) in
         let st : stateOf l (regionIs i b .slots) ≡ InFlight
-        = ap (λ x. stateOf x (regionIs i b .slots)) (sym (f .1)) ∙ state-at (sim .shape .good i .distinct) p (full i p f) ∙ f .0 in
+        = ap (λ x. stateOf x (regionIs i b .slots)) (sym (f .1)) ∙ state-at (sim .shape .regions .good i .distinct) p (full i p f) ∙ f .0 in
         sim .slot l (regionIs i b .key) ∙ rw (region-is b (sim .shape) i n, st)
 
     keys : regionIs i b .key ≡ regionIs j b .key
@@ -53,13 +53,13 @@ by-flights {m} {b} {es} (by s h rc sim) l i j p q f g = (here, slots here)
 
     here : i ≡ j
     here =
-        sym (sim .shape .unique i (slot-held b (sim .shape) i p (full i p f)))
+        sym (sim .shape .regions .unique i (slot-held b (sim .shape) i p (full i p f)))
         ∙ ap (λ k. placeOf k (b .tables .regions)) keys
-        ∙ sim .shape .unique j (slot-held b (sim .shape) j q (full j q g))
+        ∙ sim .shape .regions .unique j (slot-held b (sim .shape) j q (full j q g))
 
     slots : i ≡ j → p ≡ q
     slots e = let g′ : FliesWith l (slotIs i q b) = rw e g in
-        one-slot (sim .shape .good i .distinct) p q (full i p f) (full i q g′) (f .1 ∙ sym (g′ .1))
+        one-slot (sim .shape .regions .good i .distinct) p q (full i p f) (full i q g′) (f .1 ∙ sym (g′ .1))
 
 pub one-flight : OneFlight
 one-flight m rs bm br = by-flights (every m rs bm br .simulated)

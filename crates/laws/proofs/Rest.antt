@@ -35,10 +35,10 @@ state-at (more {s = s} {ss = ss} a n r ds) (suc j) e =
 module _ (b : Board) (sh : Shape (b .tables)) where
   -- a slot that is not empty is of a listed region
   pub slot-held : (i j : ℕ) → isEmpty (slotIs i j b .state) ≡ false → regionIs i b .key ≢ 0
-  slot-held i j e z = true≢false (rw (sh .good i .free z, getD-same 8 j noSlot) at e)
+  slot-held i j e z = true≢false (rw (sh .regions .good i .free z, getD-same 8 j noSlot) at e)
 
   pub region-is : (i : ℕ) → regionIs i b .key ≢ 0 → regionAt (regionIs i b .key) (b .tables .regions) ≡ regionIs i b
-  region-is i n = region-at i (b .tables .regions) (sh .unique) n
+  region-is i n = region-at i (b .tables .regions) (sh .regions .unique) n
 
 at-rest : {m : Memory} {b : Board} {es : List Event} → Simulated m b es → Rest b → AtRest b
 unfolding commits
@@ -47,7 +47,7 @@ at-rest {b = b} (by s h rc i) rest =
       flown = λ p j c w e. let full : isEmpty (slotIs p j b .state) ≡ false = rw w in
           let n = slot-held b (i .shape) p j full in
           rest .flown (regionIs p b .key) (slotIs p j b .line) c (rw (region-is b (i .shape) p n) e)
-          (rw (region-is b (i .shape) p n) (state-at (i .shape .good p .distinct) j full ∙ w));
+          (rw (region-is b (i .shape) p n) (state-at (i .shape .regions .good p .distinct) j full ∙ w));
       finished = rest .finished;
       committed = λ p n d. rw (ne-eqb (regionIs p b .key) 0 n, d) at (rest .settled p);
     }

@@ -110,7 +110,7 @@ balance-begin t m b es n r k p = go (k .simulated)
         rw (← i .told .depth t)
         (test (eqb (depthOf t (b .tables)) 0)
         (λ d. let full : held b < 32 = leb-false 32 (held b) (rw d at (passed (b .tables) (Begin t) r 16)) in
-        let z = open-held t b (rw (i .shape .regions) full) in
+        let z = open-held t b (rw (i .shape .regions .count) full) in
         rw (d, z) (omega arith))
         (λ d. rw d (omega arith)))
 
@@ -182,7 +182,7 @@ module _ (m : Memory) (rs : List (List ℕ)) (told : CommitsTold m rs) {s : u.St
 
   held-uncommitted : held (boardAfter m rs) ≡ count (λ k. not (committed m rs k)) (opensIn (acceptedIn m rs))
   held-uncommitted =
-      held-count (boardAfter m rs .tables .regions) (i .shape .unique) (opens (acceptedIn m rs) (i .told .numbers) .1) in-list
+      held-count (boardAfter m rs .tables .regions) (i .shape .regions .unique) (opens (acceptedIn m rs) (i .told .numbers) .1) in-list
       ∙ sym (count-in (λ k. not (committed m rs k)) (λ k. listed k (boardAfter m rs .tables .regions)) (opensIn (acceptedIn m rs)) uncommitted)
 
   fence-value : (t : ℕ) → fence t (boardAfter m rs .tables) ≡ cond (all (committed m rs) (opensOf t (acceptedIn m rs))) 1 0

@@ -138,7 +138,7 @@ gone-settled : {m : Memory} (b b′ : Board) (es es′ : List Account) (ks : Lis
     → ((k : ℕ) → isOpened es′ k ≡ isOpened es k) → Gone b es ks → Gone (settledBoard b′ .board) es′ (settled (b′ .tables) .keys ++ ks)
 unfolding settledBoard
 gone-settled b b′ es es′ ks (by s h rc i) same op p k =
-    let z = settled-takes (b′ .tables) (i .shape .unique) k in
+    let z = settled-takes (b′ .tables) (i .shape .regions .unique) k in
     rw (is-in-both k (settled (b′ .tables) .keys) ks, z .0)
     (test (isIn k (settled (b′ .tables) .keys))
     (λ e. let bo : isOpened es′ k ≡ true = sym (i .told .born k) ∙ and-true (s .born k) (not (s .done k)) (sym (i .live k) ∙ z .1 e) .0 in rw (e, bo))

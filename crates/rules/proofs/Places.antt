@@ -5,11 +5,11 @@ use mathlib.Core.Logic.{_≢_}
 use mathlib.Core.Bool.{Bool, _&&_, _||_, cond, false, false≢true, not, true}
 use mathlib.Core.List.{List, [], _∷_, map}
 use lib.Dec.{eqb, ltb}
-use lib.ListN.{List·getD-eq-default, List·getD-map, getD, length, replicate, set}
+use lib.ListN.{List·getD-eq-default, List·getD-map, getD, length, length-map, length-set, replicate, set}
 use native.Mathlib.Omega.{arith}
 use borrow.Author.Tests.{eqb-false, eqb-true, ltb-false, ltb-true, ne-eqb, not-true}
 use lib.Seq.{getD-set-other, getD-set-same, lt-length-set}
-use Rattle.rules.proofs.Sim.State.{GoodRegion}
+use Rattle.rules.proofs.Sim.State.{GoodRegion, GoodRegions}
 use Rattle.rules.specs.Commit.{afterCommit}
 use Rattle.rules.specs.Lists.{count, place}
 use Rattle.rules.specs.Reader.{nothing}
@@ -322,19 +322,19 @@ module _ (k : ℕ) (rs : List Region) (r : Region) (in′ : listed k rs ≡ true
       (λ d. rw (d, eqb-true j k d) (getD-set-same rs (placeOf k rs) r noRegion (place-listed k rs in′)))
       (λ d. rw d (getD-set-other rs (placeOf k rs) (placeOf j rs) r noRegion (place-apart j d))))
 
-  pub good-stored : GoodRegion r → Good rs → Good (set rs (placeOf k rs) r)
-  good-stored a g = each-set GoodRegion rs (placeOf k rs) r noRegion a g
-
   pub key-stored : (i : ℕ) → getD (set rs (placeOf k rs) r) i noRegion .key ≡ getD rs i noRegion .key
   key-stored i =
       rw (getD-set rs (placeOf k rs) i r noRegion (place-listed k rs in′))
       (test (eqb i (placeOf k rs)) (λ d. rw (d, eqb-true i (placeOf k rs) d, key-at k rs in′) e) (λ d. rw d))
 
-  pub unique-stored : Unique rs → Unique (set rs (placeOf k rs) r)
-  unique-stored un i n = rw (key-stored i, place-stored (getD rs i noRegion .key)) (un i (rw (key-stored i) at n))
-
-  pub once-stored : Once (r .deps) → DepsOnce rs → DepsOnce (set rs (placeOf k rs) r)
-  once-stored a f = each-set (λ x. Once (x .deps)) rs (placeOf k rs) r noRegion a f
+  pub regions-stored : GoodRegion r → Once (r .deps) → GoodRegions rs → GoodRegions (set rs (placeOf k rs) r)
+  regions-stored a o g =
+      record {
+        count = length-set rs (placeOf k rs) r ∙ g .count;
+        good = each-set GoodRegion rs (placeOf k rs) r noRegion a (g .good);
+        unique = λ i n. rw (key-stored i, place-stored (getD rs i noRegion .key)) (g .unique i (rw (key-stored i) at n));
+        deps-once = each-set (λ x. Once (x .deps)) rs (placeOf k rs) r noRegion o (g .deps-once);
+      }
 
 -- ---- region k, which is new, is stored at the first free place
 
@@ -360,11 +360,8 @@ module _ (k : ℕ) (rs : List Region) (r : Region) (new : any (isKey k) rs ≡ f
   old-place : (j : ℕ) → eqb j k ≡ false → eqb j 0 ≡ false → placeOf j (set rs (placeOf 0 rs) r) ≡ placeOf j rs
   old-place j d z = place-set (isKey j) rs (placeOf 0 rs) r noRegion (rw (e, free-key, flip j k d, flip j 0 z))
 
-  pub good-new : GoodRegion r → Good rs → Good (set rs (placeOf 0 rs) r)
+  good-new : GoodRegion r → Good rs → Good (set rs (placeOf 0 rs) r)
   good-new a g = each-set GoodRegion rs (placeOf 0 rs) r noRegion a g
-
-  pub once-new : Once (r .deps) → DepsOnce rs → DepsOnce (set rs (placeOf 0 rs) r)
-  once-new a f = each-set (λ x. Once (x .deps)) rs (placeOf 0 rs) r noRegion a f
 
   pub region-new : GoodRegion r → Good rs → (j : ℕ) → regionAt j (set rs (placeOf 0 rs) r) ≡ cond (eqb j k) r (regionAt j rs)
   region-new a g j =
@@ -379,7 +376,7 @@ module _ (k : ℕ) (rs : List Region) (r : Region) (new : any (isKey k) rs ≡ f
       (λ q. let y : eqb 0 j ≡ true = rw (q, free-key) at (place-true (isKey j) rs noRegion (any-place (isKey j) rs (rw q free-place))) in
       never y (flip j 0 z)))))
 
-  pub unique-new : Unique rs → Unique (set rs (placeOf 0 rs) r)
+  unique-new : Unique rs → Unique (set rs (placeOf 0 rs) r)
   unique-new un i n =
       test (eqb i (placeOf 0 rs))
       (λ d. let q : getD (set rs (placeOf 0 rs) r) i noRegion .key ≡ k = rw (getD-set rs (placeOf 0 rs) i r noRegion free-place, d) e in
@@ -388,6 +385,15 @@ module _ (k : ℕ) (rs : List Region) (r : Region) (new : any (isKey k) rs ≡ f
       let m : getD rs i noRegion .key ≢ 0 = rw q at n in
       let x : eqb (getD rs i noRegion .key) k ≡ false = any-none (isKey k) rs i noRegion new (held-lt i rs m) in
       rw (q, old-place (getD rs i noRegion .key) x (ne-eqb (getD rs i noRegion .key) 0 m)) (un i m))
+
+  pub regions-new : GoodRegion r → Once (r .deps) → GoodRegions rs → GoodRegions (set rs (placeOf 0 rs) r)
+  regions-new a o g =
+      record {
+        count = length-set rs (placeOf 0 rs) r ∙ g .count;
+        good = good-new a (g .good);
+        unique = unique-new (g .unique);
+        deps-once = each-set (λ x. Once (x .deps)) rs (placeOf 0 rs) r noRegion o (g .deps-once);
+      }
 
 -- ---- each region is changed and keeps its key
 
@@ -404,16 +410,19 @@ module _ (f : Region → Region) (rs : List Region) (f0 : f noRegion ≡ noRegio
   pub region-mapped : (j : ℕ) → regionAt j (map f rs) ≡ f (regionAt j rs)
   region-mapped j = rw (place-mapped j) (at-mapped (placeOf j rs))
 
-  pub good-mapped : ((r : Region) → GoodRegion r → GoodRegion (f r)) → Good rs → Good (map f rs)
-  good-mapped h g i = rw (at-mapped i) (h (getD rs i noRegion) (g i))
-
   pub unique-mapped : Unique rs → Unique (map f rs)
   unique-mapped un i n =
       let q : getD (map f rs) i noRegion .key ≡ getD rs i noRegion .key = rw (at-mapped i) (fk (getD rs i noRegion)) in
       rw (q, place-mapped (getD rs i noRegion .key)) (un i (rw q at n))
 
-  pub once-mapped : ((r : Region) → f r .deps ≡ r .deps) → DepsOnce rs → DepsOnce (map f rs)
-  once-mapped h g i = rw (at-mapped i, h (getD rs i noRegion)) (g i)
+  pub regions-mapped : ((r : Region) → GoodRegion r → GoodRegion (f r)) → ((r : Region) → f r .deps ≡ r .deps) → GoodRegions rs → GoodRegions (map f rs)
+  regions-mapped h d g =
+      record {
+        count = length-map rs f ∙ g .count;
+        good = λ i. rw (at-mapped i) (h (getD rs i noRegion) (g .good i));
+        unique = unique-mapped (g .unique);
+        deps-once = λ i. rw (at-mapped i, d (getD rs i noRegion)) (g .deps-once i);
+      }
 
 -- ---- region k commits
 

@@ -11,7 +11,7 @@ use native.Mathlib.Omega.{arith}
 use borrow.Author.Tests.{eqb-false, leb-true, lt-leb}
 use Rattle.rules.proofs.Codec.Bytes.{isLine, line-small}
 use Rattle.rules.proofs.Places.{getD-same, once-one}
-use Rattle.rules.proofs.Sim.State.{Kept, Logs, Shape, Sim, Told, by}
+use Rattle.rules.proofs.Sim.State.{GoodRegions, Kept, Logs, Shape, Sim, Told, by}
 use Rattle.rules.proofs.Sim.Base.{clear-waits}
 use Rattle.rules.proofs.Sim.Regions.{free-slots, state-free}
 use Rattle.rules.specs.Claim.{isByte, isByteMemory}
@@ -66,20 +66,24 @@ free-region j = getD-same 32 (placeOf j (replicate 32 noRegion)) noRegion
 none-listed : (j : ℕ) → listed j (replicate 32 noRegion) ≡ false
 none-listed j = test (eqb j 0) (λ z. rw z) (λ z. rw (z, flip j 0 z))
 
-shape-fresh : (z : Bool) (n : ℕ) → Shape (freshTables z n)
-shape-fresh z n =
+regions-fresh : GoodRegions (replicate 32 noRegion)
+regions-fresh =
     record {
-      regions = refl;
-      threads = refl;
-      logs = λ t. rw (getD-same 8 t noThread);
-      owner = length-replicate {A = ℕ} 256 0;
-      lock = length-replicate 256 false;
+      count = refl;
       good = λ j. rw (getD-same 32 j noRegion) (record { free = λ e. refl; deps = refl; slots = refl; distinct = free-slots 8; finished = λ e. absurd (false≢true e) });
       unique = λ j x. absurd (x (rw (getD-same 32 j noRegion)));
       deps-once = λ j. rw (getD-same 32 j noRegion) (once-one 0 3);
+    }
+
+shape-fresh : (z : Bool) (n : ℕ) → Shape (freshTables z n)
+shape-fresh z n =
+    record {
+      regions = regions-fresh;
+      threads = record { count = refl; logs = λ t. rw (getD-same 8 t noThread); range = λ t g. getD-same 8 t noThread };
+      owner = length-replicate {A = ℕ} 256 0;
+      lock = length-replicate 256 false;
       size = λ e. refl;
       cut-setup = λ e. absurd (false≢true e);
-      thread-range = λ t g. getD-same 8 t noThread;
     }
 
 logs-fresh : (m : Memory) → Logs (fresh m) (u.fresh (λ l. lineOf l (startLines m)))

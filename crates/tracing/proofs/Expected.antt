@@ -254,7 +254,7 @@ module _ {start : ℕ → List ℕ} {b : Board} {es : List Event} {s : u.State (
   image-short =
       let p = saved b in
       let z : Valid p = saved-valid rc i up in
-      omega (arith, image-long p z, z .whole, z .few, size-lines (p .threads) (p .lines) (z .size) .1, image-log b (i .shape .logs))
+      omega (arith, image-long p z, z .whole, z .few, size-lines (p .threads) (p .lines) (z .size) .1, image-log b (i .shape .threads .logs))
 
 -- ---- the text
 

@@ -89,7 +89,7 @@ module _ {start : ℕ → List ℕ} {b : Board} {es : List Account} {s : u.State
       test (ltb (threadOf k) (b .tables .size .threads))
       (λ a. ltb-true (threadOf k) (b .tables .size .threads) a)
       (λ a. let z = was-opened k (listed-live k e .0) in
-      let f : threadAt (threadOf k) (b .tables) ≡ noThread = i .shape .thread-range (threadOf k) (ltb-false (threadOf k) (b .tables .size .threads) a) in
+      let f : threadAt (threadOf k) (b .tables) ≡ noThread = i .shape .threads .range (threadOf k) (ltb-false (threadOf k) (b .tables .size .threads) a) in
       let g : openedIn (threadOf k) es ≡ 0 = sym (i .told .last (threadOf k)) ∙ ap (λ th. th .last) f in
       let n = eqb-false (numberOf k) 0 (z .0) in
       let o = z .1 in
@@ -98,7 +98,7 @@ module _ {start : ℕ → List ℕ} {b : Board} {es : List Account} {s : u.State
   -- ---- dependences
 
   pub four : (k : ℕ) → length (regionAt k (b .tables .regions) .deps) ≡ 4
-  four k = i .shape .good (placeOf k (b .tables .regions)) .deps
+  four k = i .shape .regions .good (placeOf k (b .tables .regions)) .deps
 
   pub dep-same : (k d : ℕ) → eqb d 0 ≡ false → isIn d (depsAt (b .tables .regions) k) ≡ s .dep k d
   dep-same k d n = padded-in (regionAt k (b .tables .regions) .deps) d (four k) n ∙ sym (i .dep k d ∙ rw n)

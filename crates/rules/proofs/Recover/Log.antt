@@ -181,7 +181,7 @@ module _ {start : ℕ → List ℕ} {b : Board} {es : List Account} {s : u.State
   small-rank t j n =
       let g = i .logs .entry t j n .rank in
       let l = count-le (isOf (entryAt t j (b .tables) .key)) (threadAt t (b .tables) .log) in
-      let q = i .shape .logs t in
+      let q = i .shape .threads .logs t in
       omega arith
 
   index-small : (t j : ℕ) → entryAt t j (b .tables) .key ≢ 0 → j < 32
@@ -189,7 +189,7 @@ module _ {start : ℕ → List ℕ} {b : Board} {es : List Account} {s : u.State
       test (ltb j 32)
       (λ a. ltb-true j 32 a)
       (λ a. let g = ltb-false j 32 a in
-      let q : length (threadAt t (b .tables) .log) ≤ j = rw (i .shape .logs t) g in
+      let q : length (threadAt t (b .tables) .log) ≤ j = rw (i .shape .threads .logs t) g in
       absurd (n (ap (λ e. e .key) (List·getD-eq-default (threadAt t (b .tables) .log) noEntry q))))
 
   spotted : (t o : ℕ) → isIn o (ordersOf b t) ≡ true → Spotted b s t o
@@ -216,7 +216,7 @@ module _ {start : ℕ → List ℕ} {b : Board} {es : List Account} {s : u.State
       let log = threadAt t (b .tables) .log in
       let p = order-parts (entryAt t j (b .tables)) n in
       let r = small-rank t j (p .1) in
-      let l : j < length log = rw (i .shape .logs t) (index-small t j (p .1)) in
+      let l : j < length log = rw (i .shape .threads .logs t) (index-small t j (p .1)) in
       place-only (λ e. eqb (orderOf e) (orderOf (entryAt t j (b .tables)))) log j noEntry l (is-same (orderOf (entryAt t j (b .tables))))
       (λ k e. let q : orderOf (entryAt t k (b .tables)) ≡ orderOf (entryAt t j (b .tables)) = eqb-true (orderOf (entryAt t k (b .tables))) (orderOf (entryAt t j (b .tables))) e in
       let w = order-parts (entryAt t k (b .tables)) (λ x. n (sym q ∙ x)) in
@@ -301,7 +301,7 @@ module _ {start : ℕ → List ℕ} {b : Board} {es : List Account} {s : u.State
       let pos : orderOf x ≡ 256 * x .key + x .rank = rw (p, ne-eqb (x .key) 0 kn) in
       let on : o ≢ 0 = omega arith in
       let sp : spot b t o ≡ j = spot-is t j on in
-      let lt : j < length log = rw (i .shape .logs t) (index-small t j kn) in
+      let lt : j < length log = rw (i .shape .threads .logs t) (index-small t j kn) in
       let within : isIn o (ordersOf b t) ≡ true
       = rising-is (map orderOf log) o ∙ rw (ne-eqb o 0 on) (any-map (eqb o) (λ y. eqb o (orderOf y)) orderOf log (λ y. refl) ∙ any-at (λ y. eqb o (orderOf y)) log j noEntry lt (is-same o)) in
       let g = i .logs .entry t j kn in
@@ -326,7 +326,7 @@ module _ {start : ℕ → List ℕ} {b : Board} {es : List Account} {s : u.State
       let log = threadAt t (b .tables) .log in
       let not-kept : (j : ℕ) → isEntry r l (entryAt t j (b .tables)) ≡ true → entryAt t j (b .tables) .persistent ≡ true → ⊥
       = λ j f p. let kn : entryAt t j (b .tables) .key ≢ 0 = λ w. n (sym (is-entry r l j f .0) ∙ w) in
-      let lt : j < length log = rw (i .shape .logs t) (index-small t j kn) in
+      let lt : j < length log = rw (i .shape .threads .logs t) (index-small t j kn) in
       true≢false (sym (any-at (λ e. isEntry r l e && e .persistent) log j noEntry lt (rw (f, p))) ∙ e) in
       chosen-none r l (entryOf b t) (ordersOf b t)
       (λ o f. test (isChosen r l (entryOf b t o))
@@ -423,7 +423,7 @@ module _ {start : ℕ → List ℕ} {b : Board} {es : List Account} {s : u.State
       let log = threadAt t (b .tables) .log in
       let l = rising-length 0 (length (map orderOf log)) (map orderOf log) in
       let q = length-map log orderOf in
-      let z = i .shape .logs t in
+      let z = i .shape .threads .logs t in
       let w = length-map (ordersOf b t) (entryOf b t) in
       omega arith
 

@@ -60,7 +60,7 @@ module _ {start : ℕ → List ℕ} {b : Board} {es : List Account} {s : u.State
         size = up;
         whole = length-take-le (b .tables .size .lines) (b .med) (omega arith);
         medium = all-take isLine (b .tables .size .lines) (b .med) (all-index isLine [] (b .med) (λ j k. i .memories .med-lines j (omega arith)));
-        few = let k = keys-length rs in let q = i .shape .regions in rw (saved-regions rs, length-map (keysOf rs) (savedAt rs)) (omega arith);
+        few = let k = keys-length rs in let q = i .shape .regions .count in rw (saved-regions rs, length-map (keysOf rs) (savedAt rs)) (omega arith);
         rising = rw (saved-regions rs) (rises-listed (stateAt rs) (depsAt rs) 0 (omega arith) (keys-rise rs));
         regions = rw (saved-regions rs)
             (all-in (fitsRegion (b .tables .size .threads)) (savedAt rs) (keysOf rs) (λ k e. fits-region k (sym (keys-listed rs k) ∙ e)));

@@ -172,7 +172,7 @@ module _ {m : ℕ → List ℕ} {b : Board} {es : List Account} {s : u.State (Li
 
       good-joined : GoodRegion r′
       good-joined =
-          let g : GoodRegion r = i .shape .good (placeOf k (b .tables .regions)) in
+          let g : GoodRegion r = i .shape .regions .good (placeOf k (b .tables .regions)) in
           record {
             free = λ e. absurd (eqb-false k 0 (listed-key k (b .tables .regions) in′) (sym key ∙ e));
             deps = length-joined o (r .deps) ∙ g .deps;
@@ -285,7 +285,7 @@ pub open-undone : {b : Board} {es : List Account} {s : u.State (List ℕ)} {h : 
     → listed k (b .tables .regions) ≡ true → regionAt k (b .tables .regions) .done ≡ false
 open-undone {b} k i o in′ =
     test (regionAt k (b .tables .regions) .done)
-    (λ d. never (sym (i .ended k in′) ∙ i .shape .good (placeOf k (b .tables .regions)) .finished d .0) (o .goes-on))
+    (λ d. never (sym (i .ended k in′) ∙ i .shape .regions .good (placeOf k (b .tables .regions)) .finished d .0) (o .goes-on))
     (λ d. d)
 
 -- the current region stores other dependences

@@ -12,9 +12,9 @@ use lib.Dec.{eqb, ltb}
 use lib.ListN.{getD, length-map, length-set}
 use native.Mathlib.Omega.{arith}
 use borrow.Author.Tests.{eq-eqb, eqb-false, eqb-true, leb-false, ltb-false, ltb-true, ne-eqb, not-false}
-use Rattle.rules.proofs.Places.{Good, any-map, count-map, getD-map, getD-set, good-free, good-mapped, key-at, listed-key, listed-mapped, once-mapped, region-mapped, region-none, unique-mapped}
+use Rattle.rules.proofs.Places.{Good, any-map, count-map, getD-map, getD-set, good-free, key-at, listed-key, listed-mapped, region-mapped, region-none, regions-mapped}
 use Rattle.rules.proofs.Sim.State.{GoodEntry, GoodRegion, Kept, Logs, Rest, Shape, Sim, Simulated, Told, by}
-use Rattle.rules.proofs.Sim.Base.{lines-256, memories-same, shape-thread, thread-stored, threads-8}
+use Rattle.rules.proofs.Sim.Base.{lines-256, memories-same, shape-kept, thread-stored, threads-8, threads-stored}
 use Rattle.rules.proofs.Sim.Flight.{flights, flown-rest}
 use Rattle.rules.proofs.Sim.Parts.{Flown, Owner, owned, owner-is, told-kept, unowned}
 use Rattle.rules.proofs.Sim.Write.{top-owner}
@@ -114,7 +114,7 @@ keptIn t k l x e = cond (eqb x t) (keptEntry k l e) e
 module _ {ts : Tables} (k l : ℕ) (nz : eqb k 0 ≡ false) (sh : Shape ts) (inT : threadOf k < ts .size .threads) where
   unlocked-thread : (x : ℕ) → threadAt x (unlocked k l ts) ≡ cond (eqb x (threadOf k)) (kept k l (threadAt (threadOf k) ts)) (threadAt x ts)
   unfolding unlocked
-  unlocked-thread x = thread-stored (threadOf k) (kept k l (threadAt (threadOf k) ts)) ts (omega (arith, threads-8 ts sh, sh .threads)) x
+  unlocked-thread x = thread-stored (threadOf k) (kept k l (threadAt (threadOf k) ts)) ts (omega (arith, threads-8 ts sh, sh .threads .count)) x
 
   unlocked-entry : (x j : ℕ) → entryAt x j (unlocked k l ts) ≡ keptIn (threadOf k) k l x (entryAt x j ts)
   unfolding kept
@@ -153,20 +153,10 @@ module _ {ts : Tables} (k l : ℕ) (nz : eqb k 0 ≡ false) (sh : Shape ts) (inT
   unlocked-shape : Shape (unlocked k l ts)
   unfolding unlocked kept
   unlocked-shape =
-      let z = shape-thread (threadOf k) (kept k l (threadAt (threadOf k) ts)) ts inT (length-map (threadAt (threadOf k) ts .log) (keptEntry k l) ∙ sh .logs (threadOf k)) sh in
-      record {
-        regions = length-map (ts .regions) (dropped k l) ∙ sh .regions;
-        threads = z .threads;
-        logs = z .logs;
-        owner = sh .owner;
-        lock = length-set (ts .lock) l false ∙ sh .lock;
-        good = good-mapped (dropped k l) (ts .regions) (dropped-none′ k l nz) (dropped-key k l nz) (dropped-good k l nz) (sh .good);
-        unique = unique-mapped (dropped k l) (ts .regions) (dropped-none′ k l nz) (dropped-key k l nz) (sh .unique);
-        deps-once = once-mapped (dropped k l) (ts .regions) (dropped-none′ k l nz) (dropped-key k l nz) (dropped-deps k l nz) (sh .deps-once);
-        size = sh .size;
-        cut-setup = sh .cut-setup;
-        thread-range = z .thread-range;
-      }
+      shape-kept ts _ refl refl
+      (regions-mapped (dropped k l) (ts .regions) (dropped-none′ k l nz) (dropped-key k l nz) (dropped-good k l nz) (dropped-deps k l nz) (sh .regions))
+      (threads-stored (threadOf k) (kept k l (threadAt (threadOf k) ts)) ts inT (length-map (threadAt (threadOf k) ts .log) (keptEntry k l) ∙ sh .threads .logs (threadOf k)) sh)
+      (sh .owner) (length-set (ts .lock) l false ∙ sh .lock) sh
 
 -- ---- the line is unlocked
 
@@ -196,7 +186,7 @@ module _ {b : Board} {es : List Account} {s : u.State (List ℕ)} {h : v.History
       test (ltb (threadOf (e .rid)) (b .tables .size .threads))
       (λ d. ltb-true (threadOf (e .rid)) (b .tables .size .threads) d)
       (λ d. let z : threadAt (threadOf (e .rid)) (b .tables) ≡ noThread
-      = i .shape .thread-range (threadOf (e .rid)) (ltb-false (threadOf (e .rid)) (b .tables .size .threads) d) in
+      = i .shape .threads .range (threadOf (e .rid)) (ltb-false (threadOf (e .rid)) (b .tables .size .threads) d) in
       let y : any (isEntry (e .rid) l) (threadAt (threadOf (e .rid)) (b .tables) .log) ≡ true = i .logs .present (e .rid) l (rw (is, is-same (e .rid))) in
       never (rw z at y) (rw (flip (e .rid) 0 rid-nz)))
 
@@ -207,11 +197,11 @@ module _ {b : Board} {es : List Account} {s : u.State (List ℕ)} {h : v.History
   ack-slot : (x q : ℕ) → put l (λ a. cond (eqb a (e .rid)) (s .slot l a) u.Clear) (s .slot) x q
       ≡ carryOf (b .car) x (stateOf x (regionAt q (map (dropped (e .rid) l) (b .tables .regions)) .slots))
   ack-slot x q =
-      rw (dropped-slots (e .rid) l rid-nz q (b .tables .regions) (i .shape .good) in′)
+      rw (dropped-slots (e .rid) l rid-nz q (b .tables .regions) (i .shape .regions .good) in′)
       (test (eqb x l)
       (λ d. rw (d, eqb-true x l d) (test (eqb q (e .rid))
       (λ f. rw f (i .slot l q))
-      (λ f. rw (f, state-dropped l (i .shape .good (placeOf q (b .tables .regions)) .distinct))
+      (λ f. rw (f, state-dropped l (i .shape .regions .good (placeOf q (b .tables .regions)) .distinct))
       (sym (emptied (b .car) l (stateOf l (regionAt q (b .tables .regions) .slots)) (λ w. others-calm q f (i .slot l q ∙ w)))))))
       (λ d. rw d (test (eqb q (e .rid))
       (λ f. rw f (i .slot x q))
@@ -328,12 +318,12 @@ module _ {b : Board} {es : List Account} {s : u.State (List ℕ)} {h : v.History
       rw (getD-set (b .tables .lock) l x false false (rw (i .shape .lock) inside))
       (test (eqb x l)
       (λ d. absurd (others-calm q ne (i .slot l q ∙ ap (carryOf (b .car) l) (waiting-stays (stateOf l (regionAt q (b .tables .regions) .slots)) n
-      (sym (state-dropped l (i .shape .good (placeOf q (b .tables .regions)) .distinct)) ∙ (rw (slots, ne, eqb-true x l d) at w))))))
+      (sym (state-dropped l (i .shape .regions .good (placeOf q (b .tables .regions)) .distinct)) ∙ (rw (slots, ne, eqb-true x l d) at w))))))
       (λ d. rw d (re .flown q x n ended (sym (state-dropped-other l x (regionAt q (b .tables .regions) .slots) d) ∙ (rw (slots, ne) at w)))))
     where
       slots : regionAt q (map (dropped (e .rid) l) (b .tables .regions)) .slots
           ≡ cond (eqb q (e .rid)) (regionAt q (b .tables .regions) .slots) (map (droppedSlot l) (regionAt q (b .tables .regions) .slots))
-      slots = dropped-slots (e .rid) l rid-nz q (b .tables .regions) (i .shape .good) in′
+      slots = dropped-slots (e .rid) l rid-nz q (b .tables .regions) (i .shape .regions .good) in′
 
       ended : (eqb n 4 || regionAt q (b .tables .regions) .ended) ≡ true
       ended =

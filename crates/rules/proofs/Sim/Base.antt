@@ -11,12 +11,12 @@ use mathlib.Core.Bool.{Bool, _&&_, cond, false, true}
 use mathlib.Core.Option.{Option, some}
 use mathlib.Core.List.{List, [], _∷_}
 use lib.Dec.{eqb, leb, ltb}
-use lib.ListN.{getD, length, length-set}
+use lib.ListN.{getD, length, length-set, set}
 use native.Mathlib.Omega.{arith}
 use borrow.Author.Tests.{leb-true, ltb-true, ne-eqb}
 use Rattle.rules.proofs.Recover.Live.{numbered}
 use Rattle.rules.proofs.Places.{eqb-swap, getD-set}
-use Rattle.rules.proofs.Sim.State.{GoodEntry, Logs, Memories, Rest, Shape, Sim, Told, conv, none}
+use Rattle.rules.proofs.Sim.State.{GoodEntry, GoodRegions, GoodThreads, Logs, Memories, Rest, Shape, Sim, Told, conv, none}
 use Rattle.rules.proofs.Views.{entryAt}
 use Rattle.rules.specs.Access.{logged}
 use Rattle.rules.specs.History.{Account, Change, depthIn, endsIn, lastWriter, linesIn, openedIn, usesIn, writesIn}
@@ -101,25 +101,34 @@ logs-same {b} {b′} {s} f o z g =
     good t i e x =
         record { thread = x .thread; line = rw z (x .line); rank = rw (f t) (x .rank); old = rw o (x .old); flight = x .flight }
 
--- thread t gets another depth, another number
-pub shape-thread : (t : ℕ) (th : Thread) (ts : Tables) → t < ts .size .threads → length (th .log) ≡ 32 → Shape ts → Shape (withThread t th ts)
-shape-thread t th ts h e sh =
+-- thread t, which is in use, is stored anew
+pub threads-stored : (t : ℕ) (th : Thread) (ts : Tables) → t < ts .size .threads → length (th .log) ≡ 32 → Shape ts
+    → GoodThreads (ts .size .threads) (set (ts .threads) t th)
+threads-stored t th ts h e sh =
     record {
-      regions = sh .regions;
-      threads = length-set (ts .threads) t th ∙ sh .threads;
-      logs = λ k. rw (at k) (test (eqb k t) (λ d. rw d e) (λ d. rw d (sh .logs k)));
-      owner = sh .owner;
-      lock = sh .lock;
-      good = sh .good;
-      unique = sh .unique;
-      deps-once = sh .deps-once;
-      size = sh .size;
-      cut-setup = sh .cut-setup;
-      thread-range = λ k g. rw (at k, ne-eqb k t (λ q. omega arith)) (sh .thread-range k g);
+      count = length-set (ts .threads) t th ∙ sh .threads .count;
+      logs = λ k. rw (at k) (test (eqb k t) (λ d. rw d e) (λ d. rw d (sh .threads .logs k)));
+      range = λ k g. rw (at k, ne-eqb k t (λ q. omega arith)) (sh .threads .range k g);
     }
   where
     at : (k : ℕ) → threadAt k (withThread t th ts) ≡ cond (eqb k t) th (threadAt k ts)
-    at = thread-stored t th ts (omega (arith, threads-8 ts sh, sh .threads))
+    at = thread-stored t th ts (omega (arith, threads-8 ts sh, sh .threads .count))
+
+-- the tables after an event that is neither setup nor cut: what its regions, threads, owners and locks are to be
+pub shape-kept : (ts ts′ : Tables) → ts′ .size ≡ ts .size → ts′ .cut ≡ ts .cut → GoodRegions (ts′ .regions) → GoodThreads (ts .size .threads) (ts′ .threads)
+    → length (ts′ .owner) ≡ 256 → length (ts′ .lock) ≡ 256 → Shape ts → Shape ts′
+shape-kept ts ts′ z c rs ths ow lo sh =
+    record {
+      regions = rs;
+      threads = rw z ths;
+      owner = ow;
+      lock = lo;
+      size = rw z (sh .size);
+      cut-setup = rw (z, c) (sh .cut-setup);
+    }
+
+pub shape-thread : (t : ℕ) (th : Thread) (ts : Tables) → t < ts .size .threads → length (th .log) ≡ 32 → Shape ts → Shape (withThread t th ts)
+shape-thread t th ts h e sh = shape-kept ts _ refl refl (sh .regions) (threads-stored t th ts h e sh) (sh .owner) (sh .lock) sh
 
 -- ---- the history
 

@@ -12,9 +12,9 @@ use lib.Dec.{eqb, leb, ltb}
 use lib.ListN.{List·getD-eq-default, getD, length, length-map, length-set, replicate}
 use native.Mathlib.Omega.{arith}
 use borrow.Author.Tests.{eqb-false, eqb-true, leb-true, ltb-false, ltb-true, ne-eqb, not-false, not-true}
-use Rattle.rules.proofs.Places.{Once, Unique, any-map, any-none, at-commit, count-le, count-map, count-zero, getD-map, good-free, good-mapped, held-commit, key-at, listed-any, listed-at, listed-commit, listed-key, listed-mapped, once-mapped, once-one, region-at, region-commit, region-mapped, region-none, unique-commit, unique-mapped}
+use Rattle.rules.proofs.Places.{Once, Unique, any-map, any-none, at-commit, count-le, count-map, count-zero, getD-map, good-free, held-commit, key-at, listed-any, listed-at, listed-commit, listed-key, listed-mapped, once-one, region-at, region-commit, region-mapped, region-none, regions-mapped, unique-commit}
 use Rattle.rules.proofs.Sim.State.{Finished, GoodEntry, GoodRegion, Kept, Logs, Shape, Sim, Simulated, Told, by}
-use Rattle.rules.proofs.Sim.Base.{clear-waits, logs-same, memories-same, thread-stored, threads-8, told-alike}
+use Rattle.rules.proofs.Sim.Base.{clear-waits, logs-same, memories-same, shape-kept, thread-stored, threads-8, threads-stored, told-alike}
 use Rattle.rules.proofs.Sim.Parts.{Flown}
 use Rattle.rules.proofs.Sim.Regions.{free-slots, state-free}
 use Rattle.rules.proofs.SlotLaws.{no-slots}
@@ -80,19 +80,8 @@ module _ {b : Board} {es : List Account} {s : u.State (List ℕ)} {h : v.History
   unfolding doneRegion
   shape-done =
       let sh : Shape (b .tables) = i .shape in
-      record {
-        regions = length-map (b .tables .regions) doneRegion ∙ sh .regions;
-        threads = sh .threads;
-        logs = sh .logs;
-        owner = sh .owner;
-        lock = sh .lock;
-        good = good-mapped doneRegion (b .tables .regions) done-free done-key good-done (sh .good);
-        unique = unique-mapped doneRegion (b .tables .regions) done-free done-key (sh .unique);
-        deps-once = once-mapped doneRegion (b .tables .regions) done-free done-key (λ r. refl) (sh .deps-once);
-        size = sh .size;
-        cut-setup = sh .cut-setup;
-        thread-range = sh .thread-range;
-      }
+      shape-kept (b .tables) _ refl refl (regions-mapped doneRegion (b .tables .regions) done-free done-key good-done (λ r. refl) (sh .regions))
+      (sh .threads) (sh .owner) (sh .lock) sh
 
   sim-done : Sim (afterDone b) es s h
   unfolding doneRegion ownerOf
@@ -289,7 +278,7 @@ module _ {m : ℕ → List ℕ} {b : Board} {es : List Account} {s : u.State (Li
       (and-true (isHeld (regionAt k (b .tables .regions))) (regionAt k (b .tables .regions) .done && all (eqb 0) (regionAt k (b .tables .regions) .deps)) cm .1)
 
   is-finished : (regionAt k (b .tables .regions) .ended ≡ true) × (hasSlot (regionAt k (b .tables .regions)) ≡ false)
-  is-finished = i .shape .good (placeOf k (b .tables .regions)) .finished (is-done .0)
+  is-finished = i .shape .regions .good (placeOf k (b .tables .regions)) .finished (is-done .0)
 
   k-over : s .over k ≡ true
   k-over = sym (i .ended k in′) ∙ is-finished .0
@@ -310,7 +299,7 @@ module _ {m : ℕ → List ℕ} {b : Board} {es : List Account} {s : u.State (Li
   k-thread =
       test (ltb (threadOf k) (b .tables .size .threads))
       (λ d. ltb-true (threadOf k) (b .tables .size .threads) d)
-      (λ d. let e : threadAt (threadOf k) (b .tables) ≡ noThread = i .shape .thread-range (threadOf k) (ltb-false (threadOf k) (b .tables .size .threads) d) in
+      (λ d. let e : threadAt (threadOf k) (b .tables) ≡ noThread = i .shape .threads .range (threadOf k) (ltb-false (threadOf k) (b .tables .size .threads) d) in
       let z : openedIn (threadOf k) es ≡ 0 = sym (i .told .last (threadOf k)) ∙ rw e in
       let x = and-true (not (eqb (numberOf k) 0)) (leb (numberOf k) (openedIn (threadOf k) es)) (sym (i .told .born k) ∙ k-born) in
       absurd (omega (arith, z, leb-true (numberOf k) (openedIn (threadOf k) es) (x .1), eqb-false (numberOf k) 0 (not-true (eqb (numberOf k) 0) (x .0)))))
@@ -323,7 +312,7 @@ module _ {m : ℕ → List ℕ} {b : Board} {es : List Account} {s : u.State (Li
   unfolding commit
   thread-commit =
       thread-stored (threadOf k) (freed k (threadAt (threadOf k) (b .tables))) (withRegions (map (afterCommit k) (b .tables .regions)) (b .tables))
-      (omega (arith, k-thread, threads-8 (b .tables) (i .shape), i .shape .threads))
+      (omega (arith, k-thread, threads-8 (b .tables) (i .shape), i .shape .threads .count))
 
   -- an entry of another thread is not of region k
   entry-other : (t j : ℕ) → eqb t (threadOf k) ≡ false → freedEntry k (entryAt t j (b .tables)) ≡ entryAt t j (b .tables)
@@ -358,13 +347,13 @@ module _ {m : ℕ → List ℕ} {b : Board} {es : List Account} {s : u.State (Li
   isKey-at j =
       test (listed j (b .tables .regions))
       (λ d. rw (key-at j (b .tables .regions) d))
-      (λ d. rw (region-none j (b .tables .regions) (good-free (b .tables .regions) (i .shape .good)) d, flip k 0 nz)
+      (λ d. rw (region-none j (b .tables .regions) (good-free (b .tables .regions) (i .shape .regions .good)) d, flip k 0 nz)
       (sym (ne-eqb j k (λ q. never (rw q in′) d))))
 
   region-after : (j : ℕ) → regionAt j (map (afterCommit k) (b .tables .regions))
       ≡ cond (eqb j k) noRegion (withDeps (map (withoutDep k) (regionAt j (b .tables .regions) .deps)) (regionAt j (b .tables .regions)))
   unfolding afterCommit
-  region-after j = region-commit k (b .tables .regions) nz (good-free (b .tables .regions) (i .shape .good)) j ∙ rw (isKey-at j)
+  region-after j = region-commit k (b .tables .regions) nz (good-free (b .tables .regions) (i .shape .regions .good)) j ∙ rw (isKey-at j)
 
   listed-after : (j : ℕ) → listed j (map (afterCommit k) (b .tables .regions)) ≡ (not (eqb j k) && listed j (b .tables .regions))
   listed-after = listed-commit k (b .tables .regions) nz
@@ -373,19 +362,15 @@ module _ {m : ℕ → List ℕ} {b : Board} {es : List Account} {s : u.State (Li
   unfolding commit freed
   shape-commit =
       let sh : Shape (b .tables) = i .shape in
-      record {
-        regions = length-map (b .tables .regions) (afterCommit k) ∙ sh .regions;
-        threads = length-set (b .tables .threads) (threadOf k) (freed k (threadAt (threadOf k) (b .tables))) ∙ sh .threads;
-        logs = λ t. rw (log-commit t) (length-map (threadAt t (b .tables) .log) (freedEntry k) ∙ sh .logs t);
-        owner = sh .owner;
-        lock = sh .lock;
-        good = λ j. rw (at-commit k (b .tables .regions) nz j) (good-after k (getD (b .tables .regions) j noRegion) nz (sh .good j));
-        unique = unique-commit k (b .tables .regions) nz (sh .unique);
-        deps-once = λ j. rw (at-commit k (b .tables .regions) nz j) (once-after k (getD (b .tables .regions) j noRegion) (sh .deps-once j));
-        size = sh .size;
-        cut-setup = sh .cut-setup;
-        thread-range = λ t g. rw (thread-commit t, ne-eqb t (threadOf k) (λ q. omega (arith, k-thread))) (sh .thread-range t g);
-      }
+      shape-kept (b .tables) _ refl refl
+      (record {
+        count = length-map (b .tables .regions) (afterCommit k) ∙ sh .regions .count;
+        good = λ j. rw (at-commit k (b .tables .regions) nz j) (good-after k (getD (b .tables .regions) j noRegion) nz (sh .regions .good j));
+        unique = unique-commit k (b .tables .regions) nz (sh .regions .unique);
+        deps-once = λ j. rw (at-commit k (b .tables .regions) nz j) (once-after k (getD (b .tables .regions) j noRegion) (sh .regions .deps-once j));
+      })
+      (threads-stored (threadOf k) (freed k (threadAt (threadOf k) (b .tables))) (b .tables) k-thread
+      (length-map (threadAt (threadOf k) (b .tables) .log) (freedEntry k) ∙ sh .threads .logs (threadOf k)) sh) (sh .owner) (sh .lock) sh
 
   logs-commit : Logs (withTables (commit k (b .tables)) b) (u.act s (u.Commit k))
   unfolding u.act commit
@@ -499,7 +484,7 @@ commits-one : {m : Memory} {b : Board} {es : List Account} (k : ℕ) → listed 
 commits-one k in′ cm (by s h rc i) f = (by (u.act s (u.Commit k)) h (reach-commit rc i k in′ cm) (sim-commit rc i k in′ cm), flown-commit rc i k in′ cm f)
 
 pub unique-regions : {m : Memory} {b : Board} {es : List Account} → Simulated m b es → Unique (b .tables .regions)
-unique-regions (by s h rc i) = i .shape .unique
+unique-regions (by s h rc i) = i .shape .regions .unique
 
 -- no region of the list commits
 none-commits : (rs : List Region) → any commits rs ≡ false → (j : ℕ) → commits (getD rs j noRegion) ≡ false

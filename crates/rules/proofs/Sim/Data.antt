@@ -50,7 +50,7 @@ quiet-data l es = record { depth = λ t. refl; opened = λ t. refl; lines = refl
 module _ {m : ℕ → List ℕ} {b : Board} {es : List Account} {s : u.State (List ℕ)} {h : v.History (List ℕ)} (k l : ℕ) (rc : Reach m s h) (i : Sim b es s h)
     (ln : l < 256) (in′ : listed k (b .tables .regions) ≡ true) (fl : any (carries l) (regionAt k (b .tables .regions) .slots) ≡ true) where
   good-at : GoodRegion (regionAt k (b .tables .regions))
-  good-at = i .shape .good (placeOf k (b .tables .regions))
+  good-at = i .shape .regions .good (placeOf k (b .tables .regions))
 
   key : landedRegion k l b .key ≡ k
   key = key-at k (b .tables .regions) in′
@@ -181,10 +181,10 @@ lands l m b es r kept = go (kept .simulated)
 
     go : Simulated m b es → Simulated m (dataAck l b) (Nothing ∷ es) × Flown (dataAck l b)
     go (by s h rc i) =
-        let in′ : listed k (b .tables .regions) ≡ true = found-listed (b .tables .regions) l (i .shape .good) flying in
+        let in′ : listed k (b .tables .regions) ≡ true = found-listed (b .tables .regions) l (i .shape .regions .good) flying in
         let at : placeOf k (b .tables .regions) ≡ flightPlace l (b .tables .regions)
-        = i .shape .unique (flightPlace l (b .tables .regions)) (found-key (b .tables .regions) l (i .shape .good) flying) in
-        let fl : any (carries l) (regionAt k (b .tables .regions) .slots) ≡ true = rw at (found-flight (b .tables .regions) l (i .shape .good) flying) in
+        = i .shape .regions .unique (flightPlace l (b .tables .regions)) (found-key (b .tables .regions) l (i .shape .regions .good) flying) in
+        let fl : any (carries l) (regionAt k (b .tables .regions) .slots) ≡ true = rw at (found-flight (b .tables .regions) l (i .shape .regions .good) flying) in
         rw (ack-is k l rc i ln in′ fl (sym at))
         (by _ _ (landed-reach k l rc i ln in′ fl) (landed-sim k l rc i ln in′ fl), landed-flown k l rc i ln in′ fl (kept .rest .flown))
 

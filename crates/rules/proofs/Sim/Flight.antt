@@ -55,7 +55,7 @@ flownLines k b = carried (b .tables .lock) (regionAt k (b .tables .regions) .end
 module _ {m : ℕ → List ℕ} {b : Board} {es : List Account} {s : u.State (List ℕ)} {h : v.History (List ℕ)} (k : ℕ)
     (rc : Reach m s h) (i : Sim b es s h) (in′ : listed k (b .tables .regions) ≡ true) where
   good : GoodRegion (regionAt k (b .tables .regions))
-  good = i .shape .good (placeOf k (b .tables .regions))
+  good = i .shape .regions .good (placeOf k (b .tables .regions))
 
   good-flown : GoodRegion (flownRegion k b)
   good-flown =

@@ -10,7 +10,7 @@ use mathlib.Core.List.{List, [], _∷_}
 use lib.Dec.{eqb}
 use lib.ListN.{getD, length-set, set}
 use borrow.Author.Tests.{eqb-true}
-use Rattle.rules.proofs.Places.{Once, good-stored, listed-stored, once-stored, region-stored, unique-stored}
+use Rattle.rules.proofs.Places.{Once, listed-stored, region-stored, regions-stored}
 use Rattle.rules.proofs.Sim.State.{GoodRegion, Logs, Shape, Sim, Told, conv}
 use Rattle.rules.proofs.Views.{stateOf}
 use Rattle.rules.specs.Access.{logged}
@@ -25,6 +25,7 @@ use Rattle.undo.proofs.Main.{structured}
 use Rattle.undo.specs.Claim.{Reach}
 use Rattle.undo.specs.History.{History, used}
 use Rattle.undo.specs.Machine.{Open, State}
+use Rattle.rules.proofs.Sim.Base.{shape-kept}
 
 -- between two events no slot that could fly waits
 abbrev pub Flown : Board → Type 0
@@ -94,20 +95,7 @@ logs-kept {b} {s} {s′} rs cu me ca ch lo i =
 
 module _ (ts : Tables) (k : ℕ) (r : Region) (in′ : listed k (ts .regions) ≡ true) (e : r .key ≡ k) where
   pub shape-stored : GoodRegion r → Once (r .deps) → Shape ts → Shape (withRegions (set (ts .regions) (placeOf k (ts .regions)) r) ts)
-  shape-stored g o i =
-      record {
-        regions = length-set (ts .regions) (placeOf k (ts .regions)) r ∙ i .regions;
-        threads = i .threads;
-        logs = i .logs;
-        owner = i .owner;
-        lock = i .lock;
-        good = good-stored k (ts .regions) r in′ e g (i .good);
-        unique = unique-stored k (ts .regions) r in′ e (i .unique);
-        deps-once = once-stored k (ts .regions) r in′ e o (i .deps-once);
-        size = i .size;
-        cut-setup = i .cut-setup;
-        thread-range = i .thread-range;
-      }
+  shape-stored g o i = shape-kept ts _ refl refl (regions-stored k (ts .regions) r in′ e g o (i .regions)) (i .threads) (i .owner) (i .lock) i
 
   pub owner-stored : (l : ℕ) → ownerOf l (withRegions (set (ts .regions) (placeOf k (ts .regions)) r) ts) ≡ ownerOf l ts
   unfolding ownerOf
@@ -120,7 +108,7 @@ module _ (ts : Tables) (k : ℕ) (r : Region) (in′ : listed k (ts .regions) �
 
 -- a region's dependences are a set
 pub once-at : {ts : Tables} (k : ℕ) → Shape ts → Once (regionAt k (ts .regions) .deps)
-once-at {ts} k i = i .deps-once (placeOf k (ts .regions))
+once-at {ts} k i = i .regions .deps-once (placeOf k (ts .regions))
 
 -- ---- a line's owner
 

@@ -11,9 +11,9 @@ use lib.ListN.{List·getD-eq-default, getD, getD-replicate, length-set, replicat
 use native.Mathlib.Omega.{arith}
 use borrow.Author.Tests.{eqb-false, eqb-true, le-leb, leb-false, leb-true, lt-leb, ltb-false, ltb-true, ne-eqb, not-false, not-true}
 use Rattle.rules.proofs.Recover.Rising.{no-more}
-use Rattle.rules.proofs.Places.{count-room, each-set, eqb-swap, getD-set, good-free, good-new, good-stored, key-at, listed-key, listed-new, listed-stored, once-new, once-one, once-stored, region-new, region-none, region-stored, unique-new, unique-stored, unlisted-any}
+use Rattle.rules.proofs.Places.{count-room, each-set, eqb-swap, getD-set, good-free, key-at, listed-key, listed-new, listed-stored, once-one, region-new, region-none, region-stored, regions-new, regions-stored, unlisted-any}
 use Rattle.rules.proofs.Sim.State.{Distinct, Finished, GoodRegion, Keeps, Kept, Rest, Shape, Sim, Simulated, Told, by, more, none}
-use Rattle.rules.proofs.Sim.Base.{Alike, alter, key-number, key-split, key-thread, logs-over, logs-same, memories-same, owner-born, rest-alter, shape-thread, sim-alter, thread-stored, threads-8, told-alike}
+use Rattle.rules.proofs.Sim.Base.{Alike, alter, key-number, key-split, key-thread, logs-over, logs-same, memories-same, owner-born, rest-alter, shape-kept, shape-thread, sim-alter, thread-stored, threads-8, threads-stored, told-alike}
 use Rattle.rules.proofs.Sim.Flight.{flights, flown-rest}
 use Rattle.rules.proofs.Sim.Parts.{Flown, once-at, open-listed}
 use Rattle.rules.proofs.Views.{entryAt, isOpened, stateOf}
@@ -89,19 +89,7 @@ keeps-cut m b es q r k =
         let sh : Shape (b .tables) = i .shape in
         by s h rc
         (sim-alter {b = b} (b .tables .size) true (b .tables .clock) (b .tables .threads)
-        (record {
-          regions = sh .regions;
-          threads = sh .threads;
-          logs = sh .logs;
-          owner = sh .owner;
-          lock = sh .lock;
-          good = sh .good;
-          unique = sh .unique;
-          deps-once = sh .deps-once;
-          size = sh .size;
-          cut-setup = λ e. set-up;
-          thread-range = sh .thread-range;
-        })
+        (record { regions = sh .regions; threads = sh .threads; owner = sh .owner; lock = sh .lock; size = sh .size; cut-setup = λ e. set-up })
         (logs-same {b = b} (λ t. refl) refl refl (i .logs))
         (told-alike {b = b} (alike-cut es) (i .told .depth) (λ t. refl) (i .told .lines) refl (i .told)) i)
 
@@ -124,7 +112,7 @@ keeps-setup n l m b es q r k =
     go : Simulated m b es → Simulated m (withTables (alter (size′ n l b) (b .tables .cut) (b .tables .clock) (b .tables .threads) (b .tables)) b) (Sets l ∷ es)
     go (by s h rc i) =
         let sh : Shape (b .tables) = i .shape in
-        let none′ : (t : ℕ) → threadAt t (b .tables) ≡ noThread = λ t. sh .thread-range t (rw (sh .size (facts .1)) (omega arith)) in
+        let none′ : (t : ℕ) → threadAt t (b .tables) ≡ noThread = λ t. sh .threads .range t (rw (sh .size (facts .1)) (omega arith)) in
         let nothing : (t j : ℕ) → entryAt t j (b .tables) .key ≡ 0
         = λ t j. rw (none′ t) (test (ltb j 32)
         (λ e. ap {A = Entry} (λ x. x .key) (getD-replicate 32 j noEntry noEntry (ltb-true j 32 e)))
@@ -133,16 +121,11 @@ keeps-setup n l m b es q r k =
         (sim-alter {b = b} (size′ n l b) (b .tables .cut) (b .tables .clock) (b .tables .threads)
         (record {
           regions = sh .regions;
-          threads = sh .threads;
-          logs = sh .logs;
+          threads = record { count = sh .threads .count; logs = sh .threads .logs; range = λ t g. none′ t };
           owner = sh .owner;
           lock = sh .lock;
-          good = sh .good;
-          unique = sh .unique;
-          deps-once = sh .deps-once;
           size = λ e. never (facts .0) e;
           cut-setup = λ e. facts .0;
-          thread-range = λ t g. none′ t;
         })
         (record {
           entry = λ t j n. absurd (n (nothing t j));
@@ -170,10 +153,10 @@ kept-depth m b es e t d lt a f g k =
     go : Simulated m b es → Simulated m (withTables (deep t d (b .tables)) b) (e ∷ es)
     go (by s h rc i) =
         let at : (k : ℕ) → threadAt k (deep t d (b .tables)) ≡ cond (eqb k t) (record { depth = d; last = threadAt t (b .tables) .last; log = threadAt t (b .tables) .log }) (threadAt k (b .tables))
-        = thread-stored t (record { depth = d; last = threadAt t (b .tables) .last; log = threadAt t (b .tables) .log }) (b .tables) (omega (arith, threads-8 (b .tables) (i .shape), i .shape .threads)) in
+        = thread-stored t (record { depth = d; last = threadAt t (b .tables) .last; log = threadAt t (b .tables) .log }) (b .tables) (omega (arith, threads-8 (b .tables) (i .shape), i .shape .threads .count)) in
         by s h rc
         (sim-alter {b = b} (b .tables .size) (b .tables .cut) (b .tables .clock) (deep t d (b .tables) .threads)
-        (shape-thread t (record { depth = d; last = threadAt t (b .tables) .last; log = threadAt t (b .tables) .log }) (b .tables) lt (i .shape .logs t) (i .shape))
+        (shape-thread t (record { depth = d; last = threadAt t (b .tables) .last; log = threadAt t (b .tables) .log }) (b .tables) lt (i .shape .threads .logs t) (i .shape))
         (logs-same {b = b} (λ k. rw (at k) (test (eqb k t) (λ y. rw (y, eqb-true k t y)) (λ y. rw y))) refl refl (i .logs))
         (told-alike {b = b} a
         (λ k. rw (at k, f k) (test (eqb k t) (λ y. rw y) (λ y. rw y (i .told .depth k))))
@@ -278,7 +261,7 @@ module _ {m : ℕ → List ℕ} {b : Board} {es : List Account} {s : u.State (Li
     new = unlisted-any (newKey t (b .tables)) (b .tables .regions) k-nz unlisted
 
     free : any (isKey 0) (b .tables .regions) ≡ true
-    free = count-room isHeld (isKey 0) (b .tables .regions) (λ r e. not-false (eqb (r .key) 0) e) (rw (i .shape .regions) room)
+    free = count-room isHeld (isKey 0) (b .tables .regions) (λ r e. not-false (eqb (r .key) 0) e) (rw (i .shape .regions .count) room)
 
     good-begun : GoodRegion (newRegion t (b .tables))
     good-begun =
@@ -292,7 +275,7 @@ module _ {m : ℕ → List ℕ} {b : Board} {es : List Account} {s : u.State (Li
 
     region-begun : (j : ℕ) → regionAt j (set (b .tables .regions) (placeOf 0 (b .tables .regions)) (newRegion t (b .tables)))
         ≡ cond (eqb j (newKey t (b .tables))) (newRegion t (b .tables)) (regionAt j (b .tables .regions))
-    region-begun = region-new (newKey t (b .tables)) (b .tables .regions) (newRegion t (b .tables)) new k-nz free refl good-begun (i .shape .good)
+    region-begun = region-new (newKey t (b .tables)) (b .tables .regions) (newRegion t (b .tables)) new k-nz free refl good-begun (i .shape .regions .good)
 
     pub listed-begun : (j : ℕ) → listed j (set (b .tables .regions) (placeOf 0 (b .tables .regions)) (newRegion t (b .tables)))
         ≡ (eqb j (newKey t (b .tables)) || listed j (b .tables .regions))
@@ -303,26 +286,16 @@ module _ {m : ℕ → List ℕ} {b : Board} {es : List Account} {s : u.State (Li
 
     thread-begun : (j : ℕ) → threadAt j (opened t (b .tables)) ≡ cond (eqb j t) opener (threadAt j (b .tables))
     unfolding opened
-    thread-begun j = getD-set (b .tables .threads) t j opener noThread (omega (arith, threads-8 (b .tables) (i .shape), i .shape .threads))
+    thread-begun j = getD-set (b .tables .threads) t j opener noThread (omega (arith, threads-8 (b .tables) (i .shape), i .shape .threads .count))
 
     shape-begun : Shape (opened t (b .tables))
     unfolding opened
     shape-begun =
         let sh : Shape (b .tables) = i .shape in
-        record {
-          regions = length-set (b .tables .regions) (placeOf 0 (b .tables .regions)) (newRegion t (b .tables)) ∙ sh .regions;
-          threads = length-set (b .tables .threads) t opener ∙ sh .threads;
-          logs = λ j. rw (thread-begun j) (test (eqb j t) (λ d. rw d (sh .logs t)) (λ d. rw d (sh .logs j)));
-          owner = sh .owner;
-          lock = sh .lock;
-          good = good-new (newKey t (b .tables)) (b .tables .regions) (newRegion t (b .tables)) new k-nz free refl good-begun (sh .good);
-          unique = unique-new (newKey t (b .tables)) (b .tables .regions) (newRegion t (b .tables)) new k-nz free refl (sh .unique);
-          deps-once = once-new (newKey t (b .tables)) (b .tables .regions) (newRegion t (b .tables)) new k-nz free refl
-              (once-one (cond (listed (current t (b .tables)) (b .tables .regions)) (current t (b .tables)) 0) 3) (sh .deps-once);
-          size = sh .size;
-          cut-setup = sh .cut-setup;
-          thread-range = λ j g. rw (thread-begun j, ne-eqb j t (λ q. omega arith)) (sh .thread-range j g);
-        }
+        shape-kept (b .tables) _ refl refl
+        (regions-new (newKey t (b .tables)) (b .tables .regions) (newRegion t (b .tables)) new k-nz free refl good-begun
+        (once-one (cond (listed (current t (b .tables)) (b .tables .regions)) (current t (b .tables)) 0) 3) (sh .regions))
+        (threads-stored t opener (b .tables) lt (sh .threads .logs t) sh) (sh .owner) (sh .lock) sh
 
     depth-begun : (j : ℕ) → depthIn j (Opens t ∷ es) ≡ cond (eqb j t) 1 (depthIn j es)
     unfolding depthIn
@@ -399,7 +372,7 @@ module _ {m : ℕ → List ℕ} {b : Board} {es : List Account} {s : u.State (Li
           slot = λ l j. rw (region-begun j) (test (eqb j (newKey t (b .tables)))
               (λ d. rw (d, state-free l, eqb-true j (newKey t (b .tables)) d)
               (i .slot l (newKey t (b .tables))
-              ∙ rw (region-none (newKey t (b .tables)) (b .tables .regions) (good-free (b .tables .regions) (i .shape .good)) unlisted, state-free l)))
+              ∙ rw (region-none (newKey t (b .tables)) (b .tables .regions) (good-free (b .tables .regions) (i .shape .regions .good)) unlisted, state-free l)))
               (λ d. rw d (i .slot l j)));
           dep = λ a q. rw (g a q, region-begun a) (test (eqb a (newKey t (b .tables)))
               (λ d. rw d (only q (cond (listed (current t (b .tables)) (b .tables .regions)) (current t (b .tables)) 0)))
@@ -579,7 +552,7 @@ module _ {m : ℕ → List ℕ} {b : Board} {es : List Account} {s : u.State (Li
 
   good-over : GoodRegion (overRegion t (b .tables))
   good-over =
-      let g : GoodRegion (regionAt (current t (b .tables)) (b .tables .regions)) = i .shape .good (placeOf (current t (b .tables)) (b .tables .regions)) in
+      let g : GoodRegion (regionAt (current t (b .tables)) (b .tables .regions)) = i .shape .regions .good (placeOf (current t (b .tables)) (b .tables .regions)) in
       record {
         free = λ e. absurd (eqb-false (current t (b .tables)) 0 (listed-key (current t (b .tables)) (b .tables .regions) ended-listed) (sym key-over ∙ e));
         deps = g .deps;
@@ -590,26 +563,16 @@ module _ {m : ℕ → List ℕ} {b : Board} {es : List Account} {s : u.State (Li
 
   thread-over : (j : ℕ) → threadAt j (over t (b .tables)) ≡ cond (eqb j t) (overThread t (b .tables)) (threadAt j (b .tables))
   unfolding closed
-  thread-over = thread-stored t (overThread t (b .tables)) (b .tables) (omega (arith, threads-8 (b .tables) (i .shape), i .shape .threads))
+  thread-over = thread-stored t (overThread t (b .tables)) (b .tables) (omega (arith, threads-8 (b .tables) (i .shape), i .shape .threads .count))
 
   shape-over : Shape (over t (b .tables))
   unfolding closed
   shape-over =
       let sh : Shape (b .tables) = i .shape in
-      record {
-        regions = length-set (b .tables .regions) (placeOf (current t (b .tables)) (b .tables .regions)) (overRegion t (b .tables)) ∙ sh .regions;
-        threads = length-set (b .tables .threads) t (overThread t (b .tables)) ∙ sh .threads;
-        logs = λ j. rw (thread-over j) (test (eqb j t) (λ d. rw d (sh .logs t)) (λ d. rw d (sh .logs j)));
-        owner = sh .owner;
-        lock = sh .lock;
-        good = good-stored (current t (b .tables)) (b .tables .regions) (overRegion t (b .tables)) ended-listed key-over good-over (sh .good);
-        unique = unique-stored (current t (b .tables)) (b .tables .regions) (overRegion t (b .tables)) ended-listed key-over (sh .unique);
-        deps-once = once-stored (current t (b .tables)) (b .tables .regions) (overRegion t (b .tables)) ended-listed key-over
-            (once-at (current t (b .tables)) sh) (sh .deps-once);
-        size = sh .size;
-        cut-setup = sh .cut-setup;
-        thread-range = λ j g. rw (thread-over j, ne-eqb j t (λ q. omega arith)) (sh .thread-range j g);
-      }
+      shape-kept (b .tables) _ refl refl
+      (regions-stored (current t (b .tables)) (b .tables .regions) (overRegion t (b .tables)) ended-listed key-over good-over
+      (once-at (current t (b .tables)) sh) (sh .regions))
+      (threads-stored t (overThread t (b .tables)) (b .tables) lt (sh .threads .logs t) sh) (sh .owner) (sh .lock) sh
 
   depth-over : (j : ℕ) → depthIn j (Closes t ∷ es) ≡ cond (eqb j t) 0 (depthIn j es)
   unfolding depthIn

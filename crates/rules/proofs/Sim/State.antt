@@ -28,6 +28,7 @@ use Rattle.rules.specs.declared.Region.{Region}
 use Rattle.rules.specs.declared.Slot.{Slot}
 use Rattle.rules.specs.declared.SlotState.the-variants.{Empty, Waiting}
 use Rattle.rules.specs.declared.Tables.{Tables}
+use Rattle.rules.specs.declared.Thread.{Thread}
 use Rattle.undo.specs.Claim.{Reach}
 use Rattle.undo.specs.History.{History, used}
 use Rattle.undo.specs.Machine.{Open, State, Waits, owns}
@@ -50,22 +51,29 @@ pub record GoodRegion (r : Region) : Type 0 where
   pub distinct : Distinct (r .slots)
   pub finished : r .done ≡ true → (r .ended ≡ true) × (hasSlot r ≡ false)
 
+-- the list of regions
+pub record GoodRegions (rs : List Region) : Type 0 where
+  pub count : length rs ≡ 32
+  pub good : (i : ℕ) → GoodRegion (getD rs i noRegion)
+  -- a key stands in one place only
+  pub unique : (i : ℕ) → getD rs i noRegion .key ≢ 0 → placeOf (getD rs i noRegion .key) rs ≡ i
+  -- the dependences are a set
+  pub deps-once : (i a b : ℕ) → getD (getD rs i noRegion .deps) a 0 ≢ 0 → getD (getD rs i noRegion .deps) a 0 ≡ getD (getD rs i noRegion .deps) b 0 → a ≡ b
+
+-- the threads, of which the first n are in use
+pub record GoodThreads (n : ℕ) (ths : List Thread) : Type 0 where
+  pub count : length ths ≡ 8
+  pub logs : (t : ℕ) → length (getD ths t noThread .log) ≡ 32
+  pub range : (t : ℕ) → n ≤ t → getD ths t noThread ≡ noThread
+
 pub record Shape (ts : Tables) : Type 0 where
-  pub regions : length (ts .regions) ≡ 32
-  pub threads : length (ts .threads) ≡ 8
-  pub logs : (t : ℕ) → length (threadAt t ts .log) ≡ 32
+  pub regions : GoodRegions (ts .regions)
+  pub threads : GoodThreads (ts .size .threads) (ts .threads)
   pub owner : length (ts .owner) ≡ 256
   pub lock : length (ts .lock) ≡ 256
-  pub good : (i : ℕ) → GoodRegion (getD (ts .regions) i noRegion)
-  -- a key stands in one place only
-  pub unique : (i : ℕ) → getD (ts .regions) i noRegion .key ≢ 0 → placeOf (getD (ts .regions) i noRegion .key) (ts .regions) ≡ i
-  -- the dependences are a set
-  pub deps-once : (i a b : ℕ) → getD (getD (ts .regions) i noRegion .deps) a 0 ≢ 0
-      → getD (getD (ts .regions) i noRegion .deps) a 0 ≡ getD (getD (ts .regions) i noRegion .deps) b 0 → a ≡ b
   -- before setup nothing has happened: at most 8 threads and 256 lines after it
   pub size : isSetUp ts ≡ false → ts .size .threads ≡ 0
   pub cut-setup : ts .cut ≡ true → isSetUp ts ≡ true
-  pub thread-range : (t : ℕ) → ts .size .threads ≤ t → threadAt t ts ≡ noThread
 
 pub record Memories (b : Board) : Type 0 where
   pub cur : length (b .cur) ≡ 256

@@ -20,7 +20,7 @@ use Rattle.rules.proofs.Recover.Sound.{sound}
 use Rattle.rules.proofs.Places.{any-put, any-set, count-put, count-set, each-set, eqb-swap, getD-set, key-at, listed-key, listed-stored, place-lt, place-stored, place-true, region-stored}
 use Rattle.rules.proofs.Sim.State.{Finished, GoodEntry, GoodRegion, Keeps, Kept, Logs, Memories, Rest, Shape, Sim, Simulated, Told, by}
 use Rattle.rules.proofs.Sim.Access.{Joined, current-is, current-open, join, joins, open-undone, owner-ended, rest-read, undone-stays, uses-access}
-use Rattle.rules.proofs.Sim.Base.{key-thread, lines-256, shape-thread, threads-8}
+use Rattle.rules.proofs.Sim.Base.{key-thread, lines-256, shape-kept, threads-8, threads-stored}
 use Rattle.rules.proofs.Sim.Flight.{flights, flown-rest}
 use Rattle.rules.proofs.Sim.Parts.{Owner, logged-live, logs-kept, once-at, open-listed, owned, owner-is, owner-stored, part-stored, rebuilt, shape-stored, told-kept, unowned}
 use Rattle.rules.proofs.SlotLaws.{counted-view, distinct-written, length-written, line-set, state-written, state-written-other}
@@ -103,7 +103,7 @@ module _ {b : Board} {es : List Account} {s : u.State (List ℕ)} {h : v.History
 
   store-good : GoodRegion (slotted (regionIn t es) l b)
   store-good =
-      let g : GoodRegion (regionAt (regionIn t es) (b .tables .regions)) = i .shape .good (placeOf (regionIn t es) (b .tables .regions)) in
+      let g : GoodRegion (regionAt (regionIn t es) (b .tables .regions)) = i .shape .regions .good (placeOf (regionIn t es) (b .tables .regions)) in
       record {
         free = λ e. absurd (eqb-false (regionIn t es) 0 (listed-key (regionIn t es) (b .tables .regions) in′)
             (sym (key-at (regionIn t es) (b .tables .regions) in′) ∙ e));
@@ -284,7 +284,7 @@ module _ {b : Board} {es : List Account} {s : u.State (List ℕ)} {h : v.History
     (inL : l < b .tables .size .lines) (new : olds (eqb (regionIn t es)) (s .chain l) ≡ []) (lives : (q x : ℕ) → c.logged q (s .chain x) ≡ true → eqb q 0 ≡ false)
     (calm : (q : ℕ) → s .slot l q ≡ u.Waits → ⊥) where
   inside-thread : t < length (b .tables .threads)
-  inside-thread = omega (arith, threads-8 (b .tables) (i .shape), i .shape .threads)
+  inside-thread = omega (arith, threads-8 (b .tables) (i .shape), i .shape .threads .count)
 
   inside-line : l < 256
   inside-line = omega (arith, lines-256 (b .tables) setup)
@@ -293,7 +293,7 @@ module _ {b : Board} {es : List Account} {s : u.State (List ℕ)} {h : v.History
   key-nz = listed-key (regionIn t es) (b .tables .regions) in′
 
   free-32 : freeEntry t (b .tables) < 32
-  free-32 = rw (i .shape .logs t) at (free-lt t (regionIn t es) l b inside-thread room key-nz)
+  free-32 = rw (i .shape .threads .logs t) at (free-lt t (regionIn t es) l b inside-thread room key-nz)
 
   -- a place of the log that is not free is another one
   not-free : (x j : ℕ) → entryAt x j (b .tables) .key ≢ 0 → (eqb x t && eqb j (freeEntry t (b .tables))) ≡ false
@@ -307,7 +307,7 @@ module _ {b : Board} {es : List Account} {s : u.State (List ℕ)} {h : v.History
   entry-32 x j n =
       test (ltb j 32) (λ d. ltb-true j 32 d)
       (λ d. let z : 32 ≤ j = ltb-false j 32 d in
-      absurd (n (ap {A = Entry} (λ e. e .key) (List·getD-eq-default (threadAt x (b .tables) .log) noEntry (rw (i .shape .logs x) z)))))
+      absurd (n (ap {A = Entry} (λ e. e .key) (List·getD-eq-default (threadAt x (b .tables) .log) noEntry (rw (i .shape .threads .logs x) z)))))
 
   -- an entry's region is not the one that logs its line now
   other-key : (x j : ℕ) → entryAt x j (b .tables) .key ≢ 0 → entryAt x j (b .tables) .line ≡ l → eqb (entryAt x j (b .tables) .key) (regionIn t es) ≡ false
@@ -458,21 +458,10 @@ module _ {b : Board} {es : List Account} {s : u.State (List ℕ)} {h : v.History
 
   shape-first : Shape (newLog t (regionIn t es) l b .tables)
   shape-first =
-      let sh = shape-thread t _ (b .tables) inT
-      (length-set (threadAt t (b .tables) .log) (freeEntry t (b .tables)) (freshEntry t (regionIn t es) l (b .tables)) ∙ i .shape .logs t) (i .shape) in
-      record {
-        regions = i .shape .regions;
-        threads = sh .threads;
-        logs = sh .logs;
-        owner = length-set (b .tables .owner) l (regionIn t es) ∙ i .shape .owner;
-        lock = length-set (b .tables .lock) l true ∙ i .shape .lock;
-        good = i .shape .good;
-        unique = i .shape .unique;
-        deps-once = i .shape .deps-once;
-        size = i .shape .size;
-        cut-setup = i .shape .cut-setup;
-        thread-range = sh .thread-range;
-      }
+      shape-kept (b .tables) _ refl refl (i .shape .regions)
+      (threads-stored t _ (b .tables) inT
+      (length-set (threadAt t (b .tables) .log) (freeEntry t (b .tables)) (freshEntry t (regionIn t es) l (b .tables)) ∙ i .shape .threads .logs t) (i .shape))
+      (length-set (b .tables .owner) l (regionIn t es) ∙ i .shape .owner) (length-set (b .tables .lock) l true ∙ i .shape .lock) (i .shape)
 
   ready-first : Ready b es s t l put (loggedThreads t (regionIn t es) l (b .tables)) (set (b .tables .owner) l (regionIn t es)) (set (b .tables .lock) l true)
       (loggedOld t l b) (chainOf (regionIn t es) l s) (lockOf l s)
