@@ -9,7 +9,7 @@ use Rattle.rules.proofs.Sim.State.{Kept}
 use Rattle.rules.proofs.Sim.All.{sound-record, step-kept}
 use Rattle.rules.proofs.Start.{initially}
 use Rattle.rules.specs.Claim.{boardAfter, isByte, isByteMemory}
-use Rattle.rules.specs.History.{acceptedFrom, acceptedIn, noted}
+use Rattle.rules.specs.History.{Account, acceptedFrom, acceptedIn, accountOf, noted}
 use Rattle.rules.specs.Lists.{all}
 use Rattle.rules.specs.Record.{readRecord}
 use Rattle.rules.specs.Refusal.{refusal}
@@ -35,14 +35,14 @@ told-nothing (Fence t) = refl
 told-nothing Cut = refl
 
 -- P speaks of the board, the accepted events and the commits told so far
-module _ (m : Memory) (P : Board → List Event → ℕ → Type 0)
-    (kept : (b : Board) (es : List Event) (n : ℕ) (e : Event) → refusal (b .tables) e ≡ 0 → Kept m b es → P b es n
-    → P (apply b e .board) (e ∷ es) (n + toldOf e (apply b e .value))) where
+module _ (m : Memory) (P : Board → List Account → ℕ → Type 0)
+    (kept : (b : Board) (es : List Account) (n : ℕ) (e : Event) → refusal (b .tables) e ≡ 0 → Kept m b es → P b es n
+    → P (apply b e .board) (accountOf e ∷ es) (n + toldOf e (apply b e .value))) where
   -- nothing more is told
-  no-more : (b : Board) (es : List Event) (n k : ℕ) → k ≡ 0 → P b es n → P b es (n + k)
+  no-more : (b : Board) (es : List Account) (n k : ℕ) → k ≡ 0 → P b es n → P b es (n + k)
   no-more b es n k z p = subst (P b es) (let q : n ≡ n + k = omega arith in q) p
 
-  one : (b : Board) (es : List Event) (n : ℕ) (x : Reading) → Kept m b es → P b es n
+  one : (b : Board) (es : List Account) (n : ℕ) (x : Reading) → Kept m b es → P b es n
       → P (stepRead b x .board) (noted (stepRead b x .answer .refusal) x es) (n + toldBy x (stepRead b x .answer))
   unfolding stepEvent stepBy
   one b es n (Refused zero) k p = no-more b es n 0 refl p
@@ -54,7 +54,7 @@ module _ (m : Memory) (P : Board → List Event → ℕ → Type 0)
       go zero r = kept b es n e r k p
       go (suc c) r = no-more b es n (toldOf e 0) (told-nothing e) p
 
-  many : (rs : List (List ℕ)) (b : Board) (es : List Event) (n : ℕ) → all (all isByte) rs ≡ true → Kept m b es → P b es n
+  many : (rs : List (List ℕ)) (b : Board) (es : List Account) (n : ℕ) → all (all isByte) rs ≡ true → Kept m b es → P b es n
       → P (run b rs .board) (acceptedFrom b rs es) (n + toldIn rs (run b rs .answers))
   unfolding run acceptedFrom step toldIn
   many [] b es n e k p = no-more b es n 0 refl p

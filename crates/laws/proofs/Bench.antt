@@ -25,7 +25,7 @@ use Rattle.rules.proofs.Sim.All.{every}
 use Rattle.rules.specs.Bytes.{bytesOf, numOf}
 use Rattle.rules.specs.Claim.{Holds, entriesIn, boardAfter, isByte, isByteMemory, passLength, recovering, restores}
 use Rattle.rules.specs.Contradiction.{contradicts}
-use Rattle.rules.specs.History.{acceptedIn, memoryFound}
+use Rattle.rules.specs.History.{Account, acceptedIn, memoryFound}
 use Rattle.rules.specs.Image.{Logged, image, imageCall, save, saved}
 use Rattle.rules.specs.Lists.{all, count}
 use Rattle.rules.specs.Reader.{isKnownThread, isLoggedBy}
@@ -35,7 +35,6 @@ use Rattle.rules.specs.Refusal.{isSetUp}
 use Rattle.rules.specs.Run.{Wrote, wroteInto}
 use Rattle.rules.specs.Tables.{Board, Lent, Memory, threadOf}
 use Rattle.rules.specs.Walk.{walkEntries}
-use Rattle.rules.specs.declared.Event.{Event}
 use Rattle.undo.proofs.Laws.{and-true, test}
 use Rattle.undo.specs.History.{History}
 use Rattle.undo.specs.Machine.{State}
@@ -102,7 +101,7 @@ call-same {r} {c} s =
     let e : numOf (bytesOf 8 (r .at)) ≡ r .at = num-bytes 8 (r .at) (omega arith) in
     rw (s .bytes, s .place, l, e)
 
-module _ {start : ℕ → List ℕ} {b : Board} {es : List Event} {s : u.State (List ℕ)} {h : v.History (List ℕ)} (rc : Reach start s h) (i : Sim b es s h)
+module _ {start : ℕ → List ℕ} {b : Board} {es : List Account} {s : u.State (List ℕ)} {h : v.History (List ℕ)} (rc : Reach start s h) (i : Sim b es s h)
     (up : isSetUp (b .tables) ≡ true) (quiet : contradicts (saved b) ≡ false) where
   few-walked : length (walkEntries (saved b)) ≤ 256
   few-walked =

@@ -9,12 +9,12 @@ use native.Mathlib.Omega.{arith}
 use Rattle.laws.proofs.Along.{along}
 use Rattle.laws.specs.Laws.{ReadGives}
 use Rattle.laws.specs.Words.{allApplied}
-use Rattle.rules.specs.Access.{logged, needsLog, read, storeWord, stored, write}
+use Rattle.rules.specs.Access.{changeLine, logged, needsLog, read, stored, storedIn, write}
 use Rattle.rules.specs.Acknowledge.{dataAck, logAck}
 use Rattle.rules.specs.Claim.{boardAfter, isByte, isByteMemory}
 use Rattle.rules.specs.End.{endRegion}
 use Rattle.rules.specs.Flight.{flown}
-use Rattle.rules.specs.History.{acceptedIn, writesIn}
+use Rattle.rules.specs.History.{Account, acceptedIn, accountOf, writesIn}
 use Rattle.rules.specs.Lists.{all}
 use Rattle.rules.specs.Record.{readRecord}
 use Rattle.rules.specs.Refusal.{depthOf, refusal}
@@ -25,17 +25,17 @@ use Rattle.rules.specs.declared.Event.the-variants.{Begin, Cut, DataAck, End, F
 use Rattle.rules.specs.declared.Reading.the-variants.{Whole}
 use Rattle.undo.proofs.Laws.{test}
 
-abbrev Told : List (List ℕ) → Board → List Event → Type 0
+abbrev Told : List (List ℕ) → Board → List Account → Type 0
 Told m b es = b .cur ≡ allApplied (writesIn es) m
 
-told-after : (m : List (List ℕ)) (b : Board) (es : List Event) (e : Event) → Told m b es → Told m (apply b e .board) (e ∷ es)
+told-after : (m : List (List ℕ)) (b : Board) (es : List Account) (e : Event) → Told m b es → Told m (apply b e .board) (accountOf e ∷ es)
 unfolding apply settledBoard endRegion logAck dataAck flown stored logged write writesIn allApplied
 told-after m b es (Setup n l) h = h
 told-after m b es (Begin t) h = h
 told-after m b es (End t) h = test (eqb (depthOf t (b .tables)) 1) (λ d. rw d h) (λ d. rw d h)
 told-after m b es (Read t l w) h = h
 told-after m b es (Write t l w v) h =
-    test (needsLog (current t (b .tables)) l (b .tables)) (λ d. rw d (ap (storeWord l w v) h)) (λ d. rw d (ap (storeWord l w v) h))
+    test (needsLog (current t (b .tables)) l (b .tables)) (λ d. rw d (ap (changeLine l (storedIn w v)) h)) (λ d. rw d (ap (changeLine l (storedIn w v)) h))
 told-after m b es (LogAck l) h = h
 told-after m b es (DataAck l) h = h
 told-after m b es (Fence t) h = h

@@ -13,10 +13,10 @@ use Rattle.rules.proofs.Sim.All.{every}
 use Rattle.rules.proofs.Views.{stateOf}
 use Rattle.rules.specs.Slots.{isEmpty}
 use Rattle.rules.specs.Tables.{Board, Memory, lineOf, noSlot, placeOf, startLines}
-use Rattle.rules.specs.declared.Event.{Event}
 use Rattle.rules.specs.declared.Slot.{Slot}
 use Rattle.rules.specs.declared.SlotState.the-variants.{Empty, InFlight}
 use Rattle.undo.proofs.Main.{structured}
+use Rattle.rules.specs.History.{Account}
 
 -- in a region each line has one slot at most
 one-slot : {ss : List Slot} → Distinct ss → (p q : ℕ) → isEmpty (getD ss p noSlot .state) ≡ false → isEmpty (getD ss q noSlot .state) ≡ false
@@ -31,7 +31,7 @@ one-slot (more {s = s} {ss = ss} a n r ds) (suc p) zero e f l =
     absurd (true≢false (ap isEmpty (sym z ∙ state-at ds p e) ∙ e))
 one-slot (more {s = s} {ss = ss} a n r ds) (suc p) (suc q) e f l = ap suc (one-slot ds p q e f l)
 
-by-flights : {m : Memory} {b : Board} {es : List Event} → Simulated m b es
+by-flights : {m : Memory} {b : Board} {es : List Account} → Simulated m b es
     → (l i j p q : ℕ) → FliesWith l (slotIs i p b) → FliesWith l (slotIs j q b) → (i ≡ j) × (p ≡ q)
 by-flights {m} {b} {es} (by s h rc sim) l i j p q f g = (here, slots here)
   where

@@ -11,10 +11,8 @@ use borrow.Author.Tests.{eqb-false, eqb-true, le-leb, leb-false, leb-true, lt-le
 use Rattle.laws.specs.Words.{opensIn}
 use Rattle.rules.proofs.Sim.Base.{key-number, key-thread}
 use Rattle.rules.proofs.Views.{isOpened}
-use Rattle.rules.specs.History.{depthIn, openedIn}
+use Rattle.rules.specs.History.{Account, Closes, Cuts, Nothing, Opens, Sets, Stores, Uses, depthIn, openedIn}
 use Rattle.rules.specs.Tables.{keyOf, numberOf, threadOf}
-use Rattle.rules.specs.declared.Event.{Event}
-use Rattle.rules.specs.declared.Event.the-variants.{Begin, Cut, DataAck, End, Fence, LogAck, Read, Setup, Write}
 use Rattle.undo.proofs.Laws.{is-same, test}
 use Rattle.undo.specs.Table.{isIn}
 
@@ -23,8 +21,8 @@ pub data Once : List ℕ → Type 0 where
   nothing : Once []
   more : {x : ℕ} {xs : List ℕ} → isIn x xs ≡ false → Once xs → Once (x ∷ xs)
 
-abbrev pub Opens : List Event → Type 0
-Opens es = ((k : ℕ) → isIn k (opensIn es) ≡ isOpened es k) × Once (opensIn es)
+abbrev pub OpensOnce : List Account → Type 0
+OpensOnce es = ((k : ℕ) → isIn k (opensIn es) ≡ isOpened es k) × Once (opensIn es)
 
 not-above : (n : ℕ) → (not (eqb n 0) && leb n 0) ≡ false
 not-above n =
@@ -32,7 +30,7 @@ not-above n =
     (λ e. rw e)
     (λ e. rw e (test (leb n 0) (λ f. let z = leb-true n 0 f in let y = eqb-false n 0 e in absurd (y (omega arith))) (λ f. f)))
 
-opened-begin : (t j : ℕ) (es : List Event) → openedIn j (Begin t ∷ es) ≡ cond (eqb (depthIn t es) 0 && eqb t j) (openedIn j es + 1) (openedIn j es)
+opened-begin : (t j : ℕ) (es : List Account) → openedIn j (Opens t ∷ es) ≡ cond (eqb (depthIn t es) 0 && eqb t j) (openedIn j es + 1) (openedIn j es)
 unfolding openedIn
 opened-begin t j es =
     test (eqb t j)
@@ -62,7 +60,7 @@ next-here k n h =
 next-there : (k t n : ℕ) → n ≤ 65535 → eqb t (threadOf k) ≡ false → eqb k (keyOf t n) ≡ false
 next-there k t n h e = ne-eqb k (keyOf t n) (λ q. eqb-false t (threadOf k) e (sym (key-thread t n (omega arith)) ∙ ap threadOf (sym q)))
 
-opens-begin : (t : ℕ) (es : List Event) → ((j : ℕ) → openedIn j (Begin t ∷ es) ≤ 65535) → Opens es → Opens (Begin t ∷ es)
+opens-begin : (t : ℕ) (es : List Account) → ((j : ℕ) → openedIn j (Opens t ∷ es) ≤ 65535) → OpensOnce es → OpensOnce (Opens t ∷ es)
 unfolding opensIn
 opens-begin t es h o =
     test (eqb (depthIn t es) 0)
@@ -82,19 +80,17 @@ opens-begin t es h o =
     ))
     (λ d. rw d (λ k. rw (opened-begin t (threadOf k) es, d) (o .0 k), o .1))
 
-begin-more : (t j : ℕ) (es : List Event) → openedIn j es ≤ openedIn j (Begin t ∷ es)
+begin-more : (t j : ℕ) (es : List Account) → openedIn j es ≤ openedIn j (Opens t ∷ es)
 begin-more t j es = rw (opened-begin t j es) (test (eqb (depthIn t es) 0 && eqb t j) (λ d. rw d (omega arith)) (λ d. rw d (omega arith)))
 
 -- after every list of events with numbers of 16 bits
-pub opens : (es : List Event) → ((t : ℕ) → openedIn t es ≤ 65535) → Opens es
+pub opens : (es : List Account) → ((t : ℕ) → openedIn t es ≤ 65535) → OpensOnce es
 unfolding opensIn openedIn
 opens [] h = (λ k. sym (not-above (numberOf k)), nothing)
-opens (Setup n l ∷ es) h = opens es h
-opens (Begin t ∷ es) h = opens-begin t es h (opens es (λ j. le-trans (begin-more t j es) (h j)))
-opens (End t ∷ es) h = opens es h
-opens (Read t l w ∷ es) h = opens es h
-opens (Write t l w v ∷ es) h = opens es h
-opens (LogAck l ∷ es) h = opens es h
-opens (DataAck l ∷ es) h = opens es h
-opens (Fence t ∷ es) h = opens es h
-opens (Cut ∷ es) h = opens es h
+opens (Sets l ∷ es) h = opens es h
+opens (Opens t ∷ es) h = opens-begin t es h (opens es (λ j. le-trans (begin-more t j es) (h j)))
+opens (Closes t ∷ es) h = opens es h
+opens (Uses t l ∷ es) h = opens es h
+opens (Stores t l f ∷ es) h = opens es h
+opens (Cuts ∷ es) h = opens es h
+opens (Nothing ∷ es) h = opens es h

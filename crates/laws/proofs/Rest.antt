@@ -15,10 +15,10 @@ use Rattle.rules.proofs.Views.{stateOf}
 use Rattle.rules.specs.Commit.{commits}
 use Rattle.rules.specs.Slots.{isEmpty, names}
 use Rattle.rules.specs.Tables.{Board, Memory, noSlot, regionAt}
-use Rattle.rules.specs.declared.Event.{Event}
 use Rattle.rules.specs.declared.Slot.{Slot}
 use Rattle.rules.specs.declared.SlotState.the-variants.{Empty}
 use Rattle.undo.proofs.Laws.{is-same, test}
+use Rattle.rules.specs.History.{Account}
 
 -- the state of a slot that is not empty is what the slots say of its line
 pub state-at : {ss : List Slot} → Distinct ss → (j : ℕ) → isEmpty (getD ss j noSlot .state) ≡ false → stateOf (getD ss j noSlot .line) ss ≡ getD ss j noSlot .state
@@ -40,7 +40,7 @@ module _ (b : Board) (sh : Shape (b .tables)) where
   pub region-is : (i : ℕ) → regionIs i b .key ≢ 0 → regionAt (regionIs i b .key) (b .tables .regions) ≡ regionIs i b
   region-is i n = region-at i (b .tables .regions) (sh .regions .unique) n
 
-at-rest : {m : Memory} {b : Board} {es : List Event} → Simulated m b es → Rest b → AtRest b
+at-rest : {m : Memory} {b : Board} {es : List Account} → Simulated m b es → Rest b → AtRest b
 unfolding commits
 at-rest {b = b} (by s h rc i) rest =
     record {

@@ -2,9 +2,9 @@
 use Rattle.undo.specs.Machine as u
 use Rattle.undo.specs.History as v
 use Prim.Native.Nat.{_+_, _<_, suc, zero, ℕ}
-use mathlib.Core.Path.{_∙_, _≡_, refl, sym}
+use mathlib.Core.Path.{_∙_, _≡_, ap, refl, sym}
 use mathlib.Core.Bool.{Bool, _&&_, cond, false, false≢true, not, true, true≢false}
-use mathlib.Core.List.{List, [], _∷_, map}
+use mathlib.Core.List.{List, [], _∷_}
 use lib.Dec.{eqb}
 use lib.ListN.{getD, length, replicate}
 use native.Mathlib.Omega.{arith}
@@ -17,7 +17,7 @@ use Rattle.laws.specs.Laws.{CommitsAddUp, CommittedEnded, CutCounts, Fen
 use Rattle.laws.specs.Words.{opensIn, opensOf, toldIn, toldOf}
 use Rattle.rules.proofs.Commits.{CommitsTold, commits-told}
 use Rattle.rules.proofs.Recover.Expected.{committed-done, committed-ended}
-use Rattle.rules.proofs.Places.{any-at, count-map, count-put, count-room, count-set, key-at, listed-at, listed-key, place-listed, place-lt, place-true}
+use Rattle.rules.proofs.Places.{any-at, count-put, count-room, key-at, listed-at, listed-key, place-listed, place-lt, place-true}
 use Rattle.rules.proofs.Sim.State.{Kept, Sim, Simulated, by}
 use Rattle.rules.proofs.Sim.Ack.{log-ack}
 use Rattle.rules.proofs.Sim.All.{every}
@@ -25,61 +25,32 @@ use Rattle.rules.proofs.Tests.{passed}
 use Rattle.rules.proofs.Sim.Commit.{unique-regions}
 use Rattle.rules.proofs.Sim.Data.{lands}
 use Rattle.rules.proofs.Sim.Regions.{ends-region}
-use Rattle.rules.specs.Access.{logged, needsLog, read, stored, write, wrote}
-use Rattle.rules.specs.Acknowledge.{dataAck, dropped, landed, logAck, unlocked}
+use Rattle.rules.specs.Access.{read, storedIn, write}
+use Rattle.rules.specs.Acknowledge.{dataAck, logAck}
 use Rattle.rules.specs.Begin.{begin, opened}
 use Rattle.rules.specs.Claim.{boardAfter, isByte, isByteMemory}
-use Rattle.rules.specs.End.{closed, endRegion}
-use Rattle.rules.specs.Flight.{flown}
-use Rattle.rules.specs.History.{acceptedIn, committed, endsIn}
+use Rattle.rules.specs.End.{endRegion}
+use Rattle.rules.specs.History.{Account, Closes, Nothing, Opens, acceptedIn, accountOf, committed, endsIn}
 use Rattle.rules.specs.Lists.{all, count, place}
 use Rattle.rules.specs.Refusal.{depthOf, isOfThread, refusal, testsOf}
 use Rattle.rules.specs.Run.{run}
 use Rattle.rules.specs.Step.{apply, fence, settledBoard, setup}
-use Rattle.rules.specs.Tables.{Board, Memory, current, fresh, isHeld, isKey, keyOf, lineOf, listed, noRegion, placeOf, regionAt, startLines, threadAt, threadOf}
+use Rattle.rules.specs.Tables.{Board, Memory, current, fresh, isHeld, isKey, keyOf, lineOf, listed, noRegion, placeOf, regionAt, startLines, threadAt, threadOf, withTables}
 use Rattle.rules.specs.declared.Event.{Event}
 use Rattle.rules.specs.declared.Event.the-variants.{Begin, Cut, DataAck, End, Fence, LogAck, Read, Setup, Write}
 use Rattle.rules.specs.declared.Region.{Region}
 use Rattle.undo.proofs.Laws.{and-true, is-same, never, or-right, test}
 use Rattle.undo.specs.Claim.{Reach}
-use Rattle.undo.specs.History.{History}
-use Rattle.undo.specs.Machine.{State}
 use Rattle.undo.specs.Table.{any, isIn, keep}
+use Rattle.rules.proofs.Keys.{boardKeys, data-keys, end-keys, held-keys, log-keys, read-keys, write-keys}
 
 abbrev held : Board → ℕ
 held b = count isHeld (b .tables .regions)
 
 -- ---- what an event does to the number of places that are held
 
-flown-held : (k : ℕ) (b : Board) → held (flown k b) ≡ held b
-unfolding flown
-flown-held k b = count-set isHeld (b .tables .regions) (placeOf k (b .tables .regions)) _ noRegion refl
-
-dropped-held : (k l : ℕ) (rs : List Region) → count isHeld (map (dropped k l) rs) ≡ count isHeld rs
-unfolding dropped
-dropped-held k l rs = count-map isHeld isHeld (dropped k l) rs (λ r. test (eqb (r .key) k) (λ e. rw e) (λ e. rw e))
-
-write-held : (t l w v : ℕ) (b : Board) → held (write t l w v b) ≡ held b
-unfolding write stored logged wrote
-write-held t l w v b =
-    flown-held (current t (b .tables)) _
-    ∙ test (needsLog (current t (b .tables)) l (b .tables))
-    (λ d. rw d (count-set isHeld (b .tables .regions) (placeOf (current t (b .tables)) (b .tables .regions)) _ noRegion refl))
-    (λ d. rw d (count-set isHeld (b .tables .regions) (placeOf (current t (b .tables)) (b .tables .regions)) _ noRegion refl))
-
-end-held : (t : ℕ) (b : Board) → held (endRegion t b) ≡ held b
-unfolding endRegion closed
-end-held t b =
-    flown-held (current t (b .tables)) _
-    ∙ count-set isHeld (b .tables .regions) (placeOf (current t (b .tables)) (b .tables .regions)) _ noRegion refl
-
-log-held : (l : ℕ) (b : Board) → held (logAck l b) ≡ held b
-unfolding logAck unlocked
-log-held l b = flown-held (getD (b .tables .owner) l 0) _ ∙ dropped-held (getD (b .tables .owner) l 0) l (b .tables .regions)
-
-data-held : (l : ℕ) (b : Board) → held (dataAck l b) ≡ held b
-unfolding dataAck landed
-data-held l b = count-set isHeld (b .tables .regions) _ _ noRegion refl
+same-held : (b b′ : Board) → boardKeys b′ ≡ boardKeys b → held b′ ≡ held b
+same-held b b′ e = held-keys (b′ .tables .regions) ∙ ap (count (λ x. not (eqb x 0))) e ∙ sym (held-keys (b .tables .regions))
 
 -- a begin at depth 0 takes one
 open-held : (t : ℕ) (b : Board) → count isHeld (b .tables .regions) < length (b .tables .regions) → count isHeld (opened t (b .tables) .regions) ≡ suc (held b)
@@ -92,20 +63,20 @@ open-held t b h =
 
 -- ---- the commits told, the places held and the regions opened
 
-abbrev Balance : Board → List Event → ℕ → Type 0
+abbrev Balance : Board → List Account → ℕ → Type 0
 Balance b es n = n + held b ≡ length (opensIn es)
 
-balance-settled : {m : Memory} (b b′ : Board) (es es′ : List Event) (n : ℕ) → Simulated m b′ es′ → held b′ ≡ held b → Balance b es n
+balance-settled : {m : Memory} (b b′ : Board) (es es′ : List Account) (n : ℕ) → Simulated m b′ es′ → boardKeys b′ ≡ boardKeys b → Balance b es n
     → Balance (settledBoard b′ .board) es (n + settledBoard b′ .value)
 unfolding settledBoard
-balance-settled b b′ es es′ n s e p = let z = settled-held (b′ .tables) (unique-regions s) in omega arith
+balance-settled b b′ es es′ n s e p = let z = settled-held (b′ .tables) (unique-regions s) in let y = same-held b b′ e in omega arith
 
-balance-begin : (t : ℕ) (m : Memory) (b : Board) (es : List Event) (n : ℕ) → refusal (b .tables) (Begin t) ≡ 0 → Kept m b es → Balance b es n
-    → Balance (apply b (Begin t) .board) (Begin t ∷ es) (n + 0)
+balance-begin : (t : ℕ) (m : Memory) (b : Board) (es : List Account) (n : ℕ) → refusal (b .tables) (Begin t) ≡ 0 → Kept m b es → Balance b es n
+    → Balance (apply b (Begin t) .board) (Opens t ∷ es) (n + 0)
 unfolding apply begin testsOf opensIn
 balance-begin t m b es n r k p = go (k .simulated)
   where
-    go : Simulated m b es → Balance (apply b (Begin t) .board) (Begin t ∷ es) (n + 0)
+    go : Simulated m b es → Balance (apply b (Begin t) .board) (Opens t ∷ es) (n + 0)
     go (by s h rc i) =
         rw (← i .told .depth t)
         (test (eqb (depthOf t (b .tables)) 0)
@@ -114,22 +85,20 @@ balance-begin t m b es n r k p = go (k .simulated)
         rw (d, z) (omega arith))
         (λ d. rw d (omega arith)))
 
-balance : (m : Memory) (b : Board) (es : List Event) (n : ℕ) (e : Event) → refusal (b .tables) e ≡ 0 → Kept m b es → Balance b es n
-    → Balance (apply b e .board) (e ∷ es) (n + toldOf e (apply b e .value))
+balance : (m : Memory) (b : Board) (es : List Account) (n : ℕ) (e : Event) → refusal (b .tables) e ≡ 0 → Kept m b es → Balance b es n
+    → Balance (apply b e .board) (accountOf e ∷ es) (n + toldOf e (apply b e .value))
 unfolding apply opensIn setup read
 balance m b es n (Setup c l) r k p = omega arith
 balance m b es n (Begin t) r k p = balance-begin t m b es n r k p
 balance m b es n (End t) r k p =
     test (eqb (depthOf t (b .tables)) 1)
-    (λ d. rw d (balance-settled b (endRegion t b) es (End t ∷ es) n (ends-region t m b es r d k .0) (end-held t b) p))
+    (λ d. rw d (balance-settled b (endRegion t b) es (Closes t ∷ es) n (ends-region t m b es r d k .0) (end-keys t b) p))
     (λ d. rw d (omega arith))
 balance m b es n (Read t l w) r k p =
-    let z : count isHeld (read (current t (b .tables)) l (b .tables) .regions) ≡ held b
-    = count-set isHeld (b .tables .regions) (placeOf (current t (b .tables)) (b .tables .regions)) _ noRegion refl in
-    omega arith
-balance m b es n (Write t l w v) r k p = let z = write-held t l w v b in omega arith
-balance m b es n (LogAck l) r k p = balance-settled b (logAck l b) es (LogAck l ∷ es) n (log-ack l m b es r k .0) (log-held l b) p
-balance m b es n (DataAck l) r k p = balance-settled b (dataAck l b) es (DataAck l ∷ es) n (lands l m b es r k .0) (data-held l b) p
+    let z = same-held b (withTables (read (current t (b .tables)) l (b .tables)) b) (read-keys (current t (b .tables)) l (b .tables)) in omega arith
+balance m b es n (Write t l w v) r k p = let z = same-held b (write t l (storedIn w v) b) (write-keys t l (storedIn w v) b) in omega arith
+balance m b es n (LogAck l) r k p = balance-settled b (logAck l b) es (Nothing ∷ es) n (log-ack l m b es r k .0) (log-keys l b) p
+balance m b es n (DataAck l) r k p = balance-settled b (dataAck l b) es (Nothing ∷ es) n (lands l m b es r k .0) (data-keys l b) p
 balance m b es n (Fence t) r k p = omega arith
 balance m b es n Cut r k p = omega arith
 

@@ -3,8 +3,8 @@ use Prim.Native.Nat.{_+_, ℕ}
 use mathlib.Core.Bool.{cond}
 use mathlib.Core.List.{List, [], _∷_}
 use lib.Dec.{eqb}
-use Rattle.rules.specs.Access.{storeWord}
-use Rattle.rules.specs.History.{Change, depthIn, openedIn}
+use Rattle.rules.specs.Access.{changeLine}
+use Rattle.rules.specs.History.{Account, Change, Closes, Cuts, Nothing, Opens, Sets, Stores, Uses, depthIn, openedIn}
 use Rattle.rules.specs.Record.{readRecord}
 use Rattle.rules.specs.Tables.{keyOf, threadOf}
 use Rattle.rules.specs.declared.Answer.{Answer}
@@ -18,28 +18,26 @@ use Rattle.undo.specs.Table.{keep}
 
 unfoldable pub allApplied : List Change → List (List ℕ) → List (List ℕ)
 allApplied [] m = m
-allApplied (w ∷ ws) m = storeWord (w .line) (w .word) (w .value) (allApplied ws m)
+allApplied (w ∷ ws) m = changeLine (w .line) (w .change) (allApplied ws m)
 
 -- ---- "Each begin accepted at depth 0 opens a region"
 
-abbrev pub openOf : Event → List Event → List ℕ → List ℕ
-openOf (Setup n l) es ks = ks
-openOf (Begin t) es ks = cond (eqb (depthIn t es) 0) (keyOf t (openedIn t es + 1) ∷ ks) ks
-openOf (End t) es ks = ks
-openOf (Read t l w) es ks = ks
-openOf (Write t l w v) es ks = ks
-openOf (LogAck l) es ks = ks
-openOf (DataAck l) es ks = ks
-openOf (Fence t) es ks = ks
-openOf Cut es ks = ks
+abbrev pub openOf : Account → List Account → List ℕ → List ℕ
+openOf (Sets l) es ks = ks
+openOf (Opens t) es ks = cond (eqb (depthIn t es) 0) (keyOf t (openedIn t es + 1) ∷ ks) ks
+openOf (Closes t) es ks = ks
+openOf (Uses t l) es ks = ks
+openOf (Stores t l f) es ks = ks
+openOf Cuts es ks = ks
+openOf Nothing es ks = ks
 
 -- the regions that were opened, the last first
-unfoldable pub opensIn : List Event → List ℕ
+unfoldable pub opensIn : List Account → List ℕ
 opensIn [] = []
 opensIn (e ∷ es) = openOf e es (opensIn es)
 
 -- those of a thread
-abbrev pub opensOf : ℕ → List Event → List ℕ
+abbrev pub opensOf : ℕ → List Account → List ℕ
 opensOf t es = keep (λ k. eqb (threadOf k) t) (opensIn es)
 
 -- ---- "The value of a read is the word, of a cut .., of setup 0, of a fence its 1 or 0, of every other event the number of regions committed in that step"

@@ -5,10 +5,10 @@ use mathlib.Core.Logic.{⊎-elim}
 use mathlib.Core.Bool.{Bool, _&&_, _||_, false, not, true}
 use mathlib.Core.List.{List, [], _++_, _∷_, map}
 use lib.Dec.{eqb, leb}
-use lib.ListN.{getD, length, set}
+use lib.ListN.{length}
 use native.Mathlib.Omega.{arith}
 use borrow.Author.Tests.{eqb-false, eqb-true, leb-false, lt-leb}
-use Rattle.rules.proofs.Places.{Unique, any-map, any-set, listed-commit, listed-key, listed-mapped, unique-commit, unique-mapped}
+use Rattle.rules.proofs.Places.{Unique, listed-commit, listed-key, listed-mapped, unique-commit, unique-mapped}
 use Rattle.rules.proofs.Sim.State.{Kept, Simulated, by}
 use Rattle.rules.proofs.Sim.Ack.{log-ack}
 use Rattle.rules.proofs.Sim.All.{sound-record, step-kept}
@@ -17,20 +17,19 @@ use Rattle.rules.proofs.Sim.Data.{lands}
 use Rattle.rules.proofs.Sim.Regions.{born-begun, ends-region, listed-begun, newKey, unborn}
 use Rattle.rules.proofs.Start.{initially}
 use Rattle.rules.proofs.Views.{isOpened}
-use Rattle.rules.specs.Access.{logged, needsLog, read, stored, storedIn, write, wrote}
-use Rattle.rules.specs.Acknowledge.{dataAck, dropped, flightPlace, landed, logAck, unlocked}
+use Rattle.rules.specs.Access.{read, storedIn, write}
+use Rattle.rules.specs.Acknowledge.{dataAck, logAck}
 use Rattle.rules.specs.Begin.{begin, opened}
 use Rattle.rules.specs.Claim.{boardAfter, isByte, isByteMemory}
 use Rattle.rules.specs.Commit.{Settled, afterCommit, before, commit, commits, doneRegion, earliest, settle, settled}
-use Rattle.rules.specs.End.{closed, endRegion}
-use Rattle.rules.specs.Flight.{flown}
+use Rattle.rules.specs.End.{endRegion}
 use Rattle.rules.specs.History.{Account, Closes, Nothing, Opens, acceptedFrom, acceptedIn, accountOf, commitsBy, commitsFrom, commitsOf, committed, depthIn, noted, openedIn}
 use Rattle.rules.specs.Lists.{all, count}
 use Rattle.rules.specs.Record.{readRecord}
 use Rattle.rules.specs.Refusal.{depthOf, refusal, testsOf}
 use Rattle.rules.specs.Run.{run}
 use Rattle.rules.specs.Step.{apply, settledBoard, setup, step, stepBy, stepEvent, stepRead}
-use Rattle.rules.specs.Tables.{Board, Memory, current, fresh, isHeld, isKey, listed, noRegion, numberOf, placeOf, threadAt, threadOf, withRegions}
+use Rattle.rules.specs.Tables.{Board, Memory, current, fresh, isHeld, listed, numberOf, threadAt, threadOf, withRegions}
 use Rattle.rules.specs.declared.Event.{Event}
 use Rattle.rules.specs.declared.Event.the-variants.{Begin, Cut, DataAck, End, Fence, LogAck, Read, Setup, Write}
 use Rattle.rules.specs.declared.Reading.{Reading}
@@ -40,6 +39,7 @@ use Rattle.rules.specs.declared.Tables.{Tables}
 use Rattle.undo.proofs.Laws.{and-true, never, or-true, test}
 use Rattle.undo.specs.Table.{isIn}
 use Rattle.rules.proofs.Tests.{passed}
+use Rattle.rules.proofs.Keys.{boardKeys, data-keys, end-keys, listed-keys, log-keys, read-keys, write-keys}
 
 is-in-both : (k : ℕ) (xs ys : List ℕ) → isIn k (xs ++ ys) ≡ (isIn k xs || isIn k ys)
 is-in-both k [] ys = refl
@@ -87,54 +87,15 @@ settled-takes ts un k =
     let l : listed k (map doneRegion (ts .regions)) ≡ listed k (ts .regions) = listed-mapped doneRegion (ts .regions) refl (λ r. refl) k in
     (z .0 ∙ rw l, λ e. sym l ∙ z .1 e)
 
--- ---- what an event leaves listed, before its commits
+-- ---- the regions that have committed
 
 abbrev isListed : ℕ → Board → Bool
 isListed k b = listed k (b .tables .regions)
 
--- a place gets a region with the key that it had
-same-key : (j i : ℕ) (rs : List Region) (r : Region) → r .key ≡ getD rs i noRegion .key → listed j (set rs i r) ≡ listed j rs
-same-key j i rs r e = rw (any-set (isKey j) rs i r noRegion (rw e))
-
-flown-listed : (j k : ℕ) (b : Board) → isListed j (flown k b) ≡ isListed j b
-unfolding flown
-flown-listed j k b = same-key j (placeOf k (b .tables .regions)) (b .tables .regions) _ refl
-
-write-listed : (j t l : ℕ) (put : List ℕ → List ℕ) (b : Board) → isListed j (write t l put b) ≡ isListed j b
-unfolding write stored logged wrote
-write-listed j t l put b =
-    flown-listed j (current t (b .tables)) _
-    ∙ test (needsLog (current t (b .tables)) l (b .tables))
-    (λ d. rw d (same-key j (placeOf (current t (b .tables)) (b .tables .regions)) (b .tables .regions) _ refl))
-    (λ d. rw d (same-key j (placeOf (current t (b .tables)) (b .tables .regions)) (b .tables .regions) _ refl))
-
-end-listed : (j t : ℕ) (b : Board) → isListed j (endRegion t b) ≡ isListed j b
-unfolding endRegion closed
-end-listed j t b =
-    flown-listed j (current t (b .tables)) _
-    ∙ same-key j (placeOf (current t (b .tables)) (b .tables .regions)) (b .tables .regions) _ refl
-
-read-listed : (j t l : ℕ) (b : Board) → listed j (read (current t (b .tables)) l (b .tables) .regions) ≡ isListed j b
-unfolding read
-read-listed j t l b = same-key j (placeOf (current t (b .tables)) (b .tables .regions)) (b .tables .regions) _ refl
-
-log-listed : (j l : ℕ) (b : Board) → isListed j (logAck l b) ≡ isListed j b
-unfolding logAck unlocked dropped
-log-listed j l b =
-    flown-listed j (getD (b .tables .owner) l 0) _
-    ∙ rw (any-map (isKey j) (isKey j) (dropped (getD (b .tables .owner) l 0) l) (b .tables .regions)
-    (λ r. test (eqb (r .key) (getD (b .tables .owner) l 0)) (λ e. rw e) (λ e. rw e)))
-
-data-listed : (j l : ℕ) (b : Board) → isListed j (dataAck l b) ≡ isListed j b
-unfolding dataAck landed
-data-listed j l b = same-key j (flightPlace l (b .tables .regions)) (b .tables .regions) _ refl
-
--- ---- the regions that have committed
-
 abbrev Gone : Board → List Account → List ℕ → Type 0
 Gone b es ks = (k : ℕ) → isIn k ks ≡ (isOpened es k && not (isListed k b))
 
-gone-settled : {m : Memory} (b b′ : Board) (es es′ : List Account) (ks : List ℕ) → Simulated m b′ es′ → ((k : ℕ) → isListed k b′ ≡ isListed k b)
+gone-settled : {m : Memory} (b b′ : Board) (es es′ : List Account) (ks : List ℕ) → Simulated m b′ es′ → boardKeys b′ ≡ boardKeys b
     → ((k : ℕ) → isOpened es′ k ≡ isOpened es k) → Gone b es ks → Gone (settledBoard b′ .board) es′ (settled (b′ .tables) .keys ++ ks)
 unfolding settledBoard
 gone-settled b b′ es es′ ks (by s h rc i) same op p k =
@@ -142,7 +103,7 @@ gone-settled b b′ es es′ ks (by s h rc i) same op p k =
     rw (is-in-both k (settled (b′ .tables) .keys) ks, z .0)
     (test (isIn k (settled (b′ .tables) .keys))
     (λ e. let bo : isOpened es′ k ≡ true = sym (i .told .born k) ∙ and-true (s .born k) (not (s .done k)) (sym (i .live k) ∙ z .1 e) .0 in rw (e, bo))
-    (λ e. rw (e, same k, op k) (p k)))
+    (λ e. rw (e, listed-keys (b′ .tables .regions) (b .tables .regions) same k, op k) (p k)))
 
 gone-begin : (t : ℕ) (m : Memory) (b : Board) (es : List Account) (ks : List ℕ) → refusal (b .tables) (Begin t) ≡ 0 → Kept m b es → Gone b es ks
     → Gone (apply b (Begin t) .board) (Opens t ∷ es) ks
@@ -175,15 +136,16 @@ gone-after m b es ks (Setup n l) r kept p = p
 gone-after m b es ks (Begin t) r kept p = gone-begin t m b es ks r kept p
 gone-after m b es ks (End t) r kept p =
     test (eqb (depthOf t (b .tables)) 1)
-    (λ d. rw d (gone-settled b (endRegion t b) es (Closes t ∷ es) ks (ends-region t m b es r d kept .0) (λ k. end-listed k t b) (λ k. refl) p))
+    (λ d. rw d (gone-settled b (endRegion t b) es (Closes t ∷ es) ks (ends-region t m b es r d kept .0) (end-keys t b) (λ k. refl) p))
     (λ d. rw d p)
 gone-after m b es ks (Read t l w) r kept p =
-    λ k. p k ∙ ap (λ x. isOpened es k && not x) (sym (read-listed k t l b))
-gone-after m b es ks (Write t l w v) r kept p = λ k. rw (write-listed k t l (storedIn w v) b) (p k)
+    λ k. p k ∙ ap (λ x. isOpened es k && not x)
+    (sym (listed-keys (read (current t (b .tables)) l (b .tables) .regions) (b .tables .regions) (read-keys (current t (b .tables)) l (b .tables)) k))
+gone-after m b es ks (Write t l w v) r kept p = λ k. rw (listed-keys (write t l (storedIn w v) b .tables .regions) (b .tables .regions) (write-keys t l (storedIn w v) b) k) (p k)
 gone-after m b es ks (LogAck l) r kept p =
-    gone-settled b (logAck l b) es (Nothing ∷ es) ks (log-ack l m b es r kept .0) (λ k. log-listed k l b) (λ k. refl) p
+    gone-settled b (logAck l b) es (Nothing ∷ es) ks (log-ack l m b es r kept .0) (log-keys l b) (λ k. refl) p
 gone-after m b es ks (DataAck l) r kept p =
-    gone-settled b (dataAck l b) es (Nothing ∷ es) ks (lands l m b es r kept .0) (λ k. data-listed k l b) (λ k. refl) p
+    gone-settled b (dataAck l b) es (Nothing ∷ es) ks (lands l m b es r kept .0) (data-keys l b) (λ k. refl) p
 gone-after m b es ks (Fence t) r kept p = p
 gone-after m b es ks Cut r kept p = p
 

@@ -8,6 +8,7 @@ pub mod Places
 pub mod SlotLaws
 pub mod Start
 pub mod Recover
+pub mod Keys
 pub mod Commits
 pub mod Cuts
 pub mod Demand3
