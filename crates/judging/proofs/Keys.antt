@@ -6,7 +6,7 @@ use lib.Dec.{eqb}
 use lib.ListN.{length, length-map, take}
 use Rattle.judging.specs.Marks.{isFaulty, isUnlisted}
 use Rattle.judging.specs.Reach.{clashBy, isRegion, isRound, keyed, linkOf, linksOf, placeIn, tableBy, tangledBy}
-use Rattle.rules.proofs.Places.{any-map, place-map}
+use Rattle.rules.proofs.Lists.{any-map, place-map}
 use Rattle.rules.specs.Contradiction.{isAstray, isListed}
 use Rattle.rules.specs.Lists.{place}
 use Rattle.rules.specs.declared.Listed.{Listed}

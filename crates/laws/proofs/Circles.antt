@@ -11,7 +11,7 @@ use borrow.Author.Tests.{eqb-true, ltb-false, ne-eqb}
 use Rattle.rules.proofs.Recover.Rising.{Rises, rises-above}
 use Rattle.rules.proofs.Recover.Saved.{any-of}
 use Rattle.rules.proofs.Recover.Walk.{needed, nextOf}
-use Rattle.rules.proofs.Places.{place-lt}
+use Rattle.rules.proofs.Lists.{place-lt}
 use Rattle.rules.specs.Contradiction.{depsOf, isCircle, reaches, reachesIn}
 use Rattle.rules.specs.declared.Listed.{Listed}
 use Rattle.undo.proofs.Laws.{is-same, never, or-false, or-right, or-true, test}

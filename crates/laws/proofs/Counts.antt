@@ -9,8 +9,9 @@ use native.Mathlib.Nat.{zero-add}
 use native.Mathlib.Omega.{arith}
 use borrow.Author.Tests.{eqb-false, eqb-true, not-true}
 use Rattle.laws.proofs.Opened.{Once, more, nothing}
-use Rattle.rules.proofs.Places.{Unique, count-map, listed-at, listed-key, unique-commit, unique-mapped}
-use Rattle.rules.proofs.Sim.Commit.{ready}
+use Rattle.rules.proofs.Places.{Unique, listed-at, listed-key, unique-commit, unique-mapped}
+use Rattle.rules.proofs.Lists.{count-map}
+use Rattle.rules.proofs.Sim.Done.{ready}
 use Rattle.rules.specs.Commit.{Settled, afterCommit, before, commit, commits, doneRegion, earliest, settle, settled}
 use Rattle.rules.specs.Lists.{all, count, place}
 use Rattle.rules.specs.Tables.{isHeld, isKey, listed, noRegion, withRegions}

@@ -17,14 +17,15 @@ use Rattle.laws.specs.Laws.{CommitsAddUp, CommittedEnded, CutCounts, Fen
 use Rattle.laws.specs.Words.{opensIn, opensOf, toldIn, toldOf}
 use Rattle.rules.proofs.Commits.{CommitsTold, commits-told}
 use Rattle.rules.proofs.Recover.Expected.{committed-done, committed-ended}
-use Rattle.rules.proofs.Places.{any-at, count-put, count-room, key-at, listed-at, listed-key, place-listed, place-lt, place-true}
+use Rattle.rules.proofs.Lists.{any-at, count-put, count-room, place-lt, place-true}
+use Rattle.rules.proofs.Places.{key-at, listed-at, listed-key, place-listed}
 use Rattle.rules.proofs.Sim.State.{Kept, Sim, Simulated, by}
 use Rattle.rules.proofs.Sim.Ack.{log-ack}
 use Rattle.rules.proofs.Sim.All.{every}
 use Rattle.rules.proofs.Tests.{passed}
 use Rattle.rules.proofs.Sim.Commit.{unique-regions}
 use Rattle.rules.proofs.Sim.Data.{lands}
-use Rattle.rules.proofs.Sim.Regions.{ends-region}
+use Rattle.rules.proofs.Sim.End.{ends-region}
 use Rattle.rules.specs.Access.{read, storedIn, write}
 use Rattle.rules.specs.Acknowledge.{dataAck, logAck}
 use Rattle.rules.specs.Begin.{begin, opened}

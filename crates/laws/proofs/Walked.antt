@@ -14,7 +14,7 @@ use Rattle.laws.proofs.Whole.{all-counted, by-keys, keys-rise, walk-cou
 use Rattle.laws.specs.Images.{FinishedLast, WalkWhole, isEntry, loggedIs}
 use Rattle.rules.proofs.Codec.Image.{read-records, read-valid}
 use Rattle.rules.proofs.Codec.Valid.{Valid}
-use Rattle.rules.proofs.Places.{any-none}
+use Rattle.rules.proofs.Lists.{any-none}
 use Rattle.rules.specs.Claim.{entriesIn, isByte}
 use Rattle.rules.specs.Contradiction.{anyBroken, anyClash, clash, contradicts, inOrder, isAstray, isCircle, isLeftOver, isListed, isUnknownState, isUnnumbered}
 use Rattle.rules.specs.Image.{Logged, Persistent}

@@ -11,7 +11,7 @@ use Rattle.laws.proofs.Circles.{depsIn, keysIn, not-stuck}
 use Rattle.rules.proofs.Codec.Valid.{count-append, keyOfListed, rises}
 use Rattle.rules.proofs.Recover.Rising.{Rises, higher, no-more}
 use Rattle.rules.proofs.Recover.Walk.{at-in, needed, nextOf, without-gone, without-left, without-length, without-rises, without-was}
-use Rattle.rules.proofs.Places.{any-map, place-map}
+use Rattle.rules.proofs.Lists.{any-map, place-map}
 use Rattle.rules.specs.Contradiction.{isCircle, isListed, isUnnumbered}
 use Rattle.rules.specs.Image.{Logged}
 use Rattle.rules.specs.Lists.{count, place}

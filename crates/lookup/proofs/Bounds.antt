@@ -7,7 +7,7 @@ use lib.ListN.{getD, length}
 use native.Mathlib.Omega.{arith}
 use borrow.Author.Tests.{ltb-false}
 use Rattle.lookup.proofs.Search.{any-place}
-use Rattle.rules.proofs.Places.{place-le}
+use Rattle.rules.proofs.Lists.{place-le}
 use Rattle.rules.specs.Lists.{place}
 use Rattle.rules.specs.Slots.{isEmpty, names, orAt, slotFor, slotFrom}
 use Rattle.rules.specs.declared.Found.{Found}

@@ -11,7 +11,7 @@ use native.Mathlib.Omega.{arith}
 use native.Mathlib.Nat.{mod-eq-of-lt}
 use borrow.Author.Tests.{eq-eqb, eqb-false, eqb-true, ltb-false, ltb-true, ne-eqb}
 use Rattle.undo.proofs.Laws.{test}
-use Rattle.rules.proofs.Places.{place-lt}
+use Rattle.rules.proofs.Lists.{place-lt}
 use Rattle.rules.specs.Access.{isHad, isOf}
 use Rattle.rules.specs.Lists.{place}
 use Rattle.undo.specs.Table.{any}

@@ -12,9 +12,10 @@ use Rattle.rules.proofs.Places.{Unique, listed-commit, listed-key, list
 use Rattle.rules.proofs.Sim.State.{Kept, Simulated, by}
 use Rattle.rules.proofs.Sim.Ack.{log-ack}
 use Rattle.rules.proofs.Sim.All.{sound-record, step-kept}
-use Rattle.rules.proofs.Sim.Commit.{ready}
+use Rattle.rules.proofs.Sim.Done.{ready}
 use Rattle.rules.proofs.Sim.Data.{lands}
-use Rattle.rules.proofs.Sim.Regions.{born-begun, ends-region, listed-begun, newKey, unborn}
+use Rattle.rules.proofs.Sim.Begin.{born-begun, listed-begun, newKey, unborn}
+use Rattle.rules.proofs.Sim.End.{ends-region}
 use Rattle.rules.proofs.Start.{initially}
 use Rattle.rules.proofs.Views.{isOpened}
 use Rattle.rules.specs.Access.{read, storedIn, write}

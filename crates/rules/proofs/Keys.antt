@@ -6,7 +6,7 @@ use mathlib.Core.List.{List, [], _∷_, map}
 use lib.Dec.{eqb}
 use lib.ListN.{getD, length, set}
 use borrow.Author.Tests.{eqb-true}
-use Rattle.rules.proofs.Places.{any-map, count-map, place-map}
+use Rattle.rules.proofs.Lists.{any-map, count-map, place-map}
 use Rattle.rules.specs.Access.{logged, needsLog, read, stored, storedIn, write, wrote}
 use Rattle.rules.specs.Acknowledge.{dataAck, dropped, flightPlace, landed, logAck, unlocked}
 use Rattle.rules.specs.Begin.{begin, opened}

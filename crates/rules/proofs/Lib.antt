@@ -1,11 +1,14 @@
 pub mod Cases
 pub mod Laws
+pub mod AnyOrder
 pub mod Tests
 pub mod Codec
 pub mod Views
 pub mod Sim
+pub mod Lists
 pub mod Places
 pub mod SlotLaws
+pub mod SlotWrites
 pub mod Start
 pub mod Recover
 pub mod Keys

@@ -1,6 +1,7 @@
 pub mod Rising
 pub mod Saved
 pub mod Live
+pub mod Olds
 pub mod Log
 pub mod Valid
 pub mod Walk

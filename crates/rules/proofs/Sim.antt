@@ -2,10 +2,15 @@ pub mod State
 pub mod Base
 pub mod Parts
 pub mod Flight
-pub mod Regions
+pub mod Depth
+pub mod Begin
+pub mod End
 pub mod Access
+pub mod Store
+pub mod Logged
 pub mod Write
 pub mod Ack
+pub mod Done
 pub mod Commit
 pub mod Data
 pub mod All

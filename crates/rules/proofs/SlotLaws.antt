@@ -1,23 +1,18 @@
 -- The slots of a region, seen by line: what a write, a flight, a dropped and a landed flight make of them.
-use Prim.Native.Nat.{_+_, _<_, suc, ℕ}
+use Prim.Native.Nat.{_<_, ℕ}
 use mathlib.Core.Path.{_∙_, _≡_, ap, refl, sym}
 use mathlib.Core.Bool.{Bool, _&&_, _||_, cond, false, false≢true, not, true, true≢false}
 use mathlib.Core.List.{List, [], _∷_, map}
-use lib.Dec.{eqb, lit<, ltb}
+use lib.Dec.{eqb, lit<}
 use lib.ListN.{getD, length, length-map, length-set, set}
-use native.Mathlib.Omega.{arith}
 use borrow.Author.Tests.{eq-eqb, eqb-false, eqb-true, not-false}
 use lib.Seq.{getD-set-other, getD-set-same}
-use native.Mathlib.Nat.{add-zero, zero-add}
-use Rattle.rules.proofs.Codec.Bytes.{all-set, isLine, isWord}
 use Rattle.rules.proofs.Sim.State.{Distinct, more, none}
 use Rattle.rules.proofs.Views.{carryOf, stateOf}
 use Rattle.rules.specs.Acknowledge.{droppedSlot}
-use Rattle.rules.specs.Lists.{all, place}
-use Rattle.rules.specs.Slots.{carried, carries, counted, countedSlot, flies, flownSlot, flownSlots, isEmpty, isFlight, isFull, isRipe, names, orAt, slotFor, slotFrom, written, writtenAt}
+use Rattle.rules.specs.Lists.{place}
+use Rattle.rules.specs.Slots.{carried, carries, counted, countedSlot, flies, flownSlot, flownSlots, isEmpty, isFlight, isRipe, names}
 use Rattle.rules.specs.Tables.{lineOf, noSlot}
-use Rattle.rules.specs.declared.Found.{Found}
-use Rattle.rules.specs.declared.Found.the-variants.{At, Full}
 use Rattle.rules.specs.declared.Slot.{Slot}
 use Rattle.rules.specs.declared.SlotState.{SlotState}
 use Rattle.rules.specs.declared.SlotState.the-variants.{Empty, InFlight, Waiting}
@@ -47,7 +42,7 @@ names-true l Empty k e = absurd (false≢true e)
 names-true l (Waiting c) k e = (refl, eqb-true k l e)
 names-true l InFlight k e = (refl, eqb-true k l e)
 
-names-empty : (l : ℕ) (st : SlotState) (k : ℕ) → isEmpty st ≡ true → names l st k ≡ false
+pub names-empty : (l : ℕ) (st : SlotState) (k : ℕ) → isEmpty st ≡ true → names l st k ≡ false
 names-empty l Empty k e = refl
 names-empty l (Waiting c) k e = absurd (false≢true e)
 names-empty l InFlight k e = absurd (false≢true e)
@@ -156,7 +151,7 @@ pub record Mends (f : Slot → Slot) : Type 0 where
   pub lines : (s : Slot) → isEmpty (f s .state) ≡ false → (isEmpty (s .state) ≡ false) × (f s .line ≡ s .line)
   pub whole : (s : Slot) → (isEmpty (s .state) ≡ true → s ≡ noSlot) → isEmpty (f s .state) ≡ true → f s ≡ noSlot
 
-mend-absent : {f : Slot → Slot} (l : ℕ) (ss : List Slot) → Mends f → stateOf l ss ≡ Empty → stateOf l (map f ss) ≡ Empty
+pub mend-absent : {f : Slot → Slot} (l : ℕ) (ss : List Slot) → Mends f → stateOf l ss ≡ Empty → stateOf l (map f ss) ≡ Empty
 unfolding stateOf
 mend-absent l [] m e = refl
 mend-absent {f} l (s ∷ ss) m e =
@@ -184,12 +179,12 @@ mend-none ss m e = all-clear (map _ ss) (λ l. mend-absent l ss m (no-slots l ss
 
 -- ---- counting
 
-counted-empty : (st : SlotState) → isEmpty (counted st) ≡ isEmpty st
+pub counted-empty : (st : SlotState) → isEmpty (counted st) ≡ isEmpty st
 counted-empty Empty = refl
 counted-empty (Waiting c) = refl
 counted-empty InFlight = refl
 
-counted-names : (l : ℕ) (st : SlotState) (k : ℕ) → names l (counted st) k ≡ names l st k
+pub counted-names : (l : ℕ) (st : SlotState) (k : ℕ) → names l (counted st) k ≡ names l st k
 counted-names l Empty k = refl
 counted-names l (Waiting c) k = refl
 counted-names l InFlight k = refl
@@ -199,14 +194,14 @@ counted-view car l Empty = refl
 counted-view car l (Waiting c) = refl
 counted-view car l InFlight = refl
 
-counted-mends : Mends countedSlot
+pub counted-mends : Mends countedSlot
 counted-mends =
     record {
       lines = λ s e. (sym (counted-empty (s .state)) ∙ e, refl);
       whole = λ s a e. rw (a (sym (counted-empty (s .state)) ∙ e));
     }
 
-state-counted : (l : ℕ) (ss : List Slot) → stateOf l (map countedSlot ss) ≡ counted (stateOf l ss)
+pub state-counted : (l : ℕ) (ss : List Slot) → stateOf l (map countedSlot ss) ≡ counted (stateOf l ss)
 state-counted l ss = state-map l countedSlot counted ss (λ s. counted-names l (s .state) (s .line)) (λ s d. refl) refl
 
 -- ---- flights
@@ -367,139 +362,3 @@ landed-dropped l (more {s = s} {ss = ss} a n r ds) e =
     (λ d. let z : stateOf l ss ≡ Empty = rest-absent l (carries-named l s d) (more {s = s} {ss = ss} a n r ds) in
     rw (d, dropped-same l ss (none-carried l ss z)))
     (λ d. rw (d, landed-dropped l ds (rw d at e)))
-
--- ---- the slot that a write takes
-
--- place p is line l's slot, or an empty one where no slot names the line
-data Fits (l : ℕ) : List Slot → ℕ → Type 0 where
-  is-named : {s : Slot} {ss : List Slot} → named l s ≡ true → Fits l (s ∷ ss) 0
-  is-free : {s : Slot} {ss : List Slot} → isEmpty (s .state) ≡ true → stateOf l ss ≡ Empty → Fits l (s ∷ ss) 0
-  later : {s : Slot} {ss : List Slot} {p : ℕ} → named l s ≡ false → Fits l ss p → Fits l (s ∷ ss) (suc p)
-
-fits-counted : {l p : ℕ} {ss : List Slot} → Fits l ss p → Fits l (map countedSlot ss) p
-fits-counted {l} (is-named {s = s} e) = is-named (counted-names l (s .state) (s .line) ∙ e)
-fits-counted {l} (is-free {s = s} {ss = ss} e n) = is-free (counted-empty (s .state) ∙ e) (mend-absent l ss counted-mends n)
-fits-counted {l} (later {s = s} e f) = later (counted-names l (s .state) (s .line) ∙ e) (fits-counted f)
-
-module _ {l : ℕ} (x : Slot) (own : named l x ≡ true) where
-  state-at : {p : ℕ} {ss : List Slot} → Fits l ss p → stateOf l (set ss p x) ≡ x .state
-  unfolding stateOf
-  state-at (is-named e) = rw own
-  state-at (is-free e n) = rw own
-  state-at (later e f) = rw e (state-at f)
-
-  state-beside : {p : ℕ} {ss : List Slot} (k : ℕ) → eqb k l ≡ false → Fits l ss p → stateOf k (set ss p x) ≡ stateOf k ss
-  unfolding stateOf
-  state-beside k n (is-named {s = s} e) = rw (other x own, other s e)
-    where
-      other : (y : Slot) → named l y ≡ true → named k y ≡ false
-      other y d = names-other k (y .state) (y .line) (rw (names-true l (y .state) (y .line) d .1) (flip k l n))
-  state-beside k n (is-free {s = s} e a) =
-      rw (names-other k (x .state) (x .line) (rw (names-true l (x .state) (x .line) own .1) (flip k l n)), names-empty k (s .state) (s .line) e)
-  state-beside k n (later {s = s} e f) = test (named k s) (λ d. rw d) (λ d. rw d (state-beside k n f))
-
-  distinct-set : {p : ℕ} {ss : List Slot} → l < 256 → Fits l ss p → Distinct ss → Distinct (set ss p x)
-  distinct-set i (is-named {s = s} {ss = ss} e) (more a n r ds) =
-      let z = names-true l (x .state) (x .line) own in
-      more {s = x} {ss = ss} (λ h. never h (z .0)) (λ h. rw (z .1) (rest-absent l e (more {s = s} {ss = ss} a n r ds))) (rw (z .1) i) ds
-  distinct-set i (is-free {s = s} {ss = ss} e m) (more a n r ds) =
-      let z = names-true l (x .state) (x .line) own in
-      more {s = x} {ss = ss} (λ h. never h (z .0)) (λ h. rw (z .1) m) (rw (z .1) i) ds
-  distinct-set i (later {s = s} {ss = ss} {p = p} e f) (more a n r ds) =
-      more {s = s} {ss = set ss p x} a
-      (λ h. let o : eqb (s .line) l ≡ false = test (eqb (s .line) l) (λ g. never (names-here l (s .state) (s .line) h g) e) (λ g. g) in
-      state-beside (s .line) o f ∙ n h)
-      r (distinct-set i f ds)
-
--- ---- the search for the slot
-
-fits-named : (l : ℕ) (ss : List Slot) → any (named l) ss ≡ true → Fits l ss (place (named l) ss)
-unfolding place
-fits-named l [] e = absurd (false≢true e)
-fits-named l (s ∷ ss) e = test (named l s) (λ d. rw d (is-named d)) (λ d. rw d (later d (fits-named l ss (rw d at e))))
-
-fits-free : (l : ℕ) (ss : List Slot) → any (named l) ss ≡ false → any empties ss ≡ true → Fits l ss (place empties ss)
-unfolding place
-fits-free l [] n e = absurd (false≢true e)
-fits-free l (s ∷ ss) n e =
-    let z = or-false (named l s) (any (named l) ss) n in
-    test (isEmpty (s .state))
-    (λ d. rw d (is-free d (state-none l ss (z .1))))
-    (λ d. rw d (later (z .0) (fits-free l ss (z .1) (rw d at e))))
-
-search-named : (l : ℕ) (free : Found) (i : ℕ) (ss : List Slot) → any (named l) ss ≡ true → slotFrom l free i ss ≡ At (i + place (named l) ss)
-unfolding slotFrom place
-search-named l free i [] e = absurd (false≢true e)
-search-named l free i (s ∷ ss) e =
-    test (named l s)
-    (λ d. rw (d, add-zero i))
-    (λ d. let ih : slotFrom l (orAt free (isEmpty (s .state)) i) (suc i) ss ≡ At (suc i + place (named l) ss)
-    = search-named l (orAt free (isEmpty (s .state)) i) (suc i) ss (rw d at e) in
-    let q : suc i + place (named l) ss ≡ i + suc (place (named l) ss) = omega arith in
-    rw (d, ih, q))
-
-search-had : (l k i : ℕ) (ss : List Slot) → any (named l) ss ≡ false → slotFrom l (At k) i ss ≡ At k
-unfolding slotFrom
-search-had l k i [] e = refl
-search-had l k i (s ∷ ss) e = let z = or-false (named l s) (any (named l) ss) e in rw (z .0) (search-had l k (suc i) ss (z .1))
-
-search-free : (l i : ℕ) (ss : List Slot) → any (named l) ss ≡ false → slotFrom l Full i ss ≡ cond (any empties ss) (At (i + place empties ss)) Full
-unfolding slotFrom place
-search-free l i [] e = refl
-search-free l i (s ∷ ss) e =
-    let z = or-false (named l s) (any (named l) ss) e in
-    test (isEmpty (s .state))
-    (λ d. rw (z .0, d, add-zero i) (search-had l i (suc i) ss (z .1)))
-    (λ d. let q : suc i + place empties ss ≡ i + suc (place empties ss) = omega arith in
-    rw (z .0, d, ← q) (search-free l (suc i) ss (z .1)))
-
--- a slot that waits with count 0
-abbrev pub waiting : ℕ → Slot
-waiting l = record { line = l; state = Waiting 0 }
-
--- the slots after a write
-data Wrote (l : ℕ) (ss : List Slot) : Type 0 where
-  at : (p : ℕ) → Fits l ss p → written l ss ≡ set (map countedSlot ss) p (waiting l) → Wrote l ss
-
-wrote-at : (l : ℕ) (ss : List Slot) → isFull (slotFor l ss) ≡ false → Wrote l ss
-unfolding written
-wrote-at l ss e =
-    test (any (named l) ss)
-    (λ d. at (place (named l) ss) (fits-named l ss d) (rw (search-named l Full 0 ss d, zero-add (place (named l) ss))))
-    (λ d. test (any empties ss)
-    (λ f. at (place empties ss) (fits-free l ss d f) (rw (search-free l 0 ss d, f, zero-add (place empties ss))))
-    (λ f. absurd (true≢false (rw (search-free l 0 ss d, f) at e))))
-
-pub length-written : (l : ℕ) (ss : List Slot) → length (written l ss) ≡ length ss
-unfolding written
-length-written l ss = go (slotFor l ss)
-  where
-    go : (f : Found) → length (writtenAt l f ss) ≡ length ss
-    go (At p) = length-set (map countedSlot ss) p (waiting l) ∙ length-map ss countedSlot
-    go Full = refl
-
-module _ (ss : List Slot) (l : ℕ) (room : isFull (slotFor l ss) ≡ false) where
-  pub state-written : stateOf l (written l ss) ≡ Waiting 0
-  state-written = go (wrote-at l ss room)
-    where
-      go : Wrote l ss → stateOf l (written l ss) ≡ Waiting 0
-      go (at p f e) = rw e (state-at (waiting l) (is-same l) (fits-counted f))
-
-  pub state-written-other : (k : ℕ) → eqb k l ≡ false → stateOf k (written l ss) ≡ counted (stateOf k ss)
-  state-written-other k n = go (wrote-at l ss room)
-    where
-      go : Wrote l ss → stateOf k (written l ss) ≡ counted (stateOf k ss)
-      go (at p f e) = rw e (state-beside (waiting l) (is-same l) k n (fits-counted f) ∙ state-counted k ss)
-
-  pub distinct-written : l < 256 → Distinct ss → Distinct (written l ss)
-  distinct-written i ds = go (wrote-at l ss room)
-    where
-      go : Wrote l ss → Distinct (written l ss)
-      go (at p f e) = rw e (distinct-set (waiting l) (is-same l) i (fits-counted f) (distinct-map counted-mends ds))
-
--- ---- a line keeps its form when a word is stored
-
-pub line-set : (x : List ℕ) (w v : ℕ) → ltb v 18446744073709551616 ≡ true → isLine x ≡ true → isLine (set x w v) ≡ true
-line-set x w v h e =
-    let z = and-true (eqb (length x) 8) (all isWord x) e in
-    rw (length-set x w v, z .0) (all-set isWord x w v (z .1) h)

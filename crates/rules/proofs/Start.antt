@@ -13,7 +13,7 @@ use Rattle.rules.proofs.Codec.Bytes.{isLine, line-small}
 use Rattle.rules.proofs.Places.{getD-same, once-one}
 use Rattle.rules.proofs.Sim.State.{GoodRegions, Kept, Logs, Shape, Sim, Told, by}
 use Rattle.rules.proofs.Sim.Base.{clear-waits}
-use Rattle.rules.proofs.Sim.Regions.{free-slots, state-free}
+use Rattle.rules.proofs.Sim.Begin.{free-slots, state-free}
 use Rattle.rules.specs.Claim.{isByte, isByteMemory}
 use Rattle.rules.specs.Commit.{commits}
 use Rattle.rules.specs.History.{depthIn, endsIn, lastWriter, linesIn, openedIn, usesIn, writesIn}

@@ -9,7 +9,7 @@ use native.Mathlib.Omega.{arith}
 use borrow.Author.Tests.{eq-eqb, eqb-true, ne-eqb}
 use Rattle.undo.proofs.Laws.{never, test}
 use Rattle.undo.specs.Table.{any}
-use Rattle.rules.proofs.Places.{any-place, place-true}
+use Rattle.rules.proofs.Lists.{any-place, place-true}
 use Rattle.rules.specs.Access.{dependence, joined, loggedOnce, read, stored, write, wrote}
 use Rattle.rules.specs.Acknowledge.{dropped, droppedSlot, logAck, unlocked}
 use Rattle.rules.specs.Begin.{begin}

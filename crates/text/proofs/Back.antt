@@ -1,5 +1,5 @@
 -- Numbers and words are read back.
-use borrow.Author.Tests.{not-true}
+use borrow.Author.Tests.{not-true, le-ltb, lt-ltb, ltb-false, ltb-true, ne-eqb}
 use Prim.Native.Nat.{_%_, _*_, _+_, _-_, _/_, _<_, _^_, _≤_, suc, zero, ℕ}
 use mathlib.Core.Path.{_∙_, _≡_, refl, sym}
 use mathlib.Core.Bool.{Bool, _&&_, false, not, true}
@@ -7,7 +7,6 @@ use mathlib.Core.List.{List, [], _++_, _∷_, append-assoc, map}
 use lib.Dec.{eqb, ltb}
 use lib.ListN.{length, length-append}
 use native.Mathlib.Omega.{arith}
-use borrow.Author.Tests.{le-ltb, lt-ltb, ltb-false, ltb-true, ne-eqb}
 use native.Mathlib.Nat.{div-lt-iff-lt-mul, pow-suc}
 use Rattle.rules.specs.Lists.{all, flat}
 use Rattle.text.proofs.Numbers.{digit-not, is-number}

@@ -1,5 +1,5 @@
 -- Fields and lines are read back.
-use Rattle.lines.proofs.Words.{bytes-num}
+use Rattle.lines.proofs.Words.{bytes-num, Bytes, a-byte, no-byte}
 use Prim.Native.Nat.{_*_, _+_, _<_, _^_, _≤_, suc, zero, ℕ}
 use mathlib.Core.Path.{_∙_, _≡_, ap, refl, sym}
 use mathlib.Core.Bool.{true}
@@ -9,7 +9,6 @@ use native.Mathlib.Omega.{arith}
 use borrow.Author.Tests.{lt-ltb, ne-eqb}
 use lib.Seq.{drop-append-le, length-take-le, take-append-le}
 use native.Mathlib.Nat.{pow-suc}
-use Rattle.lines.proofs.Words.{Bytes, a-byte, no-byte}
 use Rattle.rules.specs.Bytes.{bytesOf, numOf}
 use Rattle.rules.specs.Lists.{all, flat, place}
 use Rattle.rules.specs.Record.{bodyLength}

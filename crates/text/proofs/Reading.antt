@@ -9,7 +9,7 @@ use native.Mathlib.Omega.{arith}
 use borrow.Author.Tests.{ne-eqb}
 use lib.Seq.{drop-cons, drop-drop}
 use native.Mathlib.Nat.{zero-add}
-use Rattle.rules.proofs.Places.{place-le}
+use Rattle.rules.proofs.Lists.{place-le}
 use Rattle.rules.specs.Bytes.{bytesOf}
 use Rattle.rules.specs.Lists.{place}
 use Rattle.text.proofs.Rooms.{puts-filled, puts-join}

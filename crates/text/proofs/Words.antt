@@ -10,7 +10,7 @@ use native.Mathlib.Numerals.{add-one}
 use borrow.Author.Tests.{eqb-true, ne-eqb}
 use lib.Seq.{drop-cons, drop-drop, getD-drop}
 use Rattle.lookup.proofs.Bounds.{place-passes}
-use Rattle.rules.proofs.Places.{place-le}
+use Rattle.rules.proofs.Lists.{place-le}
 use Rattle.rules.specs.Lists.{place}
 use Rattle.text.specs.Read.{glued, inWord, isBreak, same, stops, wordsIn}
 use Rattle.text.specs.Results.{NextWord}

@@ -11,7 +11,7 @@ use native.Mathlib.Omega.{arith}
 use borrow.Author.Tests.{le-ltb, lt-ltb}
 use Rattle.judging.proofs.Search.{left-nil, take-least}
 use Rattle.judging.specs.Marks.{noListed}
-use Rattle.rules.proofs.Places.{any-map, place-map}
+use Rattle.rules.proofs.Lists.{any-map, place-map}
 use Rattle.rules.specs.Lists.{place}
 use Rattle.rules.specs.Walk.{nextPlace, walkFrom, without}
 use Rattle.rules.specs.declared.Listed.{Listed}

@@ -1,10 +1,9 @@
-use mathlib.Core.Path.{_∙_, ap}
+use mathlib.Core.Path.{_∙_, ap, _≡_}
 use native.Mathlib.Omega.{arith}
 use Rattle.lines.proofs.Paste.{rest}
 use Rattle.engine.specs.Parts.{sizeOf}
 use Rattle.engine.proofs.Records.{count-more, file-end, front-fits}
 use Prim.Native.Nat.{_+_, _-_, _≤_}
-use mathlib.Core.Path.{_≡_}
 use lib.ListN.{drop, length}
 use Rattle.rules.specs.Record.{recordsFrom, recordsOf}
 use borrow.Author.Needs.{needs}

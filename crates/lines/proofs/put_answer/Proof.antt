@@ -1,9 +1,8 @@
 use Prim.Native.Nat.{_+_, _≤_}
 use mathlib.Core.Path.{_∙_, sym}
-use lib.ListN.{length}
+use lib.ListN.{length, length-set}
 use borrow.Author.Tests.{leb-true}
 use native.Mathlib.Omega.{arith}
-use lib.ListN.{length-set}
 use lib.Seq.{length-sets}
 use native.Mathlib.Numerals.{add-one}
 use Rattle.lines.proofs.Room.{put-room}

@@ -1,11 +1,9 @@
-use Prim.Native.Nat.{_+_, _≤_}
-use mathlib.Core.Path.{_∙_, sym}
+use Prim.Native.Nat.{_+_, _≤_, _-_}
+use mathlib.Core.Path.{_∙_, sym, _≡_}
 use lib.ListN.{length}
 use borrow.Author.Tests.{leb-true}
 use native.Mathlib.Omega.{arith}
 use lib.Seq.{sets}
-use mathlib.Core.Path.{_≡_}
-use Prim.Native.Nat.{_-_}
 use Rattle.lines.proofs.Paste.{sets-part}
 use Rattle.lines.proofs.Words.{length-words}
 use Rattle.lines.proofs.Room.{put-room}

@@ -1,15 +1,12 @@
-use Rattle.rules.specs.Refusal.{depthOf}
+use Rattle.rules.specs.Refusal.{depthOf, Test, refusal, testsOf}
 use Rattle.rules.specs.declared.Tables.{Tables}
 use lib.Dec.{eqb}
-use mathlib.Core.Bool.{true}
-use mathlib.Core.Path.{_≡_}
+use mathlib.Core.Bool.{true, Bool}
+use mathlib.Core.Path.{_≡_, _∙_, refl, sym}
 use Prim.Native.Nat.{ℕ}
-use mathlib.Core.Bool.{Bool}
 use mathlib.Core.List.{List}
-use mathlib.Core.Path.{_∙_, refl, sym}
 use borrow.Author.Needs.{needs}
 use borrow.Author.Tests.{eq-eqb, le-leb, lt-leb, ne-eqb}
-use Rattle.rules.specs.Refusal.{Test, refusal, testsOf}
 use Rattle.rules.specs.declared.Event.the-variants.{Begin}
 use Rattle.rows.specs.Whole.{tablesOf}
 use Rattle.refusals.proofs.Order.{Passed, goes, stops}

@@ -2,7 +2,7 @@
 use Rattle.undo.specs.Machine as u
 use Rattle.undo.specs.History as v
 use Rattle.undo.proofs.Inv.{Inv}
-use Rattle.undo.specs.Claim.{Reach, Structure}
+use Rattle.undo.specs.Claim.{Reach, Structure, start}
 use Prim.Native.Nat.{_+_, _<_, _≤_, suc, ℕ}
 use mathlib.Core.Path.{_∙_, _≡_, ap, sym}
 use mathlib.Core.Logic.{_≢_, _⊎_, ⊎-elim}
@@ -21,7 +21,6 @@ use Rattle.rules.specs.Tables.{Board, keyOf, listed, noThread, numberOf,
 use Rattle.undo.proofs.Laws.{and-true, is-same, never, or-right, test}
 use Rattle.undo.proofs.Main.{closes, structured}
 use Rattle.undo.proofs.Steps.{reached}
-use Rattle.undo.specs.Claim.{start}
 use Rattle.undo.specs.History.{History, used}
 use Rattle.undo.specs.Machine.{State}
 use Rattle.undo.specs.Table.{isIn}

@@ -1,5 +1,5 @@
 -- The dependence list as an image holds it: the listed regions by rising keys, each with its dependences in their order.
-use lib.Seq.{length-take-le}
+use lib.Seq.{length-take-le, take-append-add}
 use Prim.Native.Nat.{_+_, _-_, _≤_, suc, zero, ℕ}
 use mathlib.Core.Path.{_∙_, _≡_, ap, refl, sym}
 use mathlib.Core.Bool.{Bool, _||_, cond, false, false≢true, not, true, true≢false}
@@ -8,10 +8,10 @@ use lib.Dec.{eqb, ltb}
 use lib.ListN.{getD, length, length-append, length-map, replicate, take}
 use native.Mathlib.Omega.{arith}
 use borrow.Author.Tests.{eqb-true, le-leb, lt-ltb, ne-eqb, not-true}
-use lib.Seq.{take-append-add}
 use Rattle.rules.proofs.Codec.Valid.{keyOfListed, rises}
 use Rattle.rules.proofs.Recover.Rising.{Rises, higher, no-more, rising-is, rising-length, rising-rises}
-use Rattle.rules.proofs.Places.{any-map, eqb-swap, key-at}
+use Rattle.rules.proofs.Lists.{any-map}
+use Rattle.rules.proofs.Places.{eqb-swap, key-at}
 use Rattle.rules.specs.Contradiction.{depsOf, inOrder, isListed}
 use Rattle.rules.specs.Image.{savedRegion, savedRegions}
 use Rattle.rules.specs.Lists.{all, place, rising}

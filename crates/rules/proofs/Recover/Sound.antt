@@ -2,7 +2,7 @@
 use Rattle.undo.specs.Machine as u
 use Rattle.undo.specs.History as v
 use Rattle.undo.specs.Claim as claim
-use Rattle.undo.specs.Claim.{Reach, Structure, age, Path, direct, through}
+use Rattle.undo.specs.Claim.{Reach, Structure, age, Path, direct, through, start}
 use Prim.Native.Nat.{_+_, _<_, _≤_, suc, zero, ℕ}
 use mathlib.Core.Path.{_∙_, _≡_, refl, sym}
 use mathlib.Core.Logic.{⊎-elim}
@@ -14,11 +14,13 @@ use native.Mathlib.Omega.{arith}
 use borrow.Author.Tests.{eq-eqb, eqb-true, le-leb, le-ltb, lt-ltb, ltb-true, ne-eqb, not-true}
 use native.Mathlib.Nat.{le-refl}
 use Rattle.rules.proofs.Recover.Live.{dep-listed, dep-same, deps-listed, four, listed-live, live-listed, numbered, on-predecessor, successor, was-opened, whole}
-use Rattle.rules.proofs.Recover.Log.{Each, GoodSaved, chosen, each-none, each-saved, element, isChosen, no-element, single-chosen}
+use Rattle.rules.proofs.Recover.Olds.{Each, GoodSaved, chosen, each-none, element, isChosen, no-element}
+use Rattle.rules.proofs.Recover.Log.{each-saved, single-chosen}
 use Rattle.rules.proofs.Recover.Rising.{Rises, higher, no-more, rises-above}
 use Rattle.rules.proofs.Recover.Saved.{any-of, deps-in, deps-none, depsAt, keys-in, keys-listed, keys-rise, keysOf, none-in, none-of, padded-in, padded-order, padded-zeros, saved-regions, savedAt, stateAt}
 use Rattle.rules.proofs.Recover.Walk.{at-in}
-use Rattle.rules.proofs.Places.{count-fewer, count-le, eqb-swap, key-at, listed-key, place-lt, place-true}
+use Rattle.rules.proofs.Lists.{count-fewer, count-le, place-lt, place-true}
+use Rattle.rules.proofs.Places.{eqb-swap, key-at, listed-key}
 use Rattle.rules.proofs.Sim.State.{Rest, Sim}
 use Rattle.rules.specs.Commit.{commits}
 use Rattle.rules.specs.Contradiction.{anyBroken, anyClash, brokenBefore, clash, contradicts, inOrder, isAstray, isCircle, isLeftOver, isListed, isUnknownState, isUnnumbered, reaches, reachesIn}
@@ -30,7 +32,6 @@ use Rattle.rules.specs.declared.Listed.{Listed}
 use Rattle.undo.proofs.Inv.{held}
 use Rattle.undo.proofs.Laws.{and-true, cons-nil, is-same, never, or-right, or-true, test}
 use Rattle.undo.proofs.Shape.{rest}
-use Rattle.undo.specs.Claim.{start}
 use Rattle.undo.specs.History.{History}
 use Rattle.undo.specs.Machine.{State}
 use Rattle.undo.specs.Table.{any, isIn}

@@ -1,13 +1,13 @@
 -- Recovery steps and cuts on a saved image: its bytes stay the image of the saved state with another medium, and the medium is as the undo log has it.
 use Rattle.undo.specs.Machine as u
 use Rattle.undo.specs.History as v
-use Rattle.undo.specs.Claim.{Reach, Structure, age}
+use Rattle.undo.specs.Claim.{Reach, Structure, age, start}
 use Rattle.undo.specs.Recovery as w
-use Rattle.undo.specs.Recovery.{along, olds, persistent, Placed, begins, cuts}
+use Rattle.undo.specs.Recovery.{along, olds, persistent, Placed, begins, cuts, Image, Undo}
 use Rattle.undo.proofs.Main.{finishes}
 use Rattle.rules.specs.Recovery.{Act, PowerCut, Recovering, Restore, act, acts, isFinished, putBack, restore, restoreBy}
 use Rattle.rules.specs.Claim.{restores}
-use Rattle.rules.proofs.Codec.Store.{found}
+use Rattle.rules.proofs.Codec.Store.{found, put-back, put-valid, withMedium}
 use Prim.Native.Nat.{_+_, _<_, _≤_, suc, zero, ℕ}
 use mathlib.Core.Path.{_∙_, _≡_, ap, refl, sym}
 use mathlib.Core.Bool.{Bool, false, true}
@@ -20,15 +20,15 @@ use borrow.Author.Tests.{eq-eqb, eqb-false, eqb-true}
 use lib.Seq.{ext-getD, getD-set-other, getD-set-same, getD-take, length-take-le}
 use native.Mathlib.Nat.{le-refl}
 use Rattle.rules.proofs.Codec.Back.{image-read}
-use Rattle.rules.proofs.Codec.Store.{put-back, put-valid, withMedium}
 use Rattle.rules.proofs.Codec.Turns.{size-lines}
 use Rattle.rules.proofs.Codec.Valid.{Valid}
 use Rattle.rules.proofs.Recover.Live.{dep-same, live-listed, whole}
-use Rattle.rules.proofs.Recover.Log.{Each, GoodSaved, each-append, each-saved, element, log-chosen, no-element, single-chosen, undos}
+use Rattle.rules.proofs.Recover.Olds.{Each, GoodSaved, each-append, element, no-element, undos}
+use Rattle.rules.proofs.Recover.Log.{each-saved, log-chosen, single-chosen}
 use Rattle.rules.proofs.Recover.Saved.{depsAt, keys-listed, keys-rise, keysOf, saved-regions, savedAt, stateAt}
 use Rattle.rules.proofs.Recover.Valid.{saved-valid}
 use Rattle.rules.proofs.Recover.Walk.{aimed-entries, covers, undosOf, walk-along, walk-length, walk-same, walkKeys, walks}
-use Rattle.rules.proofs.Places.{count-le}
+use Rattle.rules.proofs.Lists.{count-le}
 use Rattle.rules.proofs.Sim.State.{Sim}
 use Rattle.rules.specs.Bytes.{lineBytes}
 use Rattle.rules.specs.Contradiction.{contradicts}
@@ -39,10 +39,8 @@ use Rattle.rules.specs.Refusal.{isSetUp}
 use Rattle.rules.specs.Tables.{Board, lineOf}
 use Rattle.rules.specs.Walk.{entriesFrom, entriesOf, walk, walkEntries}
 use Rattle.undo.proofs.Laws.{same, test}
-use Rattle.undo.specs.Claim.{start}
 use Rattle.undo.specs.History.{History}
 use Rattle.undo.specs.Machine.{State}
-use Rattle.undo.specs.Recovery.{Image, Undo}
 use Rattle.undo.specs.Table.{isIn, keep, put}
 
 -- ---- lists

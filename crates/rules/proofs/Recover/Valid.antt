@@ -1,7 +1,7 @@
 -- What an accepted cut saves fits its image.
 use Rattle.undo.specs.Machine as u
 use Rattle.undo.specs.History as v
-use Rattle.undo.specs.Claim.{Reach}
+use Rattle.undo.specs.Claim.{Reach, start}
 use Rattle.rules.proofs.Codec.Bytes.{isLine, all-take}
 use Prim.Native.Nat.{_<_, suc, ℕ}
 use mathlib.Core.Path.{_∙_, _≡_, refl, sym}
@@ -15,7 +15,8 @@ use lib.Seq.{length-take-le}
 use Rattle.rules.proofs.Codec.Turns.{size-lines, size-threads}
 use Rattle.rules.proofs.Codec.Valid.{Valid, fitsEntry, fitsRegion}
 use Rattle.rules.proofs.Recover.Live.{deps-listed, threaded}
-use Rattle.rules.proofs.Recover.Log.{each-all, each-saved, log-climbs, log-few}
+use Rattle.rules.proofs.Recover.Olds.{each-all}
+use Rattle.rules.proofs.Recover.Log.{each-saved, log-climbs, log-few}
 use Rattle.rules.proofs.Recover.Saved.{all-in, all-of, depsAt, keys-length, keys-listed, keys-rise, keysOf, length-padded, rises-listed, saved-regions, savedAt, stateAt}
 use Rattle.rules.proofs.Sim.State.{Sim}
 use Rattle.rules.specs.Claim.{isByte}
@@ -25,7 +26,6 @@ use Rattle.rules.specs.Reader.{isKnownThread}
 use Rattle.rules.specs.Refusal.{isSetUp}
 use Rattle.rules.specs.Tables.{Board, listed, regionAt, threadOf}
 use Rattle.undo.proofs.Laws.{test}
-use Rattle.undo.specs.Claim.{start}
 use Rattle.undo.specs.History.{History}
 use Rattle.undo.specs.Machine.{State}
 use Rattle.rules.specs.History.{Account}

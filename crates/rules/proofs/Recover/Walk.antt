@@ -13,10 +13,10 @@ use lib.ListN.{getD, length, length-append, length-map, length-reverse}
 use native.Mathlib.Omega.{arith}
 use borrow.Author.Tests.{eqb-true, ltb-false, ltb-true, ne-eqb, not-true}
 use native.Mathlib.Nat.{le-refl}
-use Rattle.rules.proofs.Recover.Log.{chosen, chosen-aimed, undos}
+use Rattle.rules.proofs.Recover.Olds.{chosen, chosen-aimed, undos}
 use Rattle.rules.proofs.Recover.Rising.{Rises, higher, no-more, rises-above, rises-lower, rises-not}
 use Rattle.rules.proofs.Recover.Saved.{any-of, listedBy, none-of}
-use Rattle.rules.proofs.Places.{any-map, any-place, place-lt, place-map, place-true}
+use Rattle.rules.proofs.Lists.{any-map, any-place, place-lt, place-map, place-true}
 use Rattle.rules.specs.Acknowledge.{kept}
 use Rattle.rules.specs.Image.{Logged}
 use Rattle.rules.specs.Lists.{count, place}

@@ -2,8 +2,8 @@
 use Rattle.undo.specs.Machine as u
 use Rattle.undo.specs.History as v
 use mathlib.Core.Option as o
-use Rattle.undo.specs.Machine.{act}
-use Rattle.undo.specs.History.{note}
+use Rattle.undo.specs.Machine.{act, Depend, Open, State, depends, follows, owns, reads}
+use Rattle.undo.specs.History.{note, History, drawing, used}
 use Prim.Native.Nat.{ℕ}
 use mathlib.Core.Path.{_∙_, _≡_, ap, refl, sym}
 use mathlib.Core.Logic.{_≢_, _⊎_, inl, inr, ⊎-elim}
@@ -15,7 +15,8 @@ use lib.ListN.{List·getD-eq-default, getD, length, length-set, set}
 use borrow.Author.Tests.{eq-eqb, eqb-false, eqb-true, ltb-false, ltb-true, not-false}
 use lib.Seq.{set-getD}
 use Rattle.rules.proofs.Recover.Sound.{sound}
-use Rattle.rules.proofs.Places.{Once, any-none, any-put, any-set, each-set, getD-set, key-at, listed-key, listed-stored, place-lt, place-true, region-stored}
+use Rattle.rules.proofs.Places.{Once, key-at, listed-key, listed-stored, region-stored}
+use Rattle.rules.proofs.Lists.{any-none, any-put, any-set, each-set, getD-set, place-lt, place-true}
 use Rattle.rules.proofs.Sim.State.{Finished, GoodRegion, Keeps, Kept, Rest, Sim, Simulated, Told, by, none}
 use Rattle.rules.proofs.Sim.Base.{orZero, writer-same}
 use Rattle.rules.proofs.Sim.Parts.{Owner, logs-kept, no-event, once-at, open-listed, owned, owner-is, owner-stored, part-stored, shape-stored, told-kept, unowned}
@@ -35,8 +36,6 @@ use Rattle.rules.specs.declared.Region.{Region}
 use Rattle.rules.specs.declared.Tables.{Tables}
 use Rattle.undo.proofs.Laws.{and-true, flip, is-same, never, or-right, or-true, test}
 use Rattle.undo.specs.Claim.{Reach, then}
-use Rattle.undo.specs.History.{History, drawing, used}
-use Rattle.undo.specs.Machine.{Depend, Open, State, depends, follows, owns, reads}
 use Rattle.undo.specs.Table.{any, put}
 use Rattle.rules.proofs.Tests.{badAt, passed}
 

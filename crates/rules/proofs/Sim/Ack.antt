@@ -2,8 +2,8 @@
 use Rattle.undo.specs.Machine as u
 use Rattle.undo.specs.History as v
 use Rattle.undo.specs.Claim as c
-use Rattle.undo.specs.Machine.{act}
-use Rattle.undo.specs.History.{note}
+use Rattle.undo.specs.Machine.{act, Carry, Clear, State, Waits, log-acks, owns}
+use Rattle.undo.specs.History.{note, History}
 use Prim.Native.Nat.{_<_, ℕ}
 use mathlib.Core.Path.{_∙_, _≡_, ap, refl, sym}
 use mathlib.Core.Bool.{_||_, cond, false, true}
@@ -12,7 +12,8 @@ use lib.Dec.{eqb, ltb}
 use lib.ListN.{getD, length-map, length-set}
 use native.Mathlib.Omega.{arith}
 use borrow.Author.Tests.{eq-eqb, eqb-false, eqb-true, leb-false, ltb-false, ltb-true, ne-eqb, not-false}
-use Rattle.rules.proofs.Places.{Good, any-map, count-map, getD-map, getD-set, good-free, key-at, listed-key, listed-mapped, region-mapped, region-none, regions-mapped}
+use Rattle.rules.proofs.Places.{Good, good-free, key-at, listed-key, listed-mapped, region-mapped, region-none, regions-mapped}
+use Rattle.rules.proofs.Lists.{any-map, count-map, getD-map, getD-set}
 use Rattle.rules.proofs.Sim.State.{GoodEntry, GoodRegion, Kept, Logs, Rest, Shape, Sim, Simulated, Told, by}
 use Rattle.rules.proofs.Sim.Base.{lines-256, memories-same, shape-kept, thread-stored, threads-8, threads-stored}
 use Rattle.rules.proofs.Sim.Flight.{flights, flown-rest}
@@ -37,8 +38,6 @@ use Rattle.undo.proofs.Laws.{and-true, flip, is-same, never, test}
 use Rattle.undo.proofs.Main.{structured}
 use Rattle.undo.proofs.Steps.{reached}
 use Rattle.undo.specs.Claim.{Reach, then}
-use Rattle.undo.specs.History.{History}
-use Rattle.undo.specs.Machine.{Carry, Clear, State, Waits, log-acks, owns}
 use Rattle.undo.specs.Table.{any, put}
 use Rattle.rules.proofs.Tests.{badAt, passed}
 

@@ -13,7 +13,9 @@ use Rattle.rules.proofs.Sim.Access.{read-keeps}
 use Rattle.rules.proofs.Sim.Ack.{log-ack}
 use Rattle.rules.proofs.Sim.Commit.{settles}
 use Rattle.rules.proofs.Sim.Data.{keeps-data}
-use Rattle.rules.proofs.Sim.Regions.{ends-region, keeps-begin, keeps-cut, keeps-fence, keeps-setup, keeps-shallower}
+use Rattle.rules.proofs.Sim.End.{ends-region}
+use Rattle.rules.proofs.Sim.Begin.{keeps-begin}
+use Rattle.rules.proofs.Sim.Depth.{keeps-cut, keeps-fence, keeps-setup, keeps-shallower}
 use Rattle.rules.proofs.Sim.Write.{write-keeps}
 use Rattle.rules.proofs.Start.{initially}
 use Rattle.rules.specs.Bytes.{numOf}

@@ -15,7 +15,8 @@ use lib.ListN.{getD, length, length-set, set}
 use native.Mathlib.Omega.{arith}
 use borrow.Author.Tests.{leb-true, ltb-true, ne-eqb}
 use Rattle.rules.proofs.Recover.Live.{numbered}
-use Rattle.rules.proofs.Places.{eqb-swap, getD-set}
+use Rattle.rules.proofs.Places.{eqb-swap}
+use Rattle.rules.proofs.Lists.{getD-set}
 use Rattle.rules.proofs.Sim.State.{GoodEntry, GoodRegions, GoodThreads, Logs, Memories, Rest, Shape, Sim, Told, conv, none}
 use Rattle.rules.proofs.Views.{entryAt}
 use Rattle.rules.specs.Access.{logged}

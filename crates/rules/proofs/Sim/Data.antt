@@ -10,7 +10,8 @@ use lib.Dec.{eqb}
 use lib.ListN.{getD, length-map, length-set, set}
 use native.Mathlib.Omega.{arith}
 use borrow.Author.Tests.{eqb-false, eqb-true, leb-false, not-false}
-use Rattle.rules.proofs.Places.{Good, getD-set, key-at, listed-at, listed-key, listed-stored, place-lt, place-true, region-stored}
+use Rattle.rules.proofs.Places.{Good, key-at, listed-at, listed-key, listed-stored, region-stored}
+use Rattle.rules.proofs.Lists.{getD-set, place-lt, place-true}
 use Rattle.rules.proofs.Sim.State.{GoodRegion, Keeps, Kept, Memories, Sim, Simulated, by}
 use Rattle.rules.proofs.Sim.Base.{clear-waits, lines-256}
 use Rattle.rules.proofs.Sim.Commit.{settles}

@@ -1,8 +1,8 @@
 -- The flights of a region are an action `Launch` of the undo log.
 use Rattle.undo.specs.Machine as u
 use Rattle.undo.specs.History as v
-use Rattle.undo.specs.Machine.{act}
-use Rattle.undo.specs.History.{note}
+use Rattle.undo.specs.Machine.{act, Flies, Launch, State, Waits, launches}
+use Rattle.undo.specs.History.{note, History}
 use Prim.Native.Nat.{ℕ}
 use mathlib.Core.Path.{_∙_, _≡_, ap, refl, sym}
 use mathlib.Core.Bool.{Bool, _&&_, _||_, cond, false, false≢true, not, true}
@@ -25,8 +25,6 @@ use Rattle.rules.specs.declared.SlotState.the-variants.{Empty, InFlight,
 use Rattle.undo.proofs.Laws.{and-true, never, test}
 use Rattle.undo.proofs.Main.{structured}
 use Rattle.undo.specs.Claim.{Reach, then}
-use Rattle.undo.specs.History.{History}
-use Rattle.undo.specs.Machine.{Flies, Launch, State, Waits, launches}
 use Rattle.rules.specs.History.{Account}
 
 ripe-waits : (car : List (List ℕ)) (l : ℕ) (ended : Bool) (st : SlotState) → isRipe ended st ≡ true → carryOf car l st ≡ u.Waits

@@ -1,11 +1,9 @@
-use mathlib.Core.Path.{_∙_, ap, sym}
-use Rattle.trying.specs.Line.{rowByte}
+use mathlib.Core.Path.{_∙_, ap, sym, _≡_}
+use Rattle.trying.specs.Line.{rowByte, rowFrom, rowOf}
 use Rattle.trying.proofs.Turns.{row-end, row-on}
 use Prim.Native.Nat.{_-_, _≤_}
-use mathlib.Core.Path.{_≡_}
 use native.Mathlib.Omega.{arith}
 use lib.ListN.{drop, length}
-use Rattle.trying.specs.Line.{rowFrom, rowOf}
 use borrow.Author.Needs.{needs}
 use Rattle.trying.proofs.row_of.Statement.{statement}
 use Rattle.trying.proofs.row_of.Tie as tie
