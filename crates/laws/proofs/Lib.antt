@@ -2,6 +2,7 @@ pub mod Along
 pub mod Rest
 pub mod Flights
 pub mod Current
+pub mod Lines
 pub mod Opened
 pub mod Counts
 pub mod Values

@@ -75,9 +75,9 @@ pub read-keys : (k l : ℕ) (ts : Tables) → keysOf (read k l ts .regions) ≡ 
 unfolding read
 read-keys k l ts = keys-stored (ts .regions) (placeOf k (ts .regions)) _ refl
 
-pub write-keys : (t l : ℕ) (put : List ℕ → List ℕ) (b : Board) → boardKeys (write t l put b) ≡ boardKeys b
+pub write-keys : (t l : ℕ) (change : List ℕ → List ℕ) (b : Board) → boardKeys (write t l change b) ≡ boardKeys b
 unfolding write stored logged wrote
-write-keys t l put b =
+write-keys t l change b =
     flown-keys (current t (b .tables)) _
     ∙ test (needsLog (current t (b .tables)) l (b .tables))
     (λ d. rw d (keys-stored (b .tables .regions) (placeOf (current t (b .tables)) (b .tables .regions)) _ refl))

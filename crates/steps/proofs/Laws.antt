@@ -19,8 +19,8 @@ use Rattle.rules.specs.Flight.{flown}
 use Rattle.rules.specs.Lists.{count, place}
 use Rattle.rules.specs.Refusal.{depthOf, isOfThread, refusal}
 use Rattle.rules.specs.Slots.{carried, carries, flownSlots, written}
-use Rattle.rules.specs.Step.{Stepped, apply, did, fence, settledBoard, stepBy, stepEvent, withCut}
-use Rattle.rules.specs.Tables.{Board, current, isHeld, isKey, lineOf, noRegion, placeOf, regionAt, withDeps, withRegions, withSlots, withTables}
+use Rattle.rules.specs.Step.{Stepped, apply, did, fence, settledBoard, stepBy, stepEvent}
+use Rattle.rules.specs.Tables.{Board, current, isHeld, isKey, lineOf, noRegion, placeOf, regionAt, withCut, withDeps, withRegions, withSlots, withTables}
 use Rattle.steps.specs.Placed.{placed}
 use Rattle.rules.specs.declared.Event.{Event}
 use Rattle.rules.specs.declared.Event.the-variants.{Begin, Cut, End, Fence, Read}
@@ -31,7 +31,7 @@ use Rattle.rules.specs.declared.Tables.{Tables}
 -- ---- a region's record replaced in its place, and its flight from there
 
 module _ (k : ℕ) where
-  -- the place of region k stays where another record of region k is put there
+  -- the place of region k stays where another record of region k is change there
   place-kept : (rs : List Region) (r : Region) → r .key ≡ k → placeOf k (set rs (placeOf k rs) r) ≡ placeOf k rs
   unfolding place
   place-kept [] r e = refl
@@ -77,16 +77,16 @@ module _ (k : ℕ) where
     flown-same r b₁ er e = rw (er, set-getD (b .tables .regions) i noRegion) at e
 
 -- a write: the log entry, then the region and the word, then the flights
-pub write-law : (t l w v k d : ℕ) (q : Region) (b b₁ b₂ b₃ : Board)
+pub write-law : (t l k d : ℕ) (change : List ℕ → List ℕ) (q : Region) (b b₁ b₂ b₃ : Board)
     → k ≡ current t (b .tables)
     → d ≡ dependence k l (b .tables)
     → b₁ ≡ loggedOnce t k l b
     → q ≡ withSlots (written l (regionAt k (b .tables .regions) .slots)) (withDeps (joined d (regionAt k (b .tables .regions) .deps)) (regionAt k (b .tables .regions)))
-    → b₂ ≡ stored k q l w v b₁
+    → b₂ ≡ stored k q l change b₁
     → b₃ ≡ flown k b₂
-    → b₃ ≡ write t l w v b
+    → b₃ ≡ write t l change b
 unfolding write wrote
-write-law t l w v k d q b b₁ b₂ b₃ ek ed e₁ eq e₂ e₃ = rw (← ek, e₃, e₂, e₁, eq, ed)
+write-law t l k d change q b b₁ b₂ b₃ ek ed e₁ eq e₂ e₃ = rw (← ek, e₃, e₂, e₁, eq, ed)
 
 -- ---- dropped flights
 
@@ -154,7 +154,7 @@ module _ (b : Board) where
   unfolding apply fence
   fence-law t v e = rw e
 
-  pub cut-law : (v : ℕ) (ts : Tables) → v ≡ count isHeld (b .tables .regions) → ts ≡ withCut (b .tables) → did v (withTables ts b) ≡ apply b Cut
+  pub cut-law : (v : ℕ) (ts : Tables) → v ≡ count isHeld (b .tables .regions) → ts ≡ withCut true (b .tables) → did v (withTables ts b) ≡ apply b Cut
   unfolding apply
   cut-law v ts ev e = rw (ev, e)
 

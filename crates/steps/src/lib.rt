@@ -12,7 +12,7 @@ ghost use lib.Dec.{eqb, leb};
 ghost use lib.ListN.{getD, replicate, set};
 ghost use Rattle.undo.specs.Table.{any};
 ghost use Rattle.rules.specs.Tables.{noRegion, noSlot, noThread, placeOf, withDeps, withSlots};
-ghost use Rattle.rules.specs.Access.{isOf, joined, logged, loggedOnce, read, storeWord, write};
+ghost use Rattle.rules.specs.Access.{changeLine, isOf, joined, logged, loggedOnce, read, storedIn, write};
 ghost use Rattle.rules.specs.Acknowledge.{dataAck, dropped, logAck};
 ghost use Rattle.rules.specs.Begin.{begin, opened};
 ghost use Rattle.rules.specs.End.{endRegion, endedRegion, shallower, tick};
@@ -145,7 +145,7 @@ fn wrote_region(r: Region, d: u32, l: u8) -> Region
 // Word w of line l becomes v.
 fn store(cur: &mut [[u64; 8]; 256], l: u8, w: u8, v: u64)
     requires { ⌜ w < 8 ⌝ }
-    ensures { λ _. ⌜ now (cur .exit) ≡ storeWord l w v (now (cur .entry)) ⌝ }
+    ensures { λ _. ⌜ now (cur .exit) ≡ changeLine l (storedIn w v) (now (cur .entry)) ⌝ }
 {
     let x = lines::line_of(cur, l);
     let y = lines::store_word(x, w as usize, v);
@@ -167,7 +167,7 @@ fn write(
     v: u64,
 )
     requires { ⌜ ((t < 8) × (w < 8)) × (not (eqb (getD (now owner) l 0) (65536 * t + getD (threadsOf (now threads)) t noThread .last)) && not (any (isOf 0) (getD (threadsOf (now threads)) t noThread .log)) ≡ false) ⌝ }
-    ensures { λ _. ⌜ ((h : Head) (med : List (List ℕ)) → boardOf h (now (threads .exit)) (now (regions .exit)) (now (owner .exit)) (now (lock .exit)) (now (cur .exit)) med (now (old .exit)) (now (car .exit)) ≡ write t l w v (boardOf h (now (threads .entry)) (now (regions .entry)) (now (owner .entry)) (now (lock .entry)) (now (cur .entry)) med (now (old .entry)) (now (car .entry)))) ⌝ }
+    ensures { λ _. ⌜ ((h : Head) (med : List (List ℕ)) → boardOf h (now (threads .exit)) (now (regions .exit)) (now (owner .exit)) (now (lock .exit)) (now (cur .exit)) med (now (old .exit)) (now (car .exit)) ≡ write t l (storedIn w v) (boardOf h (now (threads .entry)) (now (regions .entry)) (now (owner .entry)) (now (lock .entry)) (now (cur .entry)) med (now (old .entry)) (now (car .entry)))) ⌝ }
 {
     let k = rows::current(threads, t);
     let d = rows::dependence(regions, owner[l as usize], k);

@@ -104,7 +104,7 @@ pub no-length : {A : Type 0} (xs : List A) → length xs ≤ 0 → xs ≡ []
 no-length [] e = refl
 no-length (x ∷ xs) e = absurd (omega arith)
 
-module _ {b : Board} {es : List Account} {s : u.State (List ℕ)} {h : v.History (List ℕ)} (t l : ℕ) (put : List ℕ → List ℕ) (i : Sim b es s h)
+module _ {b : Board} {es : List Account} {s : u.State (List ℕ)} {h : v.History (List ℕ)} (t l : ℕ) (change : List ℕ → List ℕ) (i : Sim b es s h)
     (in′ : listed (regionIn t es) (b .tables .regions) ≡ true) (unl : getD (b .tables .lock) l false ≡ false)
     (room : any (isOf 0) (threadAt t (b .tables) .log) ≡ true) (setup : isSetUp (b .tables) ≡ true) (inT : t < b .tables .size .threads)
     (inL : l < b .tables .size .lines) (new : olds (eqb (regionIn t es)) (s .chain l) ≡ []) (lives : (q x : ℕ) → c.logged q (s .chain x) ≡ true → eqb q 0 ≡ false)
@@ -142,7 +142,7 @@ module _ {b : Board} {es : List Account} {s : u.State (List ℕ)} {h : v.History
       (λ d. absurd (cons-nil (sym (i .logs .entry x j n .old) ∙ rw (e, eqb-true (entryAt x j (b .tables) .key) (regionIn t es) d) new)))
       (λ d. d)
 
-  good-fresh : GoodEntry (newLog t (regionIn t es) l b) (after (chainOf (regionIn t es) l s) (lockOf l s) (regionIn t es) l put s) t (freeEntry t (b .tables))
+  good-fresh : GoodEntry (newLog t (regionIn t es) l b) (after (chainOf (regionIn t es) l s) (lockOf l s) (regionIn t es) l change s) t (freeEntry t (b .tables))
       (freshEntry t (regionIn t es) l (b .tables))
   good-fresh =
       record {
@@ -157,7 +157,7 @@ module _ {b : Board} {es : List Account} {s : u.State (List ℕ)} {h : v.History
       place-256 = omega (arith, i .memories .old, free-32, threads-8 (b .tables) (i .shape))
 
   good-older : (x j : ℕ) → entryAt x j (b .tables) .key ≢ 0
-      → GoodEntry (newLog t (regionIn t es) l b) (after (chainOf (regionIn t es) l s) (lockOf l s) (regionIn t es) l put s) x j (entryAt x j (b .tables))
+      → GoodEntry (newLog t (regionIn t es) l b) (after (chainOf (regionIn t es) l s) (lockOf l s) (regionIn t es) l change s) x j (entryAt x j (b .tables))
   good-older x j n =
       let g = i .logs .entry x j n in
       record {
@@ -196,7 +196,7 @@ module _ {b : Board} {es : List Account} {s : u.State (List ℕ)} {h : v.History
           rw (d, other-key x j n q) (e ∙ rw o))
           (λ d. rw d e)
 
-  logs-first : Logs (newLog t (regionIn t es) l b) (after (chainOf (regionIn t es) l s) (lockOf l s) (regionIn t es) l put s)
+  logs-first : Logs (newLog t (regionIn t es) l b) (after (chainOf (regionIn t es) l s) (lockOf l s) (regionIn t es) l change s)
   logs-first =
       record {
         entry = λ x j n. test (eqb x t && eqb j (freeEntry t (b .tables)))
@@ -289,7 +289,7 @@ module _ {b : Board} {es : List Account} {s : u.State (List ℕ)} {h : v.History
       (length-set (threadAt t (b .tables) .log) (freeEntry t (b .tables)) (freshEntry t (regionIn t es) l (b .tables)) ∙ i .shape .threads .logs t) (i .shape))
       (length-set (b .tables .owner) l (regionIn t es) ∙ i .shape .owner) (length-set (b .tables .lock) l true ∙ i .shape .lock) (i .shape)
 
-  pub ready-first : Ready b es s t l put (loggedThreads t (regionIn t es) l (b .tables)) (set (b .tables .owner) l (regionIn t es)) (set (b .tables .lock) l true)
+  pub ready-first : Ready b es s t l change (loggedThreads t (regionIn t es) l (b .tables)) (set (b .tables .owner) l (regionIn t es)) (set (b .tables .lock) l true)
       (loggedOld t l b) (chainOf (regionIn t es) l s) (lockOf l s)
   unfolding ownerOf
   ready-first =
@@ -307,7 +307,7 @@ module _ {b : Board} {es : List Account} {s : u.State (List ℕ)} {h : v.History
         waits = λ x q e. ⊎-elim
             (λ d. let z = and-true (eqb x l) (eqb q (regionIn t es)) d in rw (z .0) (sym (eqb-true q (regionIn t es) (z .1))))
             (λ d. test (eqb x l) (λ f. absurd (calm q (rw (eqb-true x l f) at d))) (λ f. rw f (i .waits x q d)))
-            (after-waits (chainOf (regionIn t es) l s) (lockOf l s) (regionIn t es) l put s x q e);
+            (after-waits (chainOf (regionIn t es) l s) (lockOf l s) (regionIn t es) l change s x q e);
       }
     where
       place-256 : 32 * t + freeEntry t (b .tables) < length (b .old)

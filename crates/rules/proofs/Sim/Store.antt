@@ -27,13 +27,12 @@ use Rattle.rules.specs.Tables.{Board, lineOf, listed, ownerOf, placeOf, 
 use Rattle.rules.specs.declared.Region.{Region}
 use Rattle.rules.specs.declared.Thread.{Thread}
 use Rattle.undo.proofs.Laws.{and-true, never, test}
-use Rattle.undo.specs.Table.{put}
 
 -- ---- the line is changed
 
 -- a change that leaves a line a line
 abbrev pub KeepsLine : (List ℕ → List ℕ) → Type 0
-KeepsLine put = (x : List ℕ) → isLine x ≡ true → isLine (put x) ≡ true
+KeepsLine change = (x : List ℕ) → isLine x ≡ true → isLine (change x) ≡ true
 
 pub word-keeps : (w y : ℕ) → ltb y 18446744073709551616 ≡ true → KeepsLine (storedIn w y)
 word-keeps w y sound x k = line-set x w y sound k
@@ -49,13 +48,13 @@ slotted k l b = withSlots (written l (regionAt k (b .tables .regions) .slots)) (
 
 -- the state of the undo log after a write: chains and locks are as they are given
 abbrev pub after : (ℕ → List (u.Entry (List ℕ))) → (ℕ → Bool) → ℕ → ℕ → (List ℕ → List ℕ) → u.State (List ℕ) → u.State (List ℕ)
-after ch lk k l put s = u.withChain ch (u.withLock lk (u.stored k l put s))
+after ch lk k l change s = u.withChain ch (u.withLock lk (u.stored k l change s))
 
 -- what logging leaves for the store of the word
-pub record Ready (b : Board) (es : List Account) (s : u.State (List ℕ)) (t l : ℕ) (put : List ℕ → List ℕ) (ths : List Thread) (ow : List ℕ) (lo : List Bool)
+pub record Ready (b : Board) (es : List Account) (s : u.State (List ℕ)) (t l : ℕ) (change : List ℕ → List ℕ) (ths : List Thread) (ow : List ℕ) (lo : List Bool)
     (ol : List (List ℕ)) (ch : ℕ → List (u.Entry (List ℕ))) (lk : ℕ → Bool) : Type 0 where
   pub shape : Shape (relogged ths ow lo ol b .tables)
-  pub logs : Logs (relogged ths ow lo ol b) (after ch lk (regionIn t es) l put s)
+  pub logs : Logs (relogged ths ow lo ol b) (after ch lk (regionIn t es) l change s)
   pub depth : (x : ℕ) → threadAt x (relogged ths ow lo ol b .tables) .depth ≡ threadAt x (b .tables) .depth
   pub last : (x : ℕ) → threadAt x (relogged ths ow lo ol b .tables) .last ≡ threadAt x (b .tables) .last
   pub old : length ol ≡ 256
@@ -63,15 +62,15 @@ pub record Ready (b : Board) (es : List Account) (s : u.State (List ℕ)) (t l :
   pub lock : (x : ℕ) → lk x ≡ getD lo x false
   pub top : (x : ℕ) → newest (ch x) ≡ ownerOf x (relogged ths ow lo ol b .tables)
   pub owner : (x : ℕ) → getD ow x 0 ≡ cond (eqb l x) (regionIn t es) (lastWriter x (writesIn es))
-  pub waits : (x q : ℕ) → after ch lk (regionIn t es) l put s .slot x q ≡ u.Waits → newest (ch x) ≡ q
+  pub waits : (x q : ℕ) → after ch lk (regionIn t es) l change s .slot x q ≡ u.Waits → newest (ch x) ≡ q
 
-module _ {b : Board} {es : List Account} {s : u.State (List ℕ)} {h : v.History (List ℕ)} (t l : ℕ) (put : List ℕ → List ℕ) (ths : List Thread) (ow : List ℕ) (lo : List Bool)
-    (ol : List (List ℕ)) (ch : ℕ → List (u.Entry (List ℕ))) (lk : ℕ → Bool) (i : Sim b es s h) (re : Ready b es s t l put ths ow lo ol ch lk)
+module _ {b : Board} {es : List Account} {s : u.State (List ℕ)} {h : v.History (List ℕ)} (t l : ℕ) (change : List ℕ → List ℕ) (ths : List Thread) (ow : List ℕ) (lo : List Bool)
+    (ol : List (List ℕ)) (ch : ℕ → List (u.Entry (List ℕ))) (lk : ℕ → Bool) (i : Sim b es s h) (re : Ready b es s t l change ths ow lo ol ch lk)
     (in′ : listed (regionIn t es) (b .tables .regions) ≡ true)
-    (room : isFull (slotFor l (regionAt (regionIn t es) (b .tables .regions) .slots)) ≡ false) (inside : l < 256) (kl : KeepsLine put)
+    (room : isFull (slotFor l (regionAt (regionIn t es) (b .tables .regions) .slots)) ≡ false) (inside : l < 256) (kl : KeepsLine change)
     (op : u.Open s (regionIn t es)) where
-  store-told : Told (stored (regionIn t es) (slotted (regionIn t es) l b) l put (relogged ths ow lo ol b)) (Stores t l put ∷ es)
-      (after ch lk (regionIn t es) l put s) (v.wrote (regionIn t es) l put h)
+  store-told : Told (stored (regionIn t es) (slotted (regionIn t es) l b) l change (relogged ths ow lo ol b)) (Stores t l change ∷ es)
+      (after ch lk (regionIn t es) l change s) (v.wrote (regionIn t es) l change h)
   unfolding stored depthIn openedIn linesIn endsIn writesIn usesIn lastWriter
   store-told =
       told-kept (re .depth) (re .last) refl (record { depth = λ t. refl; opened = λ t. refl; lines = refl; ends = refl }) refl refl refl
@@ -89,15 +88,15 @@ module _ {b : Board} {es : List Account} {s : u.State (List ℕ)} {h : v.History
         finished = λ d. never d (open-undone (regionIn t es) i op in′);
       }
 
-  store-memories : Memories (stored (regionIn t es) (slotted (regionIn t es) l b) l put (relogged ths ow lo ol b))
+  store-memories : Memories (stored (regionIn t es) (slotted (regionIn t es) l b) l change (relogged ths ow lo ol b))
   unfolding stored
   store-memories =
       record {
-        cur = length-set (b .cur) l (put (lineOf l (b .cur))) ∙ i .memories .cur;
+        cur = length-set (b .cur) l (change (lineOf l (b .cur))) ∙ i .memories .cur;
         med = i .memories .med;
         old = re .old;
         car = i .memories .car;
-        cur-lines = λ x n. rw (getD-set (b .cur) l x (put (lineOf l (b .cur))) [] within)
+        cur-lines = λ x n. rw (getD-set (b .cur) l x (change (lineOf l (b .cur))) [] within)
             (test (eqb x l)
             (λ d. rw d (kl (lineOf l (b .cur)) (i .memories .cur-lines l inside)))
             (λ d. rw d (i .memories .cur-lines x n)));
@@ -109,7 +108,7 @@ module _ {b : Board} {es : List Account} {s : u.State (List ℕ)} {h : v.History
       within : l < length (b .cur)
       within = rw (i .memories .cur) inside
 
-  store-slot : (x q : ℕ) → after ch lk (regionIn t es) l put s .slot x q
+  store-slot : (x q : ℕ) → after ch lk (regionIn t es) l change s .slot x q
       ≡ carryOf (b .car) x (stateOf x (regionAt q (set (b .tables .regions) (placeOf (regionIn t es) (b .tables .regions)) (slotted (regionIn t es) l b)) .slots))
   store-slot x q =
       rw (region-stored (regionIn t es) (b .tables .regions) (slotted (regionIn t es) l b) in′ (key-at (regionIn t es) (b .tables .regions) in′) q)
@@ -122,16 +121,16 @@ module _ {b : Board} {es : List Account} {s : u.State (List ℕ)} {h : v.History
       (λ f. rw (f, d, eqb-true x l f) (i .slot l q))
       (λ f. rw (f, d) (i .slot x q))))
 
-  pub store-sim : Sim (stored (regionIn t es) (slotted (regionIn t es) l b) l put (relogged ths ow lo ol b)) (Stores t l put ∷ es)
-      (after ch lk (regionIn t es) l put s) (v.wrote (regionIn t es) l put h)
+  pub store-sim : Sim (stored (regionIn t es) (slotted (regionIn t es) l b) l change (relogged ths ow lo ol b)) (Stores t l change ∷ es)
+      (after ch lk (regionIn t es) l change s) (v.wrote (regionIn t es) l change h)
   unfolding stored
   store-sim =
       record {
         shape = shape-stored (relogged ths ow lo ol b .tables) k r′ in′ key store-good (once-at k (i .shape)) (re .shape);
         memories = store-memories;
-        logs = logs-kept (set (b .tables .regions) (placeOf k (b .tables .regions)) r′) (changeLine l put (b .cur)) (b .med) (b .car) refl refl (re .logs);
+        logs = logs-kept (set (b .tables .regions) (placeOf k (b .tables .regions)) r′) (changeLine l change (b .cur)) (b .med) (b .car) refl refl (re .logs);
         told = store-told;
-        cur = λ x. rw (getD-set (b .cur) l x (put (lineOf l (b .cur))) [] (rw (i .memories .cur) inside))
+        cur = λ x. rw (getD-set (b .cur) l x (change (lineOf l (b .cur))) [] (rw (i .memories .cur) inside))
             (test (eqb x l) (λ d. rw (d, i .cur l)) (λ d. rw d (i .cur x)));
         med = i .med;
         lock = re .lock;
@@ -153,18 +152,18 @@ module _ {b : Board} {es : List Account} {s : u.State (List ℕ)} {h : v.History
       key = key-at k (b .tables .regions) in′
 
 -- a slot that waits after the write is the one written, or waited before
-pub after-waits : (ch : ℕ → List (u.Entry (List ℕ))) (lk : ℕ → Bool) (k l : ℕ) (put : List ℕ → List ℕ) (s : u.State (List ℕ)) (x q : ℕ) → after ch lk k l put s .slot x q ≡ u.Waits
+pub after-waits : (ch : ℕ → List (u.Entry (List ℕ))) (lk : ℕ → Bool) (k l : ℕ) (change : List ℕ → List ℕ) (s : u.State (List ℕ)) (x q : ℕ) → after ch lk k l change s .slot x q ≡ u.Waits
     → ((eqb x l && eqb q k) ≡ true) ⊎ (s .slot x q ≡ u.Waits)
-after-waits ch lk k l put s x q e =
+after-waits ch lk k l change s x q e =
     test (eqb x l)
     (λ d. test (eqb q k) (λ f. inl (rw (d, f))) (λ f. inr (rw (eqb-true x l d) (rw (d, f) at e))))
     (λ d. inr (rw d at e))
 
 -- ---- a write of a line that the region owns
 
-module _ {b : Board} {es : List Account} {s : u.State (List ℕ)} {h : v.History (List ℕ)} (t l : ℕ) (put : List ℕ → List ℕ) (i : Sim b es s h)
+module _ {b : Board} {es : List Account} {s : u.State (List ℕ)} {h : v.History (List ℕ)} (t l : ℕ) (change : List ℕ → List ℕ) (i : Sim b es s h)
     (own : eqb (getD (b .tables .owner) l 0) (regionIn t es) ≡ true) (top : newest (s .chain l) ≡ regionIn t es) where
-  pub ready-again : Ready b es s t l put (b .tables .threads) (b .tables .owner) (b .tables .lock) (b .old) (s .chain) (s .lock)
+  pub ready-again : Ready b es s t l change (b .tables .threads) (b .tables .owner) (b .tables .lock) (b .old) (s .chain) (s .lock)
   ready-again =
       record {
         shape = i .shape;
@@ -180,5 +179,5 @@ module _ {b : Board} {es : List Account} {s : u.State (List ℕ)} {h : v.History
             (λ d. rw d (i .told .owner x));
         waits = λ x q e. ⊎-elim
             (λ d. let z = and-true (eqb x l) (eqb q (regionIn t es)) d in rw (eqb-true x l (z .0), eqb-true q (regionIn t es) (z .1)) top)
-            (λ d. i .waits x q d) (after-waits (s .chain) (s .lock) (regionIn t es) l put s x q e);
+            (λ d. i .waits x q d) (after-waits (s .chain) (s .lock) (regionIn t es) l change s x q e);
       }

@@ -44,7 +44,7 @@ use Rattle.undo.proofs.Main.{structured}
 use Rattle.undo.proofs.Media.{first}
 use Rattle.undo.specs.Claim.{Reach, then}
 use Rattle.undo.specs.Recovery.{olds}
-use Rattle.undo.specs.Table.{any, put}
+use Rattle.undo.specs.Table.{any}
 use Rattle.rules.proofs.Tests.{badAt, passed}
 use Rattle.rules.proofs.Sim.Store.{KeepsLine, ready-again, relogged, slotted, store-sim, word-keeps}
 use Rattle.rules.proofs.Sim.Logged.{chainOf, lockOf, loggedOld, loggedThreads, no-length, ready-first}
@@ -77,9 +77,9 @@ newest-owns : (k : ℕ) (c : List (u.Entry (List ℕ))) → eqb k 0 ≡ false �
 newest-owns k [] nz e = absurd (eqb-false k 0 nz (sym e))
 newest-owns k (x ∷ c) nz e = eq-eqb k (x .rid) (sym e)
 
-module _ {m : ℕ → List ℕ} {b : Board} {es : List Account} {s : u.State (List ℕ)} {h : v.History (List ℕ)} (t l : ℕ) (put : List ℕ → List ℕ) (rc : Reach m s h) (i : Sim b es s h)
+module _ {m : ℕ → List ℕ} {b : Board} {es : List Account} {s : u.State (List ℕ)} {h : v.History (List ℕ)} (t l : ℕ) (change : List ℕ → List ℕ) (rc : Reach m s h) (i : Sim b es s h)
     (op : u.Open s (regionIn t es)) (joined : (u.owns (regionIn t es) (s .chain l) || u.follows (s .dep) (regionIn t es) (s .chain l)) ≡ true)
-    (setup : isSetUp (b .tables) ≡ true) (inT : t < b .tables .size .threads) (inL : l < b .tables .size .lines) (kl : KeepsLine put)
+    (setup : isSetUp (b .tables) ≡ true) (inT : t < b .tables .size .threads) (inL : l < b .tables .size .lines) (kl : KeepsLine change)
     (room : isFull (slotFor l (regionAt (regionIn t es) (b .tables .regions) .slots)) ≡ false) where
   going-in : listed (regionIn t es) (b .tables .regions) ≡ true
   going-in = open-listed rc i (regionIn t es) op
@@ -87,28 +87,28 @@ module _ {m : ℕ → List ℕ} {b : Board} {es : List Account} {s : u.State (Li
   still : (a : u.Action (List ℕ)) → act s a .born ≡ s .born → act s a .over ≡ s .over → u.Open (act s a) (regionIn t es)
   still a p q = record { began = rw p (op .began); goes-on = rw q (op .goes-on) }
 
-  go-again : eqb (getD (b .tables .owner) l 0) (regionIn t es) ≡ true → Going m (stored (regionIn t es) (slotted (regionIn t es) l b) l put b) (Stores t l put ∷ es) (regionIn t es)
+  go-again : eqb (getD (b .tables .owner) l 0) (regionIn t es) ≡ true → Going m (stored (regionIn t es) (slotted (regionIn t es) l b) l change b) (Stores t l change ∷ es) (regionIn t es)
   unfolding act note
   go-again own =
       let top : newest (s .chain l) ≡ regionIn t es = owner-top (regionIn t es) l i going-in (eqb-true (getD (b .tables .owner) l 0) (regionIn t es) own) in
-      going (act s (u.Again (regionIn t es) l put)) (note h (u.Again (regionIn t es) l put))
-      (then rc (u.Again (regionIn t es) l put)
+      going (act s (u.Again (regionIn t es) l change)) (note h (u.Again (regionIn t es) l change))
+      (then rc (u.Again (regionIn t es) l change)
       (u.again op (newest-owns (regionIn t es) (s .chain l) (listed-key (regionIn t es) (b .tables .regions) going-in) top)))
-      (store-sim t l put (b .tables .threads) (b .tables .owner) (b .tables .lock) (b .old) (s .chain) (s .lock) i (ready-again t l put i own top) going-in room
+      (store-sim t l change (b .tables .threads) (b .tables .owner) (b .tables .lock) (b .old) (s .chain) (s .lock) i (ready-again t l change i own top) going-in room
       (omega (arith, lines-256 (b .tables) setup)) kl op)
-      (still (u.Again (regionIn t es) l put) refl refl)
+      (still (u.Again (regionIn t es) l change) refl refl)
 
   go-first : eqb (getD (b .tables .owner) l 0) (regionIn t es) ≡ false → getD (b .tables .lock) l false ≡ false
       → any (isOf 0) (threadAt t (b .tables) .log) ≡ true → ((q : ℕ) → s .slot l q ≡ u.Waits → ⊥)
-      → Going m (stored (regionIn t es) (slotted (regionIn t es) l b) l put (logged t (regionIn t es) l b)) (Stores t l put ∷ es) (regionIn t es)
+      → Going m (stored (regionIn t es) (slotted (regionIn t es) l b) l change (logged t (regionIn t es) l b)) (Stores t l change ∷ es) (regionIn t es)
   unfolding act note logged
   go-first own unl free calm =
-      going (act s (u.First (regionIn t es) l put)) (note h (u.First (regionIn t es) l put)) first
-      (store-sim t l put (loggedThreads t (regionIn t es) l (b .tables)) (set (b .tables .owner) l (regionIn t es)) (set (b .tables .lock) l true) (loggedOld t l b)
+      going (act s (u.First (regionIn t es) l change)) (note h (u.First (regionIn t es) l change)) first
+      (store-sim t l change (loggedThreads t (regionIn t es) l (b .tables)) (set (b .tables .owner) l (regionIn t es)) (set (b .tables .lock) l true) (loggedOld t l b)
       (chainOf (regionIn t es) l s) (lockOf l s) i
-      (ready-first t l put i going-in unl free setup inT inL new (λ q x e. listed-key q (b .tables .regions) (live q x e)) calm) going-in room
+      (ready-first t l change i going-in unl free setup inT inL new (λ q x e. listed-key q (b .tables .regions) (live q x e)) calm) going-in room
       (omega (arith, lines-256 (b .tables) setup)) kl op)
-      (still (u.First (regionIn t es) l put) refl refl)
+      (still (u.First (regionIn t es) l change) refl refl)
     where
       nz : eqb (regionIn t es) 0 ≡ false
       nz = listed-key (regionIn t es) (b .tables .regions) going-in
@@ -119,13 +119,13 @@ module _ {m : ℕ → List ℕ} {b : Board} {es : List Account} {s : u.State (Li
           (λ d. never (eq-eqb (getD (b .tables .owner) l 0) (regionIn t es) (top-owner (regionIn t es) l i nz (owns-newest (regionIn t es) (s .chain l) d))) own)
           (λ d. rw d at joined)
 
-      first : Reach m (act s (u.First (regionIn t es) l put)) (note h (u.First (regionIn t es) l put))
-      first = then rc (u.First (regionIn t es) l put) (u.firsts op follows (i .lock l ∙ unl))
+      first : Reach m (act s (u.First (regionIn t es) l change)) (note h (u.First (regionIn t es) l change))
+      first = then rc (u.First (regionIn t es) l change) (u.firsts op follows (i .lock l ∙ unl))
 
       new : olds (eqb (regionIn t es)) (s .chain l) ≡ []
       new =
           no-length (olds (eqb (regionIn t es)) (s .chain l))
-          (let z = structured m (act s (u.First (regionIn t es) l put)) (note h (u.First (regionIn t es) l put)) first .single l (regionIn t es) in
+          (let z = structured m (act s (u.First (regionIn t es) l change)) (note h (u.First (regionIn t es) l change)) first .single l (regionIn t es) in
           let z′ : suc (length (olds (eqb (regionIn t es)) (s .chain l))) ≤ 1 = rw (is-same l, is-same (regionIn t es)) at z in
           omega arith)
 
@@ -135,7 +135,7 @@ module _ {m : ℕ → List ℕ} {b : Board} {es : List Account} {s : u.State (Li
 -- ---- the whole write
 
 -- a write is the join, the log, the store, the flights
-module _ (t l k : ℕ) (put : List ℕ → List ℕ) (b : Board) (cur : current t (b .tables) ≡ k) (in′ : listed k (b .tables .regions) ≡ true) where
+module _ (t l k : ℕ) (change : List ℕ → List ℕ) (b : Board) (cur : current t (b .tables) ≡ k) (in′ : listed k (b .tables .regions) ≡ true) where
   write-regions : set (b .tables .regions) (placeOf k (b .tables .regions)) (wrote k l (b .tables) (regionAt k (b .tables .regions)))
       ≡ set (read k l (b .tables) .regions) (placeOf k (read k l (b .tables) .regions)) (slotted k l (withTables (read k l (b .tables)) b))
   unfolding wrote read
@@ -148,14 +148,14 @@ module _ (t l k : ℕ) (put : List ℕ → List ℕ) (b : Board) (cur : current 
       )
       (sym (set-set (b .tables .regions) (placeOf k (b .tables .regions)) r (withSlots (written l (r .slots)) r)))
 
-  write-is : write t l put b ≡ flown k (stored k (slotted k l (withTables (read k l (b .tables)) b)) l put (loggedOnce t k l (withTables (read k l (b .tables)) b)))
+  write-is : write t l change b ≡ flown k (stored k (slotted k l (withTables (read k l (b .tables)) b)) l change (loggedOnce t k l (withTables (read k l (b .tables)) b)))
   unfolding write stored logged read
   write-is =
       rw cur
       (ap (flown k)
       (test (eqb (getD (b .tables .owner) l 0) k)
-      (λ d. rw d (ap (λ x. rebuilt x (changeLine l put (b .cur)) (b .med) (b .car) b) write-regions))
-      (λ d. rw d (ap (λ x. rebuilt x (changeLine l put (b .cur)) (b .med) (b .car) (logged t k l b)) write-regions))))
+      (λ d. rw d (ap (λ x. rebuilt x (changeLine l change (b .cur)) (b .med) (b .car) b) write-regions))
+      (λ d. rw d (ap (λ x. rebuilt x (changeLine l change (b .cur)) (b .med) (b .car) (logged t k l b)) write-regions))))
 
 waits-state : (car : List (List ℕ)) (l : ℕ) (st : SlotState) → carryOf car l st ≡ u.Waits → (n : ℕ) × (st ≡ Waiting n)
 waits-state car l Empty e = let z : _≡_ {A = ℕ} 0 1 = cc in absurd (omega arith)
@@ -182,14 +182,14 @@ calm-line {m} {b} {es} {s} {h} t l rc i re deep fo own unl q e = go (owner-is rc
         never (re .flown q l (st .0) (or-right (eqb (st .0) 4) (rw (← g) (i .ended (a .rid) li ∙ ov))) (st .1)) unl
 
 -- what is left to be done after the store and the flights of a region that goes on
-rest-wrote : (k l : ℕ) (put : List ℕ → List ℕ) (b : Board) (ths : List Thread) (ow : List ℕ) (lo : List Bool) (ol : List (List ℕ))
+rest-wrote : (k l : ℕ) (change : List ℕ → List ℕ) (b : Board) (ths : List Thread) (ow : List ℕ) (lo : List Bool) (ol : List (List ℕ))
     → ((x : ℕ) → getD (b .tables .lock) x false ≡ true → getD lo x false ≡ true) → listed k (b .tables .regions) ≡ true
     → regionAt k (b .tables .regions) .ended ≡ false → regionAt k (b .tables .regions) .done ≡ false
-    → Rest b → Rest (flown k (stored k (slotted k l b) l put (relogged ths ow lo ol b)))
+    → Rest b → Rest (flown k (stored k (slotted k l b) l change (relogged ths ow lo ol b)))
 unfolding flown stored
-rest-wrote k l put b ths ow lo ol grow in′ en dn re =
+rest-wrote k l change b ths ow lo ol grow in′ en dn re =
     record {
-      flown = flown-rest k (stored k (slotted k l b) l put (relogged ths ow lo ol b)) (rw (listed-stored k rs r′ in′ key k) in′)
+      flown = flown-rest k (stored k (slotted k l b) l change (relogged ths ow lo ol b)) (rw (listed-stored k rs r′ in′ key k) in′)
           (λ q x c n e st. grow x (re .flown q x c (rw (at q, n) at e) (rw (at q, n) at st)));
       finished = each-set Finished rs′ (placeOf k rs′) (withSlots (flownSlots lo (regionAt k rs′ .ended) (regionAt k rs′ .slots)) (regionAt k rs′)) noRegion
           (λ e n. never e (rw (at k, is-same k) en))
@@ -218,36 +218,36 @@ grown : (l : ℕ) (lo : List Bool) → l < length lo → (x : ℕ) → getD lo x
 grown l lo n x e = rw (getD-set lo l x true false n) (test (eqb x l) (λ d. rw d) (λ d. rw d e))
 
 -- log, store and flights, after the join
-write-joined : {m : Memory} {b : Board} {es : List Account} {s : u.State (List ℕ)} {h : v.History (List ℕ)} (t l : ℕ) (put : List ℕ → List ℕ)
+write-joined : {m : Memory} {b : Board} {es : List Account} {s : u.State (List ℕ)} {h : v.History (List ℕ)} (t l : ℕ) (change : List ℕ → List ℕ)
     → Reach (λ x. lineOf x (startLines m)) s h → Sim b es s h → Rest b → u.Open s (regionIn t es)
     → (u.owns (regionIn t es) (s .chain l) || u.follows (s .dep) (regionIn t es) (s .chain l)) ≡ true
-    → isSetUp (b .tables) ≡ true → t < b .tables .size .threads → l < b .tables .size .lines → KeepsLine put
+    → isSetUp (b .tables) ≡ true → t < b .tables .size .threads → l < b .tables .size .lines → KeepsLine change
     → (needsLog (regionIn t es) l (b .tables) && locked l (b .tables)) ≡ false
     → isFull (slotFor l (regionAt (regionIn t es) (b .tables .regions) .slots)) ≡ false
     → (needsLog (regionIn t es) l (b .tables) && not (any (isOf 0) (threadAt t (b .tables) .log))) ≡ false
     → (eqb (getD (b .tables .owner) l 0) (regionIn t es) ≡ false → getD (b .tables .lock) l false ≡ false → (q : ℕ) → s .slot l q ≡ u.Waits → ⊥)
-    → Kept m (flown (regionIn t es) (stored (regionIn t es) (slotted (regionIn t es) l b) l put (loggedOnce t (regionIn t es) l b))) (Stores t l put ∷ es)
+    → Kept m (flown (regionIn t es) (stored (regionIn t es) (slotted (regionIn t es) l b) l change (loggedOnce t (regionIn t es) l b))) (Stores t l change ∷ es)
 unfolding logged
-write-joined {m} {b} {es} t l put rc i re op jo su inT inL so lo ro fr calm =
+write-joined {m} {b} {es} t l change rc i re op jo su inT inL so lo ro fr calm =
     test (eqb (getD (b .tables .owner) l 0) (regionIn t es))
     (λ d. rw d (finish (b .tables .threads) (b .tables .owner) (b .tables .lock) (b .old) (λ x e. e)
-    (go-again t l put rc i op jo su inT inL so ro d)))
+    (go-again t l change rc i op jo su inT inL so ro d)))
     (λ d. let unl : getD (b .tables .lock) l false ≡ false = rw d at lo in
     let z : any (isOf 0) (threadAt t (b .tables) .log) ≡ true = not-false (any (isOf 0) (threadAt t (b .tables) .log)) (rw d at fr) in
     rw d (finish (loggedThreads t (regionIn t es) l (b .tables)) (set (b .tables .owner) l (regionIn t es)) (set (b .tables .lock) l true) (loggedOld t l b)
     (grown l (b .tables .lock) (rw (i .shape .lock) (omega (arith, lines-256 (b .tables) su))))
-    (go-first t l put rc i op jo su inT inL so ro d unl z (calm d unl))))
+    (go-first t l change rc i op jo su inT inL so ro d unl z (calm d unl))))
   where
     in′ : listed (regionIn t es) (b .tables .regions) ≡ true
     in′ = open-listed rc i (regionIn t es) op
 
     finish : (ths : List Thread) (ow : List ℕ) (lo : List Bool) (ol : List (List ℕ)) → ((x : ℕ) → getD (b .tables .lock) x false ≡ true → getD lo x false ≡ true)
-        → Going (λ x. lineOf x (startLines m)) (stored (regionIn t es) (slotted (regionIn t es) l b) l put (relogged ths ow lo ol b)) (Stores t l put ∷ es) (regionIn t es)
-        → Kept m (flown (regionIn t es) (stored (regionIn t es) (slotted (regionIn t es) l b) l put (relogged ths ow lo ol b))) (Stores t l put ∷ es)
+        → Going (λ x. lineOf x (startLines m)) (stored (regionIn t es) (slotted (regionIn t es) l b) l change (relogged ths ow lo ol b)) (Stores t l change ∷ es) (regionIn t es)
+        → Kept m (flown (regionIn t es) (stored (regionIn t es) (slotted (regionIn t es) l b) l change (relogged ths ow lo ol b))) (Stores t l change ∷ es)
     finish ths ow lo ol grow (going s h rc′ i′ op′) =
         record {
           simulated = flights (regionIn t es) (open-listed rc′ i′ (regionIn t es) op′) (by s h rc′ i′);
-          rest = rest-wrote (regionIn t es) l put b ths ow lo ol grow in′ (i .ended (regionIn t es) in′ ∙ op .goes-on) (open-undone (regionIn t es) i op in′) re;
+          rest = rest-wrote (regionIn t es) l change b ths ow lo ol grow in′ (i .ended (regionIn t es) in′ ∙ op .goes-on) (open-undone (regionIn t es) i op in′) re;
         }
 
 -- the slots are as before the join
@@ -266,15 +266,15 @@ write-keeps t l w y m b es sound ref kept = go (kept .simulated)
     deep : depthOf t (b .tables) ≢ 0
     deep = eqb-false (depthOf t (b .tables)) 0 (p 12)
 
-    put : List ℕ → List ℕ
-    put = storedIn w y
+    change : List ℕ → List ℕ
+    change = storedIn w y
 
-    go : Simulated m b es → Kept m (write t l put b) (Stores t l put ∷ es)
+    go : Simulated m b es → Kept m (write t l change b) (Stores t l change ∷ es)
     go (by s h rc i) =
         let cur : current t (b .tables) ≡ regionIn t es = current-is t l rc i deep in
         let op : u.Open s (regionIn t es) = rw (← cur) (current-open t l rc i deep) in
         let in′ : listed (regionIn t es) (b .tables .regions) ≡ true = open-listed rc i (regionIn t es) op in
-        rw (write-is t l (regionIn t es) put b cur in′)
+        rw (write-is t l (regionIn t es) change b cur in′)
         (after-join cur op in′ (rw cur at (join t l rc i deep (p 17) (p 19))))
       where
         b′ : Board
@@ -282,9 +282,9 @@ write-keeps t l w y m b es sound ref kept = go (kept .simulated)
 
         after-join : current t (b .tables) ≡ regionIn t es → u.Open s (regionIn t es) → listed (regionIn t es) (b .tables .regions) ≡ true
             → Joined (λ x. lineOf x (startLines m)) b′ es (regionIn t es) l
-            → Kept m (flown (regionIn t es) (stored (regionIn t es) (slotted (regionIn t es) l b′) l put (loggedOnce t (regionIn t es) l b′))) (Stores t l put ∷ es)
+            → Kept m (flown (regionIn t es) (stored (regionIn t es) (slotted (regionIn t es) l b′) l change (loggedOnce t (regionIn t es) l b′))) (Stores t l change ∷ es)
         after-join cur op in′ (joins s′ h′ rc′ i′ op′ f) =
-            write-joined t l put rc′ i′ (rest-read (regionIn t es) l i op in′ (kept .rest)) op′ f
+            write-joined t l change rc′ i′ (rest-read (regionIn t es) l i op in′ (kept .rest)) op′ f
             (not-false (isSetUp (b .tables)) (p 6))
             (leb-false (b .tables .size .threads) t (p 3))
             (leb-false (b .tables .size .lines) l (p 4))

@@ -6,7 +6,7 @@ use Rattle.rows.specs.Row.{regionsOf}
 use Rattle.rows.proofs.Laws.{rows-length}
 use Rattle.rules.specs.declared.Region.{Region}
 use Rattle.rules.specs.Tables.{ownerOf}
-use Rattle.rules.specs.Access.{stored, write, wrote}
+use Rattle.rules.specs.Access.{stored, storedIn, write, wrote}
 use borrow.Author.Needs.{needs}
 use Rattle.steps.proofs.write.Statement.{statement}
 use Rattle.steps.proofs.write.Tie as tie
@@ -69,7 +69,7 @@ put-flown-requires c κs = let s = c .before .before .before .before .before .be
 -- src/lib.rt:157:1
 returns : tie.Need-returns
 unfolding stored ownerOf
-returns c = λ h med. let s = c .before .before .before .before .before .before .before .before .before .before .before .before .before .before .before .before .before .before .before .before .before .before .before .before .before .args in let g = c .before .before .before .before .before .before .before .before .before .before .before .before .before .before .log-once in let p = c .put-flown in let b₁ = boardOf h (g .last .0) (s .regions .now) (g .last .1 .0) (g .last .1 .1 .0) (s .cur .now) med (g .last .1 .1 .1 .1 .0) (s .car .now) in let b₂ = placed (c .before .before .before .before .before .before .before .before .before .before .place-of .result) (c .before .before .before .before .before .before .before .wrote-region .result) (boardOf h (g .last .0) (s .regions .now) (g .last .1 .0) (g .last .1 .1 .0) (c .before .before .before .before .before .store .last .0) med (g .last .1 .1 .1 .1 .0) (s .car .now)) in let b₃ = boardOf h (g .last .0) (p .last .0) (g .last .1 .0) (g .last .1 .1 .0) (c .before .before .before .before .before .store .last .0) med (g .last .1 .1 .1 .1 .0) (p .last .1 .1 .1 .0) in write-law (s .t) (s .l) (s .w) (s .v) (c .before .before .before .before .before .before .before .before .before .before .before .before .before .before .before .before .before .before .before .before .before .before .before .current .result) (c .before .before .before .before .before .before .before .before .before .before .before .before .before .before .before .before .before .before .before .before .dependence .result) (c .before .before .before .before .before .before .before .wrote-region .result) (boardOf h (s .threads .now) (s .regions .now) (s .owner .now) (s .lock .now) (s .cur .now) med (s .old .now) (s .car .now)) b₁ b₂ b₃ (c .before .before .before .before .before .before .before .before .before .before .before .before .before .before .before .before .before .before .before .before .before .before .before .current .ensures) (c .before .before .before .before .before .before .before .before .before .before .before .before .before .before .before .before .before .before .before .before .dependence .ensures) (g .ensures h (s .regions .now) med (s .car .now)) (rw (c .before .before .before .before .before .before .before .wrote-region .ensures, c .before .before .before .before .before .before .before .before .get .ensures, c .before .before .before .before .before .before .before .before .before .before .place-of .ensures)) (rw (c .before .before .before .before .before .before .before .before .before .before .place-of .ensures, c .before .before .before .before .before .store .ensures)) (p .ensures h (g .last .0) (g .last .1 .0) med (g .last .1 .1 .1 .1 .0))
+returns c = λ h med. let s = c .before .before .before .before .before .before .before .before .before .before .before .before .before .before .before .before .before .before .before .before .before .before .before .before .before .args in let g = c .before .before .before .before .before .before .before .before .before .before .before .before .before .before .log-once in let p = c .put-flown in let b₁ = boardOf h (g .last .0) (s .regions .now) (g .last .1 .0) (g .last .1 .1 .0) (s .cur .now) med (g .last .1 .1 .1 .1 .0) (s .car .now) in let b₂ = placed (c .before .before .before .before .before .before .before .before .before .before .place-of .result) (c .before .before .before .before .before .before .before .wrote-region .result) (boardOf h (g .last .0) (s .regions .now) (g .last .1 .0) (g .last .1 .1 .0) (c .before .before .before .before .before .store .last .0) med (g .last .1 .1 .1 .1 .0) (s .car .now)) in let b₃ = boardOf h (g .last .0) (p .last .0) (g .last .1 .0) (g .last .1 .1 .0) (c .before .before .before .before .before .store .last .0) med (g .last .1 .1 .1 .1 .0) (p .last .1 .1 .1 .0) in write-law (s .t) (s .l) (c .before .before .before .before .before .before .before .before .before .before .before .before .before .before .before .before .before .before .before .before .before .before .before .current .result) (c .before .before .before .before .before .before .before .before .before .before .before .before .before .before .before .before .before .before .before .before .dependence .result) (storedIn (s .w) (s .v)) (c .before .before .before .before .before .before .before .wrote-region .result) (boardOf h (s .threads .now) (s .regions .now) (s .owner .now) (s .lock .now) (s .cur .now) med (s .old .now) (s .car .now)) b₁ b₂ b₃ (c .before .before .before .before .before .before .before .before .before .before .before .before .before .before .before .before .before .before .before .before .before .before .before .current .ensures) (c .before .before .before .before .before .before .before .before .before .before .before .before .before .before .before .before .before .before .before .before .dependence .ensures) (g .ensures h (s .regions .now) med (s .car .now)) (rw (c .before .before .before .before .before .before .before .wrote-region .ensures, c .before .before .before .before .before .before .before .before .get .ensures, c .before .before .before .before .before .before .before .before .before .before .place-of .ensures)) (rw (c .before .before .before .before .before .before .before .before .before .before .place-of .ensures, c .before .before .before .before .before .store .ensures)) (p .ensures h (g .last .0) (g .last .1 .0) med (g .last .1 .1 .1 .1 .0))
 
 pub write-spec : {M : Type 1} → statement M
 write-spec =
