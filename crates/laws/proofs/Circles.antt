@@ -2,7 +2,7 @@
 use Prim.Native.Nat.{_≤_, suc, zero, ℕ}
 use mathlib.Core.Path.{_≡_, refl}
 use mathlib.Core.Logic.{⊎-elim}
-use mathlib.Core.Bool.{Bool, _&&_, _||_, cond, false, false≢true, not, true}
+use mathlib.Core.Bool.{Bool, _&&_, _||_, false, false≢true, not, true}
 use mathlib.Core.List.{List, [], _∷_, map}
 use lib.Dec.{eqb, ltb}
 use lib.ListN.{length, length-map}
@@ -16,27 +16,13 @@ use Rattle.rules.specs.Contradiction.{depsOf, isCircle, reaches, reachesIn}
 use Rattle.rules.specs.declared.Listed.{Listed}
 use Rattle.undo.proofs.Laws.{is-same, never, or-false, or-right, or-true, test}
 use Rattle.undo.specs.Table.{any, isIn}
+use Rattle.rules.proofs.AnyOrder.{dropOne, one-fewer, still-in}
 
 -- ---- more numbers than a list has: one comes twice
 
 abbrev pub repeated : List ℕ → Bool
 repeated [] = false
 repeated (k ∷ ks) = isIn k ks || repeated ks
-
-abbrev dropOne : ℕ → List ℕ → List ℕ
-dropOne k [] = []
-dropOne k (x ∷ xs) = cond (eqb k x) xs (x ∷ dropOne k xs)
-
-one-fewer : (k : ℕ) (xs : List ℕ) → isIn k xs ≡ true → length xs ≡ suc (length (dropOne k xs))
-one-fewer k [] e = absurd (false≢true e)
-one-fewer k (x ∷ xs) e = test (eqb k x) (λ a. rw a) (λ a. let z = one-fewer k xs (rw a at e) in rw a (omega arith))
-
-still-in : (j k : ℕ) (xs : List ℕ) → eqb j k ≡ false → isIn j xs ≡ true → isIn j (dropOne k xs) ≡ true
-still-in j k [] n e = e
-still-in j k (x ∷ xs) n e =
-    test (eqb k x)
-    (λ a. let z : eqb j x ≡ false = rw (← eqb-true k x a) n in rw a (rw z at e))
-    (λ a. rw a (test (eqb j x) (λ b. rw b) (λ b. rw b (still-in j k xs n (rw b at e)))))
 
 pub once-fits : (ks js : List ℕ) → ((k : ℕ) → isIn k ks ≡ true → isIn k js ≡ true) → repeated ks ≡ false → length ks ≤ length js
 once-fits [] js f e = omega arith

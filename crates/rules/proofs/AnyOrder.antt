@@ -15,6 +15,8 @@ use Rattle.rules.specs.declared.Region.{Region}
 use Rattle.rules.specs.declared.Tables.{Tables}
 use Rattle.undo.proofs.Laws.{and-true, flip, is-same, never, or-false, or-right, or-true, test}
 use Rattle.undo.specs.Table.{any, isIn}
+use Rattle.rules.proofs.Sim.Done.{earliest-none, without-zero}
+use Rattle.rules.proofs.Lists.{eq-both}
 
 -- ---- commits in any order
 
@@ -43,9 +45,6 @@ map-same f e (x ∷ xs) = ap₂ _∷_ (e x) (map-same f e xs)
 
 wipe-zero : (ks : List ℕ) → wipe ks 0 ≡ 0
 wipe-zero ks = test (isIn 0 ks) (λ e. rw e) (λ e. rw e)
-
-without-zero : (k : ℕ) → withoutDep k 0 ≡ 0
-without-zero k = test (eqb 0 k) (λ e. rw e) (λ e. rw e)
 
 gone-none : (ks : List ℕ) → gone ks noRegion ≡ noRegion
 unfolding gone
@@ -147,11 +146,6 @@ included : {rs qs ps : List Region} {ks js : List ℕ} → Chain rs ks qs → Ch
 included {rs} {js = js} c d rest k h =
     within rs js [] (ap (any commits) (sym (left-over d)) ∙ rest) (λ i a. never a refl) c (sym (map-same (gone []) gone-nothing rs)) k h
 
-both : (a b : Bool) → (a ≡ true → b ≡ true) → (b ≡ true → a ≡ true) → a ≡ b
-both true b f g = sym (f refl)
-both false true f g = g refl
-both false false f g = refl
-
 -- no region commits twice, so that a chain has as many keys as regions
 
 left-out : (k j : ℕ) (rs : List Region) → eqb k 0 ≡ false → any (isKey k) rs ≡ false → any (isKey k) (map (afterCommit j) rs) ≡ false
@@ -185,15 +179,15 @@ not-again {rs} k z e (next {k = j} {ks = ks} p c) =
     rw y (not-again k z (left-out k j rs z e) c)
 
 -- a list without its first k
-abbrev dropOne : ℕ → List ℕ → List ℕ
+abbrev pub dropOne : ℕ → List ℕ → List ℕ
 dropOne k [] = []
 dropOne k (x ∷ xs) = cond (eqb k x) xs (x ∷ dropOne k xs)
 
-one-fewer : (k : ℕ) (xs : List ℕ) → isIn k xs ≡ true → length xs ≡ suc (length (dropOne k xs))
+pub one-fewer : (k : ℕ) (xs : List ℕ) → isIn k xs ≡ true → length xs ≡ suc (length (dropOne k xs))
 one-fewer k [] e = never e refl
 one-fewer k (x ∷ xs) e = test (eqb k x) (λ f. rw f) (λ f. rw f (ap suc (one-fewer k xs (rw f at e))))
 
-still-in : (j k : ℕ) (xs : List ℕ) → eqb j k ≡ false → isIn j xs ≡ true → isIn j (dropOne k xs) ≡ true
+pub still-in : (j k : ℕ) (xs : List ℕ) → eqb j k ≡ false → isIn j xs ≡ true → isIn j (dropOne k xs) ≡ true
 still-in j k [] n e = e
 still-in j k (x ∷ xs) n e =
     test (eqb k x)
@@ -217,7 +211,7 @@ pub any-order : {rs qs ps : List Region} {ks js : List ℕ} → Chain rs ks qs �
 any-order {ks = ks} {js = js} c p d q =
     let a = no-longer js c (included c d q) in
     let b = no-longer ks d (included d c p) in
-    (λ k. both (isIn k ks) (isIn k js) (included c d q k) (included d c p k), omega arith)
+    (λ k. eq-both (isIn k ks) (isIn k js) (included c d q k) (included d c p k), omega arith)
 
 -- ---- the commits of a step are such a chain, and none is left: "until no region can commit"
 
@@ -250,14 +244,6 @@ earlier-rest best r e =
     (λ b. test (ltb (r .stamp) (best .stamp)) (λ l. never c (rw (c, b, l) at e)) (λ l. never b (rw (c, b, l) at e)))
     (λ b. never c (rw (c, b) at e)))
     (λ c. (rw c at e, c))
-
-earliest-rest : (best : Region) (rs : List Region) → commits (earliestFrom best rs) ≡ false → (commits best ≡ false) × (any commits rs ≡ false)
-unfolding earliestFrom
-earliest-rest best [] e = (e, refl)
-earliest-rest best (r ∷ rs) e =
-    let p = earliest-rest (earlier best r) rs e in
-    let q = earlier-rest best r (p .0) in
-    (q .0, rw (q .1) (p .1))
 
 -- each commit takes a place of the list
 held-most : (k : ℕ) (rs : List Region) → count isHeld (map (afterCommit k) rs) ≤ count isHeld rs
@@ -325,7 +311,7 @@ ends (suc n) ts h =
     let l = held-less k (ts .regions) (earliest-in (ts .regions) e) in
     let i = ends n (commit k ts) (omega arith) in
     rw (settle-yes n ts e) (record { chain = next (earliest-in (ts .regions) e) (i .chain); rest = i .rest }))
-    (λ e. rw (settle-no n ts e) (record { chain = stop; rest = earliest-rest noRegion (ts .regions) e .1 }))
+    (λ e. rw (settle-no n ts e) (record { chain = stop; rest = earliest-none noRegion (ts .regions) e .1 }))
 
 pub settled-ends : (ts : Tables) → Ends (map doneRegion (ts .regions)) (settled ts)
 unfolding settled

@@ -25,36 +25,36 @@ use Rattle.rules.specs.declared.Tables.{Tables}
 use Rattle.undo.proofs.Laws.{test}
 use Rattle.undo.specs.Table.{any, isIn}
 
-abbrev pub keysOf : List Region → List ℕ
-keysOf rs = map (λ r. r .key) rs
+abbrev pub keysIn : List Region → List ℕ
+keysIn rs = map (λ r. r .key) rs
 
 abbrev pub boardKeys : Board → List ℕ
-boardKeys b = keysOf (b .tables .regions)
+boardKeys b = keysIn (b .tables .regions)
 
 -- ---- what the keys say
 
-pub listed-keys : (rs rs′ : List Region) → keysOf rs ≡ keysOf rs′ → (k : ℕ) → listed k rs ≡ listed k rs′
+pub listed-keys : (rs rs′ : List Region) → keysIn rs ≡ keysIn rs′ → (k : ℕ) → listed k rs ≡ listed k rs′
 listed-keys rs rs′ e k = ap (λ x. not (eqb k 0) && x) (by-keys rs ∙ ap (any (λ x. eqb x k)) e ∙ sym (by-keys rs′))
   where
-    by-keys : (xs : List Region) → any (isKey k) xs ≡ any (λ x. eqb x k) (keysOf xs)
+    by-keys : (xs : List Region) → any (isKey k) xs ≡ any (λ x. eqb x k) (keysIn xs)
     by-keys xs = sym (any-map (λ x. eqb x k) (isKey k) (λ r. r .key) xs (λ r. refl))
 
-pub held-keys : (rs : List Region) → count isHeld rs ≡ count (λ x. not (eqb x 0)) (keysOf rs)
+pub held-keys : (rs : List Region) → count isHeld rs ≡ count (λ x. not (eqb x 0)) (keysIn rs)
 held-keys rs = sym (count-map (λ x. not (eqb x 0)) isHeld (λ r. r .key) rs (λ r. refl))
 
 -- ---- a region stored, and each region changed
 
-keys-put : (rs : List Region) (i : ℕ) (r : Region) → keysOf (set rs i r) ≡ set (keysOf rs) i (r .key)
+keys-put : (rs : List Region) (i : ℕ) (r : Region) → keysIn (set rs i r) ≡ set (keysIn rs) i (r .key)
 keys-put [] i r = refl
 keys-put (x ∷ rs) zero r = refl
 keys-put (x ∷ rs) (suc i) r = ap (λ ks. x .key ∷ ks) (keys-put rs i r)
 
-keys-stored : (rs : List Region) (i : ℕ) (r : Region) → r .key ≡ getD rs i noRegion .key → keysOf (set rs i r) ≡ keysOf rs
+keys-stored : (rs : List Region) (i : ℕ) (r : Region) → r .key ≡ getD rs i noRegion .key → keysIn (set rs i r) ≡ keysIn rs
 keys-stored [] i r e = refl
-keys-stored (x ∷ rs) zero r e = ap (λ k. k ∷ keysOf rs) e
+keys-stored (x ∷ rs) zero r e = ap (λ k. k ∷ keysIn rs) e
 keys-stored (x ∷ rs) (suc i) r e = ap (λ ks. x .key ∷ ks) (keys-stored rs i r e)
 
-keys-mapped : (f : Region → Region) (g : ℕ → ℕ) (rs : List Region) → ((r : Region) → f r .key ≡ g (r .key)) → keysOf (map f rs) ≡ map g (keysOf rs)
+keys-mapped : (f : Region → Region) (g : ℕ → ℕ) (rs : List Region) → ((r : Region) → f r .key ≡ g (r .key)) → keysIn (map f rs) ≡ map g (keysIn rs)
 keys-mapped f g [] h = refl
 keys-mapped f g (r ∷ rs) h = rw (h r, keys-mapped f g rs h)
 
@@ -62,8 +62,8 @@ each-same : (g : ℕ → ℕ) (ks : List ℕ) → ((k : ℕ) → g k ≡ k) → 
 each-same g [] h = refl
 each-same g (k ∷ ks) h = rw (h k, each-same g ks h)
 
-keys-changed : (f : Region → Region) (rs : List Region) → ((r : Region) → f r .key ≡ r .key) → keysOf (map f rs) ≡ keysOf rs
-keys-changed f rs h = keys-mapped f (λ k. k) rs h ∙ each-same (λ k. k) (keysOf rs) (λ k. refl)
+keys-changed : (f : Region → Region) (rs : List Region) → ((r : Region) → f r .key ≡ r .key) → keysIn (map f rs) ≡ keysIn rs
+keys-changed f rs h = keys-mapped f (λ k. k) rs h ∙ each-same (λ k. k) (keysIn rs) (λ k. refl)
 
 -- ---- the rules, before what commits
 
@@ -71,7 +71,7 @@ flown-keys : (k : ℕ) (b : Board) → boardKeys (flown k b) ≡ boardKeys b
 unfolding flown
 flown-keys k b = keys-stored (b .tables .regions) (placeOf k (b .tables .regions)) _ refl
 
-pub read-keys : (k l : ℕ) (ts : Tables) → keysOf (read k l ts .regions) ≡ keysOf (ts .regions)
+pub read-keys : (k l : ℕ) (ts : Tables) → keysIn (read k l ts .regions) ≡ keysIn (ts .regions)
 unfolding read
 read-keys k l ts = keys-stored (ts .regions) (placeOf k (ts .regions)) _ refl
 
@@ -117,29 +117,29 @@ after-key : (k : ℕ) (r : Region) → afterCommit k r .key ≡ cond (eqb (r .ke
 unfolding afterCommit
 after-key k r = test (eqb (r .key) k) (λ e. rw e) (λ e. rw e)
 
-settle-keys : (n : ℕ) (ts : Tables) → keysOf (settle n ts .tables .regions) ≡ map (gone (settle n ts .keys)) (keysOf (ts .regions))
+settle-keys : (n : ℕ) (ts : Tables) → keysIn (settle n ts .tables .regions) ≡ map (gone (settle n ts .keys)) (keysIn (ts .regions))
 unfolding settle commit
-settle-keys zero ts = sym (each-same (gone []) (keysOf (ts .regions)) (λ k. refl))
+settle-keys zero ts = sym (each-same (gone []) (keysIn (ts .regions)) (λ k. refl))
 settle-keys (suc n) ts = go (commits (earliest (ts .regions))) (settle-keys n (commit (earliest (ts .regions) .key) ts))
   where
     Left : Settled → Type 0
-    Left s = keysOf (s .tables .regions) ≡ map (gone (s .keys)) (keysOf (ts .regions))
+    Left s = keysIn (s .tables .regions) ≡ map (gone (s .keys)) (keysIn (ts .regions))
 
     go : (x : Bool)
-        → keysOf (settle n (commit (earliest (ts .regions) .key) ts) .tables .regions)
-        ≡ map (gone (settle n (commit (earliest (ts .regions) .key) ts) .keys)) (keysOf (map (afterCommit (earliest (ts .regions) .key)) (ts .regions)))
+        → keysIn (settle n (commit (earliest (ts .regions) .key) ts) .tables .regions)
+        ≡ map (gone (settle n (commit (earliest (ts .regions) .key) ts) .keys)) (keysIn (map (afterCommit (earliest (ts .regions) .key)) (ts .regions)))
         → Left (elim x as (λ y. Settled) [
           | false ↦ record { tables = ts; keys = [] }
           | true ↦ before (earliest (ts .regions) .key) (settle n (commit (earliest (ts .regions) .key) ts))
         ])
-    go false ih = sym (each-same (gone []) (keysOf (ts .regions)) (λ k. refl))
+    go false ih = sym (each-same (gone []) (keysIn (ts .regions)) (λ k. refl))
     go true ih =
         ih
         ∙ ap (map (gone (settle n (commit (earliest (ts .regions) .key) ts) .keys)))
         (keys-mapped (afterCommit (earliest (ts .regions) .key)) (λ x. cond (eqb x (earliest (ts .regions) .key)) 0 x) (ts .regions) (after-key (earliest (ts .regions) .key)))
-        ∙ gone-both (earliest (ts .regions) .key) (settle n (commit (earliest (ts .regions) .key) ts) .keys) (keysOf (ts .regions))
+        ∙ gone-both (earliest (ts .regions) .key) (settle n (commit (earliest (ts .regions) .key) ts) .keys) (keysIn (ts .regions))
 
-pub settled-keys : (ts : Tables) → keysOf (settled ts .tables .regions) ≡ map (gone (settled ts .keys)) (keysOf (ts .regions))
+pub settled-keys : (ts : Tables) → keysIn (settled ts .tables .regions) ≡ map (gone (settled ts .keys)) (keysIn (ts .regions))
 unfolding settled doneRegion
 settled-keys ts =
     settle-keys (length (ts .regions)) (withRegions (map doneRegion (ts .regions)) ts)
@@ -158,11 +158,11 @@ settled-fewer : (b b′ : Board) (e : Event) → commitsOf e b ≡ settled (b′
 unfolding settledBoard
 settled-fewer b b′ e c h = fewer (settled-keys (b′ .tables) ∙ rw (c, h))
 
-opened-keys : (t : ℕ) (ts : Tables) → keysOf (opened t ts .regions) ≡ set (keysOf (ts .regions)) (place (λ x. eqb x 0) (keysOf (ts .regions))) (keyOf t (threadAt t ts .last + 1))
+opened-keys : (t : ℕ) (ts : Tables) → keysIn (opened t ts .regions) ≡ set (keysIn (ts .regions)) (place (λ x. eqb x 0) (keysIn (ts .regions))) (keyOf t (threadAt t ts .last + 1))
 unfolding opened
 opened-keys t ts =
     keys-put (ts .regions) (placeOf 0 (ts .regions)) _
-    ∙ ap (λ i. set (keysOf (ts .regions)) i (keyOf t (threadAt t ts .last + 1))) (sym (place-map (λ x. eqb x 0) (isKey 0) (λ r. r .key) (ts .regions) (λ r. refl)))
+    ∙ ap (λ i. set (keysIn (ts .regions)) i (keyOf t (threadAt t ts .last + 1))) (sym (place-map (λ x. eqb x 0) (isKey 0) (λ r. r .key) (ts .regions) (λ r. refl)))
 
 pub keys-after : (b : Board) (e : Event) → Keys b e (boardKeys (apply b e .board))
 unfolding apply setup begin

@@ -2,8 +2,8 @@
 use Rattle.undo.specs.Machine as u
 use Rattle.undo.specs.History as v
 use Rattle.undo.specs.Claim as c
-use Rattle.undo.specs.Machine.{act, Carry, Clear, State, Waits, log-acks, owns}
-use Rattle.undo.specs.History.{note, History}
+use Rattle.undo.specs.Machine.{act}
+use Rattle.undo.specs.History.{note}
 use Prim.Native.Nat.{_<_, ℕ}
 use mathlib.Core.Path.{_∙_, _≡_, ap, refl, sym}
 use mathlib.Core.Bool.{_||_, cond, false, true}
@@ -15,7 +15,7 @@ use borrow.Author.Tests.{eq-eqb, eqb-false, eqb-true, leb-false, ltb-false, ltb-
 use Rattle.rules.proofs.Places.{Good, good-free, key-at, listed-key, listed-mapped, region-mapped, region-none, regions-mapped}
 use Rattle.rules.proofs.Lists.{any-map, count-map, getD-map, getD-set}
 use Rattle.rules.proofs.Sim.State.{GoodEntry, GoodRegion, Kept, Logs, Rest, Shape, Sim, Simulated, Told, by}
-use Rattle.rules.proofs.Sim.Base.{lines-256, memories-same, shape-kept, thread-stored, threads-8, threads-stored}
+use Rattle.rules.proofs.Sim.Base.{clear-waits, lines-256, memories-same, shape-kept, thread-stored, threads-8, threads-stored}
 use Rattle.rules.proofs.Sim.Flight.{flights, flown-rest}
 use Rattle.rules.proofs.Sim.Parts.{Flown, Owner, owned, owner-is, told-kept, unowned}
 use Rattle.rules.proofs.Sim.Write.{top-owner}
@@ -170,9 +170,6 @@ waiting-stays Empty c e = e
 waiting-stays (Waiting n) c e = e
 waiting-stays InFlight c e = let z : _≡_ {A = ℕ} 0 1 = cc in absurd (omega arith)
 
-clear-not-waits : _≡_ {A = u.Carry (List ℕ)} u.Clear u.Waits → ⊥
-clear-not-waits e = let z : _≡_ {A = ℕ} 0 1 = cc in omega arith
-
 module _ {b : Board} {es : List Account} {s : u.State (List ℕ)} {h : v.History (List ℕ)} (l : ℕ) (e : u.Entry (List ℕ)) (ch : List (u.Entry (List ℕ)))
     (i : Sim b es s h) (is : s .chain l ≡ e ∷ ch) (in′ : listed (e .rid) (b .tables .regions) ≡ true) (loc : getD (b .tables .lock) l false ≡ true)
     (inside : l < 256) where
@@ -211,7 +208,7 @@ module _ {b : Board} {es : List Account} {s : u.State (List ℕ)} {h : v.History
       test (eqb x l)
       (λ d. test (eqb q (e .rid))
       (λ f. i .waits x q (rw (eqb-true x l d) (rw (d, f) at w)))
-      (λ f. absurd (clear-not-waits (rw (d, f) at w))))
+      (λ f. absurd (clear-waits (rw (d, f) at w))))
       (λ d. i .waits x q (rw d at w))
 
   ack-other : (x j : ℕ) (a : Entry) → (a .line ≡ l → eqb (a .key) (e .rid) ≡ false) → GoodEntry b s x j a

@@ -154,7 +154,7 @@ no-deps q (d ∷ ds) n e =
     let x : eqb q d ≡ false = rw (← eqb-true 0 d (z .0)) n in
     rw x (no-deps q ds n (z .1))
 
-without-zero : (k : ℕ) → withoutDep k 0 ≡ 0
+pub without-zero : (k : ℕ) → withoutDep k 0 ≡ 0
 without-zero k = test (eqb 0 k) (λ d. rw d) (λ d. rw d)
 
 pub any-without : (d k : ℕ) (ds : List ℕ) → eqb d 0 ≡ false → any (eqb d) (map (withoutDep k) ds) ≡ (not (eqb d k) && any (eqb d) ds)
