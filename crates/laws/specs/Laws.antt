@@ -22,6 +22,7 @@ use Rattle.rules.specs.declared.Region.{Region}
 use Rattle.rules.specs.declared.Slot.{Slot}
 use Rattle.rules.specs.declared.SlotState.the-variants.{InFlight, Waiting}
 use Rattle.undo.specs.Table.{isIn}
+use Rattle.rules.specs.Measures.{ripeCount}
 
 -- of every list of records over every memory
 abbrev pub Always : (Memory → List (List ℕ) → Type 0) → Type 0
@@ -38,7 +39,7 @@ slotIs i j b = getD (regionIs i b .slots) j noSlot
 
 pub record AtRest (b : Board) : Type 0 where
   -- "A waiting slot flies when its line is unlocked and its count is 4 or its region has ended": what still waits so has a locked line
-  pub flown : (i j c : ℕ) → slotIs i j b .state ≡ Waiting c → (eqb c 4 || regionIs i b .ended) ≡ true
+  pub flown : (i j c : ℕ) → slotIs i j b .state ≡ Waiting c → (eqb c ripeCount || regionIs i b .ended) ≡ true
       → getD (b .tables .lock) (slotIs i j b .line) false ≡ true
   -- "An ended region without slots leaves the modified list and is done"
   pub finished : (i : ℕ) → regionIs i b .ended ≡ true → hasSlot (regionIs i b) ≡ false → regionIs i b .done ≡ true

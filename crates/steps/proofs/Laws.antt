@@ -1,7 +1,7 @@
 -- A step of document 01 from its parts, each part by a name of its own.
 use Prim.Native.Nat.{_<_, _≤_, suc, zero, ℕ}
 use mathlib.Core.Path.{_≡_, ap, refl}
-use mathlib.Core.Bool.{cond, false}
+use mathlib.Core.Bool.{cond, false, true}
 use mathlib.Core.List.{List, [], _∷_, map}
 use lib.ListN.{List·getD-eq-default, getD, length, set}
 use lib.Seq.{getD-set-same, set-getD, set-out, set-set}

@@ -38,6 +38,7 @@ use Rattle.undo.proofs.Laws.{and-true, flip, is-same, never, or-right, or-true,
 use Rattle.undo.specs.Claim.{Reach, then}
 use Rattle.undo.specs.Table.{any, put}
 use Rattle.rules.proofs.Tests.{badAt, passed}
+use Rattle.rules.specs.Measures.{ripeCount}
 
 -- ---- a dependence joins a set
 
@@ -294,7 +295,7 @@ unfolding read
 rest-read {b} k l i o in′ r =
     record {
       flown = λ q x c e w. r .flown q x c
-          (ap (λ y. eqb c 4 || y) (sym (part-stored (b .tables) k r′ in′ (key-at k (b .tables .regions) in′) (λ y. y .ended) refl q)) ∙ e)
+          (ap (λ y. eqb c ripeCount || y) (sym (part-stored (b .tables) k r′ in′ (key-at k (b .tables .regions) in′) (λ y. y .ended) refl q)) ∙ e)
           (ap (stateOf x) (sym (part-stored (b .tables) k r′ in′ (key-at k (b .tables .regions) in′) (λ y. y .slots) refl q)) ∙ w);
       finished = each-set Finished (b .tables .regions) (placeOf k (b .tables .regions)) r′ noRegion
           (λ e n. never e (i .ended k in′ ∙ o .goes-on)) (r .finished);

@@ -40,6 +40,7 @@ use Rattle.undo.proofs.Steps.{reached}
 use Rattle.undo.specs.Claim.{Reach, then}
 use Rattle.undo.specs.Table.{any, put}
 use Rattle.rules.proofs.Tests.{badAt, passed}
+use Rattle.rules.specs.Measures.{ripeCount}
 
 -- ---- the other regions' flights are dropped
 
@@ -307,7 +308,7 @@ module _ {b : Board} {es : List Account} {s : u.State (List ℕ)} {h : v.History
       li = listed-mapped (dropped (e .rid) l) (b .tables .regions) (dropped-none′ (e .rid) l rid-nz) (dropped-key (e .rid) l rid-nz)
 
   -- what waits of the other regions waits on a locked line
-  ack-rest : Rest b → (q x n : ℕ) → eqb q (e .rid) ≡ false → (eqb n 4 || regionAt q (unlocked (e .rid) l (b .tables) .regions) .ended) ≡ true
+  ack-rest : Rest b → (q x n : ℕ) → eqb q (e .rid) ≡ false → (eqb n ripeCount || regionAt q (unlocked (e .rid) l (b .tables) .regions) .ended) ≡ true
       → stateOf x (regionAt q (unlocked (e .rid) l (b .tables) .regions) .slots) ≡ Waiting n → getD (unlocked (e .rid) l (b .tables) .lock) x false ≡ true
   unfolding unlocked
   ack-rest re q x n ne en w =
@@ -321,9 +322,9 @@ module _ {b : Board} {es : List Account} {s : u.State (List ℕ)} {h : v.History
           ≡ cond (eqb q (e .rid)) (regionAt q (b .tables .regions) .slots) (map (droppedSlot l) (regionAt q (b .tables .regions) .slots))
       slots = dropped-slots (e .rid) l rid-nz q (b .tables .regions) (i .shape .regions .good) in′
 
-      ended : (eqb n 4 || regionAt q (b .tables .regions) .ended) ≡ true
+      ended : (eqb n ripeCount || regionAt q (b .tables .regions) .ended) ≡ true
       ended =
-          ap (λ z. eqb n 4 || z)
+          ap (λ z. eqb n ripeCount || z)
           (sym (ap (λ r. r .ended) (region-mapped (dropped (e .rid) l) (b .tables .regions) (dropped-none′ (e .rid) l rid-nz) (dropped-key (e .rid) l rid-nz) q)
           ∙ dropped-ended (e .rid) l rid-nz (regionAt q (b .tables .regions)))) ∙ en
 

@@ -31,6 +31,7 @@ use Rattle.undo.specs.Claim.{Reach, then}
 use Rattle.undo.specs.Machine.{ends}
 use Rattle.undo.specs.Table.{put}
 use Rattle.rules.proofs.Tests.{passed}
+use Rattle.rules.specs.Measures.{ripeCount}
 
 -- ---- end to depth 0: the region ends, before its flights
 
@@ -159,7 +160,7 @@ module _ {m : ℕ → List ℕ} {b : Board} {es : List Account} {s : u.State (Li
   reach-over = then rc (u.End (current t (b .tables))) (u.ends mine-open)
 
   -- the slots of the other regions are as they were
-  rest-over : Rest b → (q l c : ℕ) → eqb q (current t (b .tables)) ≡ false → (eqb c 4 || regionAt q (over t (b .tables) .regions) .ended) ≡ true
+  rest-over : Rest b → (q l c : ℕ) → eqb q (current t (b .tables)) ≡ false → (eqb c ripeCount || regionAt q (over t (b .tables) .regions) .ended) ≡ true
       → stateOf l (regionAt q (over t (b .tables) .regions) .slots) ≡ Waiting c → getD (over t (b .tables) .lock) l false ≡ true
   unfolding closed
   rest-over r q l c n e w = r .flown q l c (rw (region-over q, n) at e) (rw (region-over q, n) at w)

@@ -26,6 +26,7 @@ use Rattle.undo.proofs.Laws.{and-true, never, test}
 use Rattle.undo.proofs.Main.{structured}
 use Rattle.undo.specs.Claim.{Reach, then}
 use Rattle.rules.specs.History.{Account}
+use Rattle.rules.specs.Measures.{ripeCount}
 
 ripe-waits : (car : List (List ℕ)) (l : ℕ) (ended : Bool) (st : SlotState) → isRipe ended st ≡ true → carryOf car l st ≡ u.Waits
 ripe-waits car l ended Empty e = absurd (false≢true e)
@@ -157,7 +158,7 @@ flights {b = b} k in′ (by s h rc i) = by (act s (u.Launch (λ l q. eqb q k && 
 
 -- after it no slot of region k that could fly waits
 pub flown-rest : (k : ℕ) (b : Board) → listed k (b .tables .regions) ≡ true
-    → ((q l c : ℕ) → eqb q k ≡ false → (eqb c 4 || regionAt q (b .tables .regions) .ended) ≡ true → stateOf l (regionAt q (b .tables .regions) .slots) ≡ Waiting c
+    → ((q l c : ℕ) → eqb q k ≡ false → (eqb c ripeCount || regionAt q (b .tables .regions) .ended) ≡ true → stateOf l (regionAt q (b .tables .regions) .slots) ≡ Waiting c
     → getD (b .tables .lock) l false ≡ true)
     → Flown (flown k b)
 unfolding flown
@@ -169,16 +170,16 @@ flown-rest k b in′ others q l c en w =
     at : regionAt q (set (b .tables .regions) (placeOf k (b .tables .regions)) (flownRegion k b)) ≡ cond (eqb q k) (flownRegion k b) (regionAt q (b .tables .regions))
     at = region-stored k (b .tables .regions) (flownRegion k b) in′ (key-at k (b .tables .regions) in′) q
 
-    stays : (st : SlotState) (e x : Bool) → (eqb c 4 || e) ≡ true → cond (isRipe e st && not x) InFlight st ≡ Waiting c → x ≡ true
+    stays : (st : SlotState) (e x : Bool) → (eqb c ripeCount || e) ≡ true → cond (isRipe e st && not x) InFlight st ≡ Waiting c → x ≡ true
     stays st e true d w = refl
     stays Empty e false d w = let z : _≡_ {A = ℕ} 0 1 = cc in absurd (omega arith)
     stays InFlight e false d w = let z : _≡_ {A = ℕ} 0 1 = cc in absurd (omega arith)
     stays (Waiting n) e false d w =
-        test (eqb n 4 || e)
+        test (eqb n ripeCount || e)
         (λ y. let v = rw y at w in let z : _≡_ {A = ℕ} 0 1 = cc in absurd (omega arith))
-        (λ y. let v : Waiting n ≡ Waiting c = rw y at w in let z : n ≡ c = cc in never d (ap (λ x. eqb x 4 || e) (sym z) ∙ y))
+        (λ y. let v : Waiting n ≡ Waiting c = rw y at w in let z : n ≡ c = cc in never d (ap (λ x. eqb x ripeCount || e) (sym z) ∙ y))
 
-    own : (eqb c 4 || regionAt k (b .tables .regions) .ended) ≡ true
+    own : (eqb c ripeCount || regionAt k (b .tables .regions) .ended) ≡ true
         → offAt (b .tables .lock) (regionAt k (b .tables .regions) .ended) l (stateOf l (regionAt k (b .tables .regions) .slots)) ≡ Waiting c
         → getD (b .tables .lock) l false ≡ true
     own d w = stays (stateOf l (regionAt k (b .tables .regions) .slots)) (regionAt k (b .tables .regions) .ended) (getD (b .tables .lock) l false) d w

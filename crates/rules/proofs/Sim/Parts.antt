@@ -26,10 +26,11 @@ use Rattle.undo.specs.Claim.{Reach}
 use Rattle.undo.specs.History.{History, used}
 use Rattle.undo.specs.Machine.{Open, State}
 use Rattle.rules.proofs.Sim.Base.{shape-kept}
+use Rattle.rules.specs.Measures.{ripeCount}
 
 -- between two events no slot that could fly waits
 abbrev pub Flown : Board → Type 0
-Flown b = (k l c : ℕ) → (eqb c 4 || regionAt k (b .tables .regions) .ended) ≡ true → stateOf l (regionAt k (b .tables .regions) .slots) ≡ Waiting c
+Flown b = (k l c : ℕ) → (eqb c ripeCount || regionAt k (b .tables .regions) .ended) ≡ true → stateOf l (regionAt k (b .tables .regions) .slots) ≡ Waiting c
     → getD (b .tables .lock) l false ≡ true
 
 -- the board with other regions and other lines in current memory, the medium and the flights

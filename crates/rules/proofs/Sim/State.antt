@@ -34,6 +34,7 @@ use Rattle.undo.specs.History.{History, used}
 use Rattle.undo.specs.Machine.{Open, State, Waits, owns}
 use Rattle.undo.specs.Recovery.{olds}
 use Rattle.undo.specs.Table.{any}
+use Rattle.rules.specs.Measures.{ripeCount}
 
 -- ---- the tables by themselves
 
@@ -149,7 +150,7 @@ Finished r = r .ended ≡ true → hasSlot r ≡ false → r .done ≡ true
 -- between two events nothing is left to be done: no slot that could fly waits (its count is 4 or its region has ended, and its line is unlocked), every ended
 -- region without slots is done, and no region can commit
 pub record Rest (b : Board) : Type 0 where
-  pub flown : (k l c : ℕ) → (eqb c 4 || regionAt k (b .tables .regions) .ended) ≡ true → stateOf l (regionAt k (b .tables .regions) .slots) ≡ Waiting c
+  pub flown : (k l c : ℕ) → (eqb c ripeCount || regionAt k (b .tables .regions) .ended) ≡ true → stateOf l (regionAt k (b .tables .regions) .slots) ≡ Waiting c
       → getD (b .tables .lock) l false ≡ true
   pub finished : (i : ℕ) → Finished (getD (b .tables .regions) i noRegion)
   pub settled : (i : ℕ) → commits (getD (b .tables .regions) i noRegion) ≡ false

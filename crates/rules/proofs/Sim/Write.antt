@@ -48,6 +48,7 @@ use Rattle.undo.specs.Table.{any}
 use Rattle.rules.proofs.Tests.{badAt, passed}
 use Rattle.rules.proofs.Sim.Store.{KeepsLine, ready-again, relogged, slotted, store-sim, word-keeps}
 use Rattle.rules.proofs.Sim.Logged.{chainOf, lockOf, loggedOld, loggedThreads, no-length, ready-first}
+use Rattle.rules.specs.Measures.{ripeCount}
 
 -- ---- the write, after the owner has joined the dependences
 
@@ -179,7 +180,7 @@ calm-line {m} {b} {es} {s} {h} t l rc i re deep fo own unl q e = go (owner-is rc
         let n : eqb (a .rid) (current t (b .tables)) ≡ false = rw (current-is t l rc i deep, ← k) own in
         let ov : s .over (a .rid) ≡ true = owner-ended t l rc i deep (a .rid) bo li (rw o at fo) n in
         let st = waits-state (b .car) l (stateOf l (regionAt q (b .tables .regions) .slots)) (sym (i .slot l q) ∙ e) in
-        never (re .flown q l (st .0) (or-right (eqb (st .0) 4) (rw (← g) (i .ended (a .rid) li ∙ ov))) (st .1)) unl
+        never (re .flown q l (st .0) (or-right (eqb (st .0) ripeCount) (rw (← g) (i .ended (a .rid) li ∙ ov))) (st .1)) unl
 
 -- what is left to be done after the store and the flights of a region that goes on
 rest-wrote : (k l : ℕ) (change : List ℕ → List ℕ) (b : Board) (ths : List Thread) (ow : List ℕ) (lo : List Bool) (ol : List (List ℕ))
