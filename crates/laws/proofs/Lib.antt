@@ -9,7 +9,6 @@ pub mod Values
 pub mod Answers
 pub mod Circles
 pub mod Whole
-pub mod Grown
 pub mod Walked
 pub mod Bench
 pub mod Causes

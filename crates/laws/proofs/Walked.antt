@@ -7,12 +7,13 @@ use lib.Dec.{eqb, leb}
 use lib.ListN.{drop, getD, length, length-drop, length-map}
 use native.Mathlib.Omega.{arith}
 use borrow.Author.Tests.{eqb-false, eqb-true, le-leb, lt-leb}
-use Rattle.laws.proofs.Answers.{image-refuses, refusesWell}
+use Rattle.laws.proofs.Answers.{refuses-well}
 use Rattle.laws.proofs.Circles.{keysIn}
-use Rattle.laws.proofs.Grown.{entries-read}
 use Rattle.laws.proofs.Whole.{all-counted, by-keys, keys-rise, walk-counted}
-use Rattle.laws.specs.Images.{FinishedLast, WalkWhole, isEntry, loggedIs}
+use Rattle.laws.specs.Images.{FinishedLast, WalkWhole, isEntry, isImageRefusal, loggedIs}
 use Rattle.rules.proofs.Codec.Image.{read-records, read-valid}
+use Rattle.rules.proofs.Codec.Refusals.{refusesBy}
+use Rattle.rules.proofs.Recover.Entries.{entries-read}
 use Rattle.rules.proofs.Codec.Valid.{Valid}
 use Rattle.rules.proofs.Lists.{any-none}
 use Rattle.rules.specs.Claim.{entriesIn, isByte}
@@ -128,7 +129,7 @@ module _ (bs : List ℕ) (n : ℕ) (y : all isByte bs ≡ true) where
       (λ a. let w = eqb-true (length fs) 0 a in rw a (sym (le-leb (entriesIn 0 bs) (n + 1) (omega arith))))
       (λ a. let w = eqb-false (length fs) 0 a in rw a (sym (lt-leb (entriesIn 0 bs) (n + 1) (omega arith))))
 
-  by-verdict : (v : Verdict) → readImage bs ≡ v → refusesWell v ≡ true → restoreRead v asked .answer .refusal ≡ 0
+  by-verdict : (v : Verdict Persistent) → readImage bs ≡ v → refusesBy isImageRefusal v ≡ true → restoreRead v asked .answer .refusal ≡ 0
       → isFinished (restoreRead v asked .answer) ≡ leb (entriesIn 0 bs) (n + 1)
   by-verdict (Refuses c) e g z = let x : false ≡ true = rw z at g in never x refl
   by-verdict (Reads p) e g z =
@@ -138,4 +139,4 @@ module _ (bs : List ℕ) (n : ℕ) (y : all isByte bs ≡ true) where
 
 pub finished-is-last : FinishedLast
 unfolding restore
-finished-is-last bs n y z = by-verdict bs n y (readImage bs) refl (image-refuses bs) z
+finished-is-last bs n y z = by-verdict bs n y (readImage bs) refl (refuses-well bs) z

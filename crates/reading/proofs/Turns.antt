@@ -10,7 +10,7 @@ use borrow.Author.Tests.{eqb-true, leb-true}
 use Rattle.rules.specs.Bytes.{lineAt, numOf}
 use Rattle.rules.specs.Image.{Persistent}
 use Rattle.rules.specs.Lists.{all}
-use Rattle.rules.specs.Reader.{Last, Next, Stop, Turn, endTurn, fieldsTurn, headTurn, imageBody, isImageKind, isKnownThread, isPlaced, keyAt, lastListed, lastLogged, lineTurn, listedAt, listedTurn, loggedAt, loggedTurn, turnOf}
+use Rattle.rules.specs.Reader.{Last, Next, Stop, Turn, endTurn, fieldsTurn, headTurn, imageBody, isImageKind, isKnownThread, isPlaced, keyAt, lastListed, lastLogged, lineTurn, listedAt, listedTurn, loggedAt, loggedTurn, turnBy, turnOf}
 use Rattle.rules.specs.Refusal.{inRange}
 use Rattle.rules.specs.Tables.{threadOf}
 use Rattle.rules.specs.declared.Listed.{Listed}
@@ -34,7 +34,7 @@ added p bs (Entry k l) =
 added p bs End = p
 
 -- the record as a turn
-abbrev pub turnFrom : Persistent → List ℕ → Item → Turn
+abbrev pub turnFrom : Persistent → List ℕ → Item → Turn Persistent
 turnFrom p bs (Refused n) = Stop n
 turnFrom p bs (Head t l) = Next (added p bs (Head t l))
 turnFrom p bs Line = Next (added p bs Line)
@@ -85,7 +85,7 @@ module _ (p : Persistent) (bs : List ℕ) where
       (λ g. rw g (test (eqb k 35) (λ h. rw h (entry-turn few)) (λ h. rw h end-turn)))))))
 
   pub turn-item : (k : ℕ) → Few (p .log) → turnOf p (k ∷ bs) ≡ turnFrom p bs (itemOf (tallyOf p) (k ∷ bs))
-  unfolding turnOf itemOf tallyOf
+  unfolding turnBy itemOf tallyOf
   turn-item k few =
       test (isImageKind k)
       (λ e. rw e (test (isPlaced p k)

@@ -1,10 +1,10 @@
 -- The walk over the records: what the tables and counts hold after each.
-use Prim.Native.Nat.{_+_, _<_, _≤_, suc, zero, ℕ}
-use mathlib.Core.Path.{_∙_, _≡_, ap, refl, subst, sym}
+use Prim.Native.Nat.{_+_, _<_, _≤_, suc, ℕ}
+use mathlib.Core.Path.{_∙_, _≡_, ap, refl, sym}
 use mathlib.Core.Bool.{_&&_, false≢true, true}
-use mathlib.Core.List.{List, [], _++_, _∷_, map, map-append}
+use mathlib.Core.List.{List, [], _++_, _∷_}
 use lib.Dec.{eqb, leb, ltb}
-use lib.ListN.{drop, getD, length, length-drop, length-map, length-replicate, replicate, set, take}
+use lib.ListN.{drop, getD, length, length-append, length-drop, length-replicate, replicate, set, take}
 use native.Mathlib.Omega.{arith}
 use native.Mathlib.Nat.{add-zero, zero-add}
 use borrow.Author.Tests.{eq-eqb, eqb-true, leb-true, ltb-true}
@@ -12,19 +12,22 @@ use lib.Seq.{drop-cons, drop-drop, getD-drop, take-at}
 use Rattle.rules.specs.Bytes.{lineAt}
 use Rattle.rules.specs.Image.{Logged, Persistent}
 use Rattle.rules.specs.Lists.{count}
-use Rattle.rules.specs.Reader.{Next, Reads, Refuses, imageBody, isLoggedBy, lastLogged, nothing, recordsRead, turnOf}
+use Rattle.rules.specs.Marks.{markAt, marksOf, noMark, oldsFrom, oldsIn}
+use Rattle.rules.specs.Reader.{Next, Reads, Refuses, imageBody, isLoggedBy, lastLogged, nothing, readBy, recordsRead, turnOf}
 use Rattle.rules.specs.Tables.{threadOf}
 use Rattle.rules.specs.declared.Listed.{Listed}
 use Rattle.rules.specs.declared.Mark.{Mark}
-use Rattle.rules.proofs.Codec.Turns.{afterTurn, turn-next}
+use Rattle.rules.proofs.Codec.Records.{along-read, next-same, turn-last, turn-next, turn-stop}
+use Rattle.rules.proofs.Recover.Entries.{Headed, entriesAt, log-adds, log-ends}
 use Rattle.lines.proofs.Paste.{sets-join, sets-paste}
-use Rattle.undo.proofs.Laws.{and-true}
+use Rattle.undo.proofs.Laws.{and-true, test}
 use Rattle.reading.specs.Item.{afterEntry, afterHead, afterLine, afterRegion, countFor, itemOf, tabled, tallyOf}
-use Rattle.reading.specs.Scan.{filled, markOf, noListed, noMark, readOf, scanOf}
+use Rattle.reading.specs.Scan.{filled, noListed, readOf, scanOf}
 use Rattle.reading.specs.declared.Item.{Item}
 use Rattle.reading.specs.declared.Item.the-variants.{End, Entry, Head, Line, Refused, Region}
 use Rattle.reading.specs.declared.Tally.{Tally}
 use Rattle.reading.proofs.Counts.{Few, count-of, few-more, few-none, last-listed, last-logged, length-more, log-room, logged-more}
+use Rattle.reading.proofs.Olds.{Ahead, ahead-next, length-marks, marks-more, place-here}
 use Rattle.reading.proofs.Turns.{added, isOn, isSound, item-fits, item-sound, turn-item, turnFrom}
 
 -- ---- tables
@@ -42,6 +45,9 @@ pub record Kept (p : Persistent) : Type 0 where
 
 pub kept-none : Kept nothing
 kept-none = record { threads = omega arith; start = λ z. (refl, refl); held = omega arith; few = few-none }
+
+headed : {p : Persistent} → Kept p → Headed p
+headed {p} g z = g .start (eqb-true (p .threads) 0 z) .1
 
 -- a log entry that is let through
 pub record Sound (p : Persistent) (k : ℕ) : Type 0 where
@@ -110,14 +116,14 @@ after-head p bs t l = refl
 
 -- the reading stops at a record that is refused, and at the end
 pub stop-read : (p : Persistent) (bs : List ℕ) (n : ℕ) → Kept p → itemOf (tallyOf p) bs ≡ Refused n → recordsRead p 0 bs ≡ Refuses n
-unfolding itemOf recordsRead
+unfolding itemOf readBy
 stop-read p [] n g e = cc
-stop-read p (k ∷ bs) n g e = ap (afterTurn k bs) (turn-item p bs k (g .few) ∙ ap (turnFrom p bs) e)
+stop-read p (k ∷ bs) n g e = turn-stop turnOf imageBody p n k bs (turn-item p bs k (g .few) ∙ ap (turnFrom p bs) e)
 
 pub end-read : (p : Persistent) (bs : List ℕ) → Kept p → itemOf (tallyOf p) bs ≡ End → recordsRead p 0 bs ≡ Reads p
-unfolding itemOf recordsRead
+unfolding itemOf
 end-read p [] g e = let z : _≡_ {A = ℕ} 0 1 = cc in absurd (omega arith)
-end-read p (k ∷ bs) g e = ap (afterTurn k bs) (turn-item p bs k (g .few) ∙ ap (turnFrom p bs) e)
+end-read p (k ∷ bs) g e = turn-last turnOf imageBody p p k bs (turn-item p bs k (g .few) ∙ ap (turnFrom p bs) e)
 
 next-turn : (p : Persistent) (bs : List ℕ) (i : Item) → isOn i ≡ true → turnFrom p bs i ≡ Next (added p bs i)
 next-turn p bs (Refused n) on = absurd (false≢true on)
@@ -128,39 +134,47 @@ next-turn p bs (Entry k l) on = refl
 next-turn p bs End on = absurd (false≢true on)
 
 -- a record that goes on, at a place of the whole slice
-pub next-read : (p : Persistent) (src : List ℕ) (at : ℕ) (i : Item) → Kept p → at < length src → itemOf (tallyOf p) (drop at src) ≡ i → isOn i ≡ true
-    → recordsRead p 0 (drop at src) ≡ recordsRead (added p (drop (suc at) src) i) 0 (drop (at + 1 + imageBody (getD src at 0)) src)
-next-read p src at i g h e on =
-    let k = getD src at 0 in
-    let bs = drop (suc at) src in
-    let c : drop at src ≡ k ∷ bs = drop-cons src at 0 h in
-    let f : itemOf (tallyOf p) (k ∷ bs) ≡ i = ap (itemOf (tallyOf p)) (sym c) ∙ e in
-    let t : turnOf p (k ∷ bs) ≡ Next (added p bs i) = turn-item p bs k (g .few) ∙ (ap (turnFrom p bs) f ∙ next-turn p bs i on) in
-    let n : suc at + imageBody k ≡ at + 1 + imageBody k = omega arith in
-    ap (recordsRead p 0) c ∙ (turn-next p (added p bs i) k bs t ∙ ap (recordsRead (added p bs i) 0) (drop-drop (imageBody k) (suc at) src ∙ ap (λ m. drop m src) n))
+module _ (p : Persistent) (src : List ℕ) (at : ℕ) (i : Item) (g : Kept p) (h : at < length src) (e : itemOf (tallyOf p) (drop at src) ≡ i) (on : isOn i ≡ true) where
+  pub next-here : turnOf p (getD src at 0 ∷ drop (suc at) src) ≡ Next (added p (drop (suc at) src) i)
+  next-here =
+      let k = getD src at 0 in
+      let bs = drop (suc at) src in
+      let f : itemOf (tallyOf p) (k ∷ bs) ≡ i = ap (itemOf (tallyOf p)) (sym (drop-cons src at 0 h)) ∙ e in
+      turn-item p bs k (g .few) ∙ (ap (turnFrom p bs) f ∙ next-turn p bs i on)
+
+  -- what is behind its body
+  pub next-behind : drop (imageBody (getD src at 0)) (drop (suc at) src) ≡ drop (at + 1 + imageBody (getD src at 0)) src
+  next-behind =
+      let k = getD src at 0 in
+      let n : suc at + imageBody k ≡ at + 1 + imageBody k = omega arith in
+      drop-drop (imageBody k) (suc at) src ∙ ap (λ m. drop m src) n
+
+  pub next-read : recordsRead p 0 (drop at src) ≡ recordsRead (added p (drop (suc at) src) i) 0 (drop (at + 1 + imageBody (getD src at 0)) src)
+  next-read =
+      let k = getD src at 0 in
+      let bs = drop (suc at) src in
+      ap (recordsRead p 0) (drop-cons src at 0 h)
+      ∙ (turn-next turnOf imageBody p (added p bs i) k bs next-here ∙ ap (recordsRead (added p bs i) 0) next-behind)
 
 -- ---- what was read finds its place in the tables
 
-kept-turn : (p q : Persistent) (k : ℕ) (bs : List ℕ) (i : Item) → Kept p → isSound (tallyOf p) i ≡ true
-    → ((r : Persistent) → Kept r → recordsRead r (imageBody k) bs ≡ Reads q → Kept q) → afterTurn k bs (turnFrom p bs i) ≡ Reads q → Kept q
-kept-turn p q k bs (Refused n) g s on e = let z : _≡_ {A = ℕ} 0 1 = cc in absurd (omega arith)
-kept-turn p q k bs (Head t l) g s on e = on (added p bs (Head t l)) (kept-more p bs (Head t l) g s) e
-kept-turn p q k bs Line g s on e = on (added p bs Line) (kept-more p bs Line g s) e
-kept-turn p q k bs (Region n m a b c d) g s on e = on (added p bs (Region n m a b c d)) (kept-more p bs (Region n m a b c d) g s) e
-kept-turn p q k bs (Entry n l) g s on e = on (added p bs (Entry n l)) (kept-more p bs (Entry n l) g s) e
-kept-turn p q k bs End g s on e = let z : p ≡ q = cc in subst (λ x. Kept x) z g
+kept-next : (p q : Persistent) (bs : List ℕ) (i : Item) → Kept p → isSound (tallyOf p) i ≡ true → turnFrom p bs i ≡ Next q → Kept q
+kept-next p q bs (Refused n) g s e = let z : _≡_ {A = ℕ} 0 1 = cc in absurd (omega arith)
+kept-next p q bs (Head t l) g s e = rw (← next-same e) (kept-more p bs (Head t l) g s)
+kept-next p q bs Line g s e = rw (← next-same e) (kept-more p bs Line g s)
+kept-next p q bs (Region n m a b c d) g s e = rw (← next-same e) (kept-more p bs (Region n m a b c d) g s)
+kept-next p q bs (Entry n l) g s e = rw (← next-same e) (kept-more p bs (Entry n l) g s)
+kept-next p q bs End g s e = let z : _≡_ {A = ℕ} 0 1 = cc in absurd (omega arith)
 
-pub kept-read : (bs : List ℕ) (k : ℕ) (p q : Persistent) → Kept p → recordsRead p k bs ≡ Reads q → Kept q
-unfolding recordsRead
-kept-read [] k p q g e = let z : _≡_ {A = ℕ} 0 1 = cc in absurd (omega arith)
-kept-read (b ∷ bs) (suc k) p q g e = kept-read bs k p q g e
-kept-read (b ∷ bs) zero p q g e =
-    kept-turn p q b bs (itemOf (tallyOf p) (b ∷ bs)) g (item-sound (tallyOf p) (b ∷ bs)) (λ r h d. kept-read bs (imageBody b) r q h d)
-    (ap (afterTurn b bs) (sym (turn-item p bs b (g .few))) ∙ e)
+kept-read : (bs : List ℕ) (q : Persistent) → recordsRead nothing 0 bs ≡ Reads q → Kept q
+kept-read bs q e =
+    along-read turnOf imageBody (λ p bs. Kept p) Kept
+    (λ p q b bs g t. kept-next p q bs (itemOf (tallyOf p) (b ∷ bs)) g (item-sound (tallyOf p) (b ∷ bs)) (sym (turn-item p bs b (g .few)) ∙ t))
+    (λ p q b bs g t. rw (← log-ends p q b bs t .1 .1) g) bs 0 nothing q kept-none e
 
 -- at most 32 regions and 256 log entries
 pub read-few : (bs : List ℕ) (p : Persistent) → recordsRead nothing 0 bs ≡ Reads p → (length (p .regions) ≤ 32) × (length (p .log) ≤ 256)
-read-few bs p e = let g = kept-read bs 0 nothing p kept-none e in (g .held, omega (arith, g .few .last, g .few .full, g .few .sum))
+read-few bs p e = let g = kept-read bs p e in (g .held, omega (arith, g .few .last, g .few .full, g .few .sum))
 
 -- and they stand at the front of their tables
 pub take-filled : {A : Type 0} (n : ℕ) (z : A) (xs : List A) → length xs ≤ n → take (length xs) (filled n z xs) ≡ xs
@@ -175,7 +189,8 @@ pub record Reached (src : List ℕ) (s : Tally) (rs : List Listed) (es : List Ma
   pub kept : Kept state
   pub tally : s ≡ tallyOf state
   pub regions : rs ≡ filled 32 noListed (state .regions)
-  pub log : es ≡ filled 256 noMark (map markOf (state .log))
+  pub log : es ≡ filled 256 noMark (marksOf (oldsIn src) (state .log))
+  pub ahead : Ahead src state at (drop at src)
   pub inside : at ≤ length src
   pub reads : recordsRead state 0 (drop at src) ≡ recordsRead nothing 0 src
 
@@ -188,13 +203,18 @@ pub record Went (src : List ℕ) (s : Tally) (rs : List Listed) (es : List Mark)
 
 pub reached-none : (src : List ℕ) → Reached src (afterHead 0 0) (replicate 32 noListed) (replicate 256 noMark) 0
 unfolding tallyOf count
-reached-none src = record { state = nothing; kept = kept-none; tally = refl; regions = refl; log = refl; inside = omega arith; reads = refl }
+reached-none src = record { state = nothing; kept = kept-none; tally = refl; regions = refl; log = refl; ahead = refl; inside = omega arith; reads = refl }
+
+-- the places ahead, from the record at the loop's place on
+here-ahead : {src : List ℕ} {s : Tally} {rs : List Listed} {es : List Mark} {at : ℕ} (r : Reached src s rs es at) → at < length src
+    → Ahead src (r .state) at (getD src at 0 ∷ drop (suc at) src)
+here-ahead {src} {at = at} r h = r .ahead ∙ ap (oldsFrom 0 at) (drop-cons src at 0 h)
 
 pub went : {src : List ℕ} {s t : Tally} {rs qs : List Listed} {es fs : List Mark} {at : ℕ} (r : Reached src s rs es at) (i : Item)
     → itemOf s (drop at src) ≡ i → isOn i ≡ true
     → t ≡ tallyOf (added (r .state) (drop (suc at) src) i)
     → qs ≡ filled 32 noListed (added (r .state) (drop (suc at) src) i .regions)
-    → fs ≡ filled 256 noMark (map markOf (added (r .state) (drop (suc at) src) i .log))
+    → fs ≡ filled 256 noMark (marksOf (oldsIn src) (added (r .state) (drop (suc at) src) i .log))
     → Went src t qs fs at
 went {src} {s} {t} {rs} {qs} {es} {fs} {at} r i e on a b c =
     let p = r .state in
@@ -217,6 +237,8 @@ went {src} {s} {t} {rs} {qs} {es} {fs} {at} r i e on a b c =
             tally = a;
             regions = b;
             log = c;
+            ahead = rw (next-behind p src at i (r .kept) h q on)
+                at (ahead-next src p at (getD src at 0) (drop (suc at) src) (here-ahead r h) (added p (drop (suc at) src) i) (headed (r .kept)) (next-here p src at i (r .kept) h q on));
             inside = m;
             reads = sym (next-read p src at i (r .kept) h q on) ∙ r .reads;
           };
@@ -235,7 +257,7 @@ module _ {src : List ℕ} {s : Tally} {rs : List Listed} {es : List Mark} {at : 
   pub stopped : (n : ℕ) → itemOf s (drop at src) ≡ Refused n → recordsRead nothing 0 src ≡ Refuses n
   stopped n e = sym (r .reads) ∙ stop-read (r .state) (drop at src) n (r .kept) (same-item e)
 
-  pub ended : itemOf s (drop at src) ≡ End → record { refusal = 0; scan = tabled s rs es } ≡ readOf (recordsRead nothing 0 src)
+  pub ended : itemOf s (drop at src) ≡ End → record { refusal = 0; scan = tabled s rs es } ≡ readOf src (recordsRead nothing 0 src)
   unfolding scanOf tallyOf
   ended e = rw (sym (r .reads) ∙ end-read (r .state) (drop at src) (r .kept) (same-item e), r .tally, r .regions, r .log)
 
@@ -245,7 +267,7 @@ module _ {src : List ℕ} {s : Tally} {rs : List Listed} {es : List Mark} {at : 
       let p = r .state in
       let z = and-true (eqb (p .threads) 0) (leb 1 t && leb t 8) (sound-item (Head t l) e) .0 in
       let n = r .kept .start (eqb-true (p .threads) 0 z) in
-      went r (Head t l) e refl (after-head p (drop (suc at) src) t l) (r .regions ∙ ap (filled 32 noListed) (n .0)) (r .log ∙ ap (λ x. filled 256 noMark (map markOf x)) (n .1))
+      went r (Head t l) e refl (after-head p (drop (suc at) src) t l) (r .regions ∙ ap (filled 32 noListed) (n .0)) (r .log ∙ ap (λ x. filled 256 noMark (marksOf (oldsIn src) x)) (n .1))
 
   pub went-line : itemOf s (drop at src) ≡ Line → Went src (afterLine s) rs es at
   went-line e = went r Line e refl (ap afterLine (r .tally) ∙ after-line (r .state) (drop (suc at) src)) (r .regions) (r .log)
@@ -259,15 +281,39 @@ module _ {src : List ℕ} {s : Tally} {rs : List Listed} {es : List Mark} {at : 
       went r (Region k q a b c d) e refl (ap (λ t. afterRegion t k) (r .tally) ∙ after-region p (drop (suc at) src) k q a b c d)
       (rw (r .regions, r .tally) (filled-more 32 noListed (p .regions) x)) (r .log)
 
-  pub went-entry : (k l : ℕ) → itemOf s (drop at src) ≡ Entry k l → Went src (afterEntry s k) rs (set es (s .logged) (record { key = k; line = l })) at
+  -- the kind of a log entry's record, and the place of its old line
+  entry-kind : (k l : ℕ) → itemOf s (drop at src) ≡ Entry k l → eqb (getD src at 0) 35 ≡ true
+  entry-kind k l e =
+      let p = r .state in
+      let b = getD src at 0 in
+      let bs = drop (suc at) src in
+      let h : at < length src = omega (arith, length-drop at src, item-fits s (drop at src) (ap isOn e) .some) in
+      let t = log-adds p (added p bs (Entry k l)) b bs (headed (r .kept)) (next-here p src at (Entry k l) (r .kept) h (same-item e) refl) .0 in
+      let n : length (p .log) + 1 ≡ length (p .log ++ entriesAt b bs) = sym (length-more (p .log) _) ∙ ap length t in
+      test (eqb b 35) (λ d. d) (λ d. let z : length (p .log ++ []) ≡ length (p .log) + 0 = length-append (p .log) [] in absurd (omega (arith, rw d at n)))
+
+  old-place : (k l : ℕ) → itemOf s (drop at src) ≡ Entry k l → getD (oldsIn src) (length (r .state .log)) 0 ≡ at + 5
+  old-place k l e =
+      let h : at < length src = omega (arith, length-drop at src, item-fits s (drop at src) (ap isOn e) .some) in
+      place-here src (r .state) at (getD src at 0) (drop (suc at) src) (here-ahead r h) (entry-kind k l e)
+
+  pub entry-inside : (k l : ℕ) → itemOf s (drop at src) ≡ Entry k l → at + 69 ≤ length src
+  entry-inside k l e =
+      let f = item-fits s (drop at src) (ap isOn e) in
+      let n : getD (drop at src) 0 0 ≡ 35 = getD-drop at src 0 0 ∙ (rw (add-zero at) (eqb-true (getD src at 0) 35 (entry-kind k l e))) in
+      let w : 1 + imageBody 35 ≤ length (drop at src) = rw n at (f .within) in
+      omega (arith, length-drop at src)
+
+  pub went-entry : (k l : ℕ) → itemOf s (drop at src) ≡ Entry k l
+      → Went src (afterEntry s k) rs (set es (s .logged) (record { key = k; line = l; at = at + 5 })) at
   unfolding tallyOf
   went-entry k l e =
       let p = r .state in
       let y : Logged = record { key = k; line = l; old = lineAt (drop (suc at) src) 4 } in
       let g = entry-sound p k l (r .kept) (sound-item (Entry k l) e) in
-      let m : length (map markOf (p .log)) ≡ length (p .log) = length-map (p .log) markOf in
+      let m = length-marks (oldsIn src) (p .log) in
       went r (Entry k l) e refl (ap (λ t. afterEntry t k) (r .tally) ∙ after-entry p (drop (suc at) src) k l g) (r .regions)
-      (rw (r .log, r .tally, map-append markOf (p .log) (y ∷ []), ← m) (filled-more 256 noMark (map markOf (p .log)) (markOf y)))
+      (rw (r .log, r .tally, ← old-place k l e, marks-more (oldsIn src) (p .log) y, ← m) (filled-more 256 noMark (marksOf (oldsIn src) (p .log)) (markAt _ y)))
 
   pub entry-room : (k l : ℕ) → itemOf s (drop at src) ≡ Entry k l → (s .logged < 256) × (countFor s k < 32)
   unfolding tallyOf

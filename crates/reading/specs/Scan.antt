@@ -1,33 +1,26 @@
 -- What was read of an image, held in tables of fixed length.
 use Prim.Native.Nat.{ℕ}
-use mathlib.Core.List.{List, map}
+use mathlib.Core.List.{List, []}
 use lib.ListN.{length, replicate}
 use lib.Seq.{sets}
-use Rattle.rules.specs.Image.{Logged, Persistent}
+use Rattle.rules.specs.Image.{Persistent}
+use Rattle.rules.specs.Marks.{marksOf, noMark, oldsIn}
 use Rattle.rules.specs.Reader.{Reads, Refuses, Verdict, nothing}
 use Rattle.rules.specs.declared.Listed.{Listed}
-use Rattle.rules.specs.declared.Mark.{Mark}
 use Rattle.reading.specs.declared.Read.{Read}
 use Rattle.reading.specs.declared.Scan.{Scan}
 
--- ---- what a free place holds
-
+-- what a free place of the regions holds
 abbrev pub noListed : Listed
 noListed = record { key = 0; state = 0; deps = replicate 4 0 }
-
-abbrev pub noMark : Mark
-noMark = record { key = 0; line = 0 }
 
 -- a table of n places with the elements of a list from its front on
 abbrev pub filled : {A : Type 0} → ℕ → A → List A → List A
 filled n x xs = sets (replicate n x) 0 xs
 
--- a log entry by its region and line
-abbrev pub markOf : Logged → Mark
-markOf e = record { key = e .key; line = e .line }
-
-unfoldable pub scanOf : Persistent → Scan
-scanOf p =
+-- the tables of a state, where the old lines of its log stand at places ps
+unfoldable pub scanOf : List ℕ → Persistent → Scan
+scanOf ps p =
     record {
       threads = p .threads;
       lines = p .lines;
@@ -35,10 +28,13 @@ scanOf p =
       held = length (p .regions);
       regions = filled 32 noListed (p .regions);
       logged = length (p .log);
-      log = filled 256 noMark (map markOf (p .log));
+      log = filled 256 noMark (marksOf ps (p .log));
     }
 
--- the answer of the reader: a refusal with empty tables, or 0 with what was read
-abbrev pub readOf : Verdict → Read
-readOf (Refuses n) = record { refusal = n; scan = scanOf nothing }
-readOf (Reads p) = record { refusal = 0; scan = scanOf p }
+-- the answer of the reader: a refusal with empty tables, or 0 with what was read of the bytes
+abbrev pub refusedWith : ℕ → Read
+refusedWith n = record { refusal = n; scan = scanOf [] nothing }
+
+abbrev pub readOf : List ℕ → Verdict Persistent → Read
+readOf bs (Refuses n) = refusedWith n
+readOf bs (Reads p) = record { refusal = 0; scan = scanOf (oldsIn bs) p }

@@ -3,12 +3,12 @@ ghost use Prim.Native.Nat.{_+_, _<_, _≤_};
 ghost use mathlib.Core.Bool.{_||_};
 ghost use lib.Dec.{eqb, ltb};
 ghost use mathlib.Core.Path.{_≡_};
-ghost use mathlib.Core.List.{_∷_};
+ghost use mathlib.Core.List.{[], _∷_};
 ghost use lib.ListN.{length};
-ghost use Rattle.rules.specs.Reader.{nothing, imageBody, isKnownThread, keyAt, listedAt, recordsRead, Refuses};
+ghost use Rattle.rules.specs.Reader.{nothing, imageBody, isKnownThread, keyAt, listedAt, recordsRead};
 ghost use Rattle.rules.specs.Lists.{all};
 ghost use Rattle.rules.specs.Refusal.{inRange};
-ghost use Rattle.reading.specs.Scan.{noListed, readOf};
+ghost use Rattle.reading.specs.Scan.{noListed, readOf, refusedWith};
 ghost use Rattle.reading.specs.Item.{placed, headItem, regionItem, countFor, entryItem, endItem, fieldsItem, itemOf, afterHead, afterLine, afterRegion, afterEntry, tabled};
 use rules::Listed;
 use rules::Mark;
@@ -345,40 +345,62 @@ fn no_listed() -> Listed
     }
 }
 
-fn scan_of(s: Tally, regions: [Listed; 32], log: [Mark; 256]) -> Scan
-    ensures { λ r. ⌜ r ≡ tabled s regions log ⌝ }
+// A region out of the numbers of its record.
+fn listed_of(key: u32, state: u8, a: u32, b: u32, c: u32, d: u32) -> Listed
+    ensures { λ r. ⌜ r ≡ record { key = key; state = state; deps = a ∷ b ∷ c ∷ d ∷ [] } ⌝ }
 {
-    Scan {
-        threads: s.threads,
-        lines: s.lines,
-        seen: s.seen,
-        held: s.held,
-        regions: regions,
-        logged: s.logged,
-        log: log,
+    Listed {
+        key: key,
+        state: state,
+        deps: [a, b, c, d],
+    }
+}
+
+// A log entry out of the numbers of its record and the place of its old line.
+fn mark_of(key: u32, line: u8, at: usize) -> Mark
+    ensures { λ r. ⌜ r ≡ record { key = key; line = line; at = at } ⌝ }
+{
+    Mark {
+        key: key,
+        line: line,
+        at: at,
+    }
+}
+
+// The answer with the tables as they are filled.
+fn read_of(refusal: u8, s: Tally, regions: [Listed; 32], log: [Mark; 256]) -> Read
+    ensures { λ r. ⌜ r ≡ record { refusal = refusal; scan = tabled s regions log } ⌝ }
+{
+    Read {
+        refusal: refusal,
+        scan: Scan {
+            threads: s.threads,
+            lines: s.lines,
+            seen: s.seen,
+            held: s.held,
+            regions: regions,
+            logged: s.logged,
+            log: log,
+        },
     }
 }
 
 // A refusal with empty tables.
 pub fn refused(n: u8) -> Read
-    ensures { λ r. ⌜ r ≡ readOf (Refuses n) ⌝ }
+    ensures { λ r. ⌜ r ≡ refusedWith n ⌝ }
 {
     let regions = [no_listed(); 32];
-    let log = [Mark { key: 0, line: 0 }; 256];
-    let scan = scan_of(after_head(0, 0), regions, log);
-    Read {
-        refusal: n,
-        scan: scan,
-    }
+    let log = [mark_of(0, 0, 0); 256];
+    read_of(n, after_head(0, 0), regions, log)
 }
 
 // Record for record, until one is refused or the image is whole.
 pub fn read_records(src: &[u8]) -> Read
-    ensures { λ r. ⌜ r ≡ readOf (recordsRead nothing 0 (now (src .entry))) ⌝ }
+    ensures { λ r. ⌜ r ≡ readOf (now (src .entry)) (recordsRead nothing 0 (now (src .entry))) ⌝ }
 {
     let mut s = after_head(0, 0);
     let mut regions = [no_listed(); 32];
-    let mut log = [Mark { key: 0, line: 0 }; 256];
+    let mut log = [mark_of(0, 0, 0); 256];
     let mut at: usize = 0;
     loop {
         let item = one_record(&src[at..], s);
@@ -394,27 +416,16 @@ pub fn read_records(src: &[u8]) -> Read
             }
             Item::Region(key, state, a, b, c, d) => {
                 let i = s.held;
-                regions[i] = Listed {
-                    key: key,
-                    state: state,
-                    deps: [a, b, c, d],
-                };
+                regions[i] = listed_of(key, state, a, b, c, d);
                 s = after_region(s, key);
             }
             Item::Entry(key, line) => {
                 let i = s.logged;
-                log[i] = Mark {
-                    key: key,
-                    line: line,
-                };
+                log[i] = mark_of(key, line, at + 5);
                 s = after_entry(s, key);
             }
             Item::End => {
-                let scan = scan_of(s, regions, log);
-                return Read {
-                    refusal: 0,
-                    scan: scan,
-                };
+                return read_of(0, s, regions, log);
             }
         }
         let kind = src[at];

@@ -2,30 +2,29 @@
 use Prim.Native.Nat.{_*_, _+_, _<_, _≤_, suc, zero, ℕ}
 use mathlib.Core.Path.{_∙_, _≡_, ap, refl, sym}
 use mathlib.Core.Bool.{Bool, cond, false, true}
-use mathlib.Core.List.{List, [], _∷_, map, map-map}
+use mathlib.Core.List.{List, [], _∷_, map}
 use lib.Dec.{eqb, ltb}
 use lib.ListN.{drop, getD, length, length-append, length-drop, length-map}
 use lib.Seq.{getD-take}
 use native.Mathlib.Numerals.{add-one}
 use native.Mathlib.Omega.{arith}
 use borrow.Author.Tests.{ne-eqb}
+use Rattle.reading.proofs.Olds.{olds-stand, second, stand-at}
 use Rattle.reading.proofs.Walk.{read-few}
-use Rattle.reading.specs.Scan.{markOf, readOf, scanOf}
+use Rattle.reading.specs.Scan.{readOf, scanOf}
 use Rattle.reading.specs.declared.Read.{Read}
 use Rattle.reading.specs.declared.Scan.{Scan}
-use Rattle.recovery.proofs.Accepted.{held-few, log-front, logged-few, reads-plain, refuses-plain, regions-front, scan-read}
-use Rattle.recovery.proofs.Numbers.{image-said}
-use Rattle.recovery.proofs.Places.{line-inside, old-inside, old-read}
+use Rattle.recovery.proofs.Accepted.{image-said, log-front, logged-few, reads-plain, refuses-plain, regions-front, scan-read, stateRead}
+use Rattle.recovery.proofs.Places.{line-inside}
 use Rattle.recovery.proofs.Steps.{step-more, step-past, step-refused}
-use Rattle.recovery.specs.Places.{foundAt, moreOf, oldStart}
+use Rattle.recovery.specs.Places.{foundAt, moreOf}
 use Rattle.rules.proofs.Codec.Image.{only-image, read-records, read-valid}
-use Rattle.rules.proofs.Codec.Only.{stateRead}
-use Rattle.rules.proofs.Codec.Valid.{Valid}
 use Rattle.rules.specs.Bytes.{lineAt, lineBytes, paste}
 use Rattle.rules.specs.Claim.{isByte}
-use Rattle.rules.specs.Image.{Persistent, encode}
+use Rattle.rules.specs.Image.{Logged, Persistent}
 use Rattle.rules.specs.Lists.{all}
-use Rattle.rules.specs.Reader.{Reads, readImage}
+use Rattle.rules.specs.Marks.{markAt, marksOf, oldsIn}
+use Rattle.rules.specs.Reader.{Reads, nothing, readImage, recordsRead}
 use Rattle.rules.specs.Recovery.{answered, lineStart, restore}
 use Rattle.rules.specs.Walk.{nextPlace, walk, walkEntries, walkFrom, without}
 use Rattle.rules.specs.declared.Found.the-variants.{At, Full}
@@ -36,10 +35,16 @@ use Rattle.undo.proofs.Laws.{test}
 use Rattle.walking.proofs.Walked.{entry-found, entry-none, found-below, indicesIn, keysOf, noLogged, walk-entries}
 use Rattle.walking.specs.Indices.{indicesOf, lastFirst, nth, walkIndices}
 
-map-at : {A B : Type 0} (f : A → B) (l : List A) (i : ℕ) (d : B) (z : A) → i < length l → getD (map f l) i d ≡ f (getD l i z)
-map-at f [] i d z h = absurd (omega arith)
-map-at f (x ∷ l) zero d z h = refl
-map-at f (x ∷ l) (suc i) d z h = map-at f l i d z (omega arith)
+-- ---- marks
+
+keys-marks : (ps : List ℕ) (es : List Logged) → map (λ m. m .key) (marksOf ps es) ≡ map (λ e. e .key) es
+keys-marks ps [] = refl
+keys-marks ps (e ∷ es) = ap (_∷_ (e .key)) (keys-marks (drop 1 ps) es)
+
+mark-at : (ps : List ℕ) (es : List Logged) (i : ℕ) (d : Mark) (z : Logged) → i < length es → getD (marksOf ps es) i d ≡ markAt (getD ps i 0) (getD es i z)
+mark-at ps [] i d z h = absurd (omega arith)
+mark-at ps (e ∷ es) zero d z h = refl
+mark-at ps (e ∷ es) (suc i) d z h = mark-at (drop 1 ps) es i d z (omega arith) ∙ rw (second ps i)
 
 -- ---- the walk has at most 8192 entries
 
@@ -76,14 +81,14 @@ walk-few p few =
 
 -- ---- the entry at a place of the walk
 
-module _ (s : Scan) (p : Persistent) (e : s ≡ scanOf p) (few : (length (p .regions) ≤ 32) × (length (p .log) ≤ 256)) where
+module _ (ps : List ℕ) (s : Scan) (p : Persistent) (e : s ≡ scanOf ps p) (few : (length (p .regions) ≤ 32) × (length (p .log) ≤ 256)) where
   logged-is : s .logged ≡ length (p .log)
   unfolding scanOf
   logged-is = ap (λ x. x .logged) e
 
   found-is : (at : ℕ) → foundAt s at ≡ nth (indicesIn p) at
   unfolding walk
-  found-is at = rw (regions-front s p e few, log-front s p e few, map-map (λ m. m .key) markOf (p .log))
+  found-is at = rw (regions-front ps s p e few, log-front ps s p e few, keys-marks ps (p .log))
 
   pub none-found : (at : ℕ) → foundAt s at ≡ Full → drop at (walkEntries p) ≡ []
   none-found at f = entry-none p at (sym (found-is at) ∙ f)
@@ -107,80 +112,72 @@ module _ (s : Scan) (p : Persistent) (e : s ≡ scanOf p) (few : (length (p .reg
       go (At i) f = rw (one-found at i f, ne-eqb (suc (length (drop (suc at) (walkEntries p)))) 0 (λ z. omega arith))
       go Full f = rw (none-found at f)
 
-  pub mark-line : (i : ℕ) (d : Mark) → i < s .logged → getD (s .log) i d .line ≡ getD (p .log) i noLogged .line
-  mark-line i d h =
-      let l : i < length (p .log) = rw logged-is at h in
-      let a : getD (s .log) i d ≡ getD (map markOf (p .log)) i d = sym (getD-take (s .logged) (s .log) i d h) ∙ ap (λ x. getD x i d) (log-front s p e few) in
-      ap (λ x. x .line) (a ∙ map-at markOf (p .log) i d noLogged l)
+  -- the entry that is put back
+  pub mark-is : (i : ℕ) (d : Mark) → i < s .logged → getD (s .log) i d ≡ markAt (getD ps i 0) (getD (p .log) i noLogged)
+  mark-is i d h =
+      sym (getD-take (s .logged) (s .log) i d h) ∙ ap (λ x. getD x i d) (log-front ps s p e few) ∙ mark-at ps (p .log) i d noLogged (rw logged-is at h)
 
 -- ---- a step
 
-module _ (bs : List ℕ) (bytes : all isByte bs ≡ true) (r : Read) (e : r ≡ readOf (readImage bs)) (at : ℕ) where
+module _ (bs : List ℕ) (bytes : all isByte bs ≡ true) (r : Read) (e : r ≡ readOf bs (readImage bs)) (at : ℕ) where
   pub leaves-refused : (r .refusal ≡ 0 → ⊥) → record { after = record { bytes = bs; at = at }; answer = answered (r .refusal) 0 } ≡ restore (record { bytes = bs; at = at })
-  leaves-refused z = sym (step-refused bs at (r .refusal) (rw (← e) at (refuses-plain (readImage bs) (rw e at z))))
+  leaves-refused z = sym (step-refused bs at (r .refusal) (rw (← e) at (refuses-plain bs (readImage bs) (rw e at z))))
 
   module _ (z : r .refusal ≡ 0) where
     abbrev state : Persistent
     state = stateRead (readImage bs)
 
     state-reads : readImage bs ≡ Reads state
-    state-reads = reads-plain (readImage bs) (image-said bs) (rw e at z)
+    state-reads = reads-plain bs (readImage bs) (image-said bs) (rw e at z)
 
-    state-fits : Valid state
-    state-fits = read-valid bs state bytes state-reads
+    records-read : recordsRead nothing 0 bs ≡ Reads state
+    records-read = read-records bs state state-reads .0
 
     state-few : (length (state .regions) ≤ 32) × (length (state .log) ≤ 256)
-    state-few = read-few bs state (read-records bs state state-reads .0)
+    state-few = read-few bs state records-read
 
-    scan-is : r .scan ≡ scanOf state
-    scan-is = ap (λ x. x .scan) e ∙ scan-read (readImage bs)
+    scan-is : r .scan ≡ scanOf (oldsIn bs) state
+    scan-is = ap (λ x. x .scan) e ∙ scan-read bs (readImage bs) state state-reads
 
-    pub few-read : (r .scan .held ≤ 32) × (r .scan .logged ≤ 256)
-    few-read = (held-few (r .scan) state scan-is state-few, logged-few (r .scan) state scan-is state-few)
+    pub logged-small : r .scan .logged ≤ 256
+    logged-small = logged-few (oldsIn bs) (r .scan) state scan-is state-few
 
     pub leaves-past : foundAt (r .scan) at ≡ Full → record { after = record { bytes = bs; at = at }; answer = answered 0 0 } ≡ restore (record { bytes = bs; at = at })
-    leaves-past f = sym (step-past bs at state state-reads (none-found (r .scan) state scan-is state-few at f))
+    leaves-past f = sym (step-past bs at state state-reads (none-found (oldsIn bs) (r .scan) state scan-is state-few at f))
 
     module _ (i : ℕ) (f : foundAt (r .scan) at ≡ At i) where
       pub at-small : at < 8192
-      at-small = soon-found (r .scan) state scan-is state-few at i f
+      at-small = soon-found (oldsIn bs) (r .scan) state scan-is state-few at i f
 
       pub index-small : i < r .scan .logged
-      index-small = inside-found (r .scan) state scan-is state-few at i f
+      index-small = inside-found (oldsIn bs) (r .scan) state scan-is state-few at i f
 
       in-log : i < length (state .log)
-      in-log = rw (logged-is (r .scan) state scan-is state-few) at index-small
+      in-log = rw (logged-is (oldsIn bs) (r .scan) state scan-is state-few) at index-small
 
-      lines-is : r .scan .lines ≡ state .lines
-      unfolding scanOf
-      lines-is = ap (λ x. x .lines) scan-is
+      found-mark : (d : Mark) → getD (r .scan .log) i d ≡ markAt (getD (oldsIn bs) i 0) (getD (state .log) i noLogged)
+      found-mark d = mark-is (oldsIn bs) (r .scan) state scan-is state-few i d index-small
 
-      held-is : r .scan .held ≡ length (state .regions)
-      unfolding scanOf
-      held-is = ap (λ x. x .held) scan-is
+      -- the old line stands at the mark's place
+      old-is : (lineAt bs (getD (oldsIn bs) i 0) ≡ getD (state .log) i noLogged .old) × (getD (oldsIn bs) i 0 + 64 ≤ length bs)
+      old-is = stand-at (olds-stand bs state records-read) i noLogged in-log
 
-      image-is : encode state ≡ bs
-      image-is = only-image bs state bytes state-reads
-
-      pub old-room : oldStart (r .scan .lines) (r .scan .held) i + 64 ≤ length bs
-      old-room = rw (lines-is, held-is) (rw image-is at (old-inside state state-fits i in-log))
+      pub old-room : (d : Mark) → getD (r .scan .log) i d .at + 64 ≤ length bs
+      old-room d = rw (found-mark d) (old-is .1)
 
       pub line-room : (d : Mark) → lineStart (getD (r .scan .log) i d .line) + 64 ≤ length bs
-      line-room d = rw (mark-line (r .scan) state scan-is state-few i d index-small) (rw image-is at (line-inside state state-fits i in-log))
-
-      old-is : lineAt bs (oldStart (r .scan .lines) (r .scan .held) i) ≡ getD (state .log) i noLogged .old
-      old-is = rw (lines-is, held-is) (rw image-is at (old-read state state-fits i in-log))
+      line-room d = rw (found-mark d) (rw (only-image bs state bytes state-reads) at (line-inside state (read-valid bs state bytes state-reads) i in-log))
 
       pub leaves-more : (d : Mark) (g : Found) (out : List ℕ) → g ≡ foundAt (r .scan) (at + 1)
-          → out ≡ paste bs (lineStart (getD (r .scan .log) i d .line)) (lineBytes (lineAt bs (oldStart (r .scan .lines) (r .scan .held) i)))
+          → out ≡ paste bs (lineStart (getD (r .scan .log) i d .line)) (lineBytes (lineAt bs (getD (r .scan .log) i d .at)))
           → record { after = record { bytes = out; at = at + 1 }; answer = answered 0 (moreOf g) } ≡ restore (record { bytes = bs; at = at })
       leaves-more d g out q o =
           rw (
-            step-more bs at state (getD (state .log) i noLogged) (drop (suc at) (walkEntries state)) state-reads (one-found (r .scan) state scan-is state-few at i f),
+            step-more bs at state (getD (state .log) i noLogged) (drop (suc at) (walkEntries state)) state-reads (one-found (oldsIn bs) (r .scan) state scan-is state-few at i f),
             o,
             q,
             add-one at,
-            more-found (r .scan) state scan-is state-few (suc at),
-            mark-line (r .scan) state scan-is state-few i d index-small,
-            old-is,
+            more-found (oldsIn bs) (r .scan) state scan-is state-few (suc at),
+            found-mark d,
+            old-is .0,
           )

@@ -1,6 +1,6 @@
 -- The parts of a recovery step as the programs have them.
 use Rattle.walking.specs.Indices.{entryAt}
-use Prim.Native.Nat.{_*_, _+_, ℕ}
+use Prim.Native.Nat.{ℕ}
 use mathlib.Core.List.{List}
 use lib.ListN.{length, take}
 use Rattle.reading.specs.declared.Scan.{Scan}
@@ -11,11 +11,6 @@ use Rattle.rules.specs.Walk.{walkFrom}
 use Rattle.rules.specs.declared.Answer.{Answer}
 use Rattle.rules.specs.declared.Found.{Found}
 use Rattle.rules.specs.declared.Found.the-variants.{At, Full}
-
--- where the old line of log entry i stands in an image of l lines and n regions: behind the head, the lines, the regions, the entries before it,
--- and the five bytes of its kind, key and line
-abbrev pub oldStart : ℕ → ℕ → ℕ → ℕ
-oldStart l n i = 4 + 65 * l + 17 * n + 69 * i + 5
 
 -- what a step leaves: the image, and what the step by value gives
 abbrev pub restoredOf : List ℕ → Walked → Restored

@@ -7,7 +7,7 @@ ghost use Rattle.rules.specs.Reader.{readImage};
 ghost use Rattle.rules.specs.Recovery.{lineStart, restore, recoveryCall};
 ghost use Rattle.reading.specs.Scan.{readOf};
 ghost use Rattle.walking.specs.Indices.{entryAt, orderOf};
-ghost use Rattle.recovery.specs.Places.{oldStart, walkedKeys, moreOf, lentAt, leftBy, restoredOf, stayed, calledWith};
+ghost use Rattle.recovery.specs.Places.{walkedKeys, moreOf, lentAt, leftBy, restoredOf, stayed, calledWith};
 use reading::Read;
 use reading::Scan;
 use rules::Answer;
@@ -22,7 +22,7 @@ pub struct Walked {
 
 // The image's reading: 8 after all other refusals.
 fn read_image(src: &[u8]) -> Read
-    ensures { λ r. ⌜ r ≡ readOf (readImage (now (src .entry))) ⌝ }
+    ensures { λ r. ⌜ r ≡ readOf (now (src .entry)) (readImage (now (src .entry))) ⌝ }
 {
     let read = reading::read_records(src);
     if read.refusal != 0 {
@@ -35,14 +35,6 @@ fn read_image(src: &[u8]) -> Read
         return reading::refused(8);
     }
     read
-}
-
-// Where the old line of log entry i stands in an image of `lines` lines and `held` regions.
-fn old_start(lines: u16, held: usize, i: usize) -> usize
-    requires { ⌜ (held ≤ 32) × (i ≤ 256) ⌝ }
-    ensures { λ r. ⌜ r ≡ oldStart lines held i ⌝ }
-{
-    4 + 65 * lines as usize + 17 * held + 69 * i + 5
 }
 
 // The line takes the 64 bytes of the old line that stands at `from`.
@@ -95,7 +87,7 @@ fn stay(refusal: u8, at: u64) -> Walked
 
 // A recovery step over an image that was read: the entry at the place goes back to its line.
 fn restore_read(image: &mut [u8], read: Read, at: u64) -> Walked
-    requires { ⌜ read ≡ readOf (readImage (now image)) ⌝ }
+    requires { ⌜ read ≡ readOf (now image) (readImage (now image)) ⌝ }
     ensures { λ r. ⌜ restoredOf (now (image .exit)) r ≡ restore (record { bytes = now (image .entry); at = at }) ⌝ }
 {
     if read.refusal != 0 {
@@ -109,11 +101,7 @@ fn restore_read(image: &mut [u8], read: Read, at: u64) -> Walked
     };
     let log = scan.log;
     let mark = log[i];
-    put_back(
-        image,
-        mark.line as usize,
-        old_start(scan.lines, scan.held, i),
-    );
+    put_back(image, mark.line as usize, mark.at);
     let next = at + 1;
     let left = more(found_at(order, scan, next));
     Walked {

@@ -1,5 +1,6 @@
 pub mod Bytes
 pub mod Valid
+pub mod Records
 pub mod Turns
 pub mod Back
 pub mod Store
@@ -7,3 +8,4 @@ pub mod Parts
 pub mod Steps
 pub mod Only
 pub mod Image
+pub mod Refusals

@@ -4,25 +4,26 @@ use Rattle.undo.specs.History as v
 use Rattle.undo.specs.Claim.{Reach}
 use Rattle.undo.proofs.Main.{closes}
 use Rattle.rules.proofs.Sim.State.{Kept, Rest, Sim, Simulated, by}
-use Rattle.rules.specs.History.{acceptedIn, committed, drawsOn, expected, expectedBytes, linesIn, memoryFound, usesIn}
+use Rattle.rules.specs.History.{acceptedIn, committed, drawsOn, expected, expectedBytes, usesIn}
 use Prim.Native.Nat.{_-_, ℕ}
 use mathlib.Core.Path.{_∙_, _≡_, sym}
 use mathlib.Core.Logic.{_≢_, ⊎-elim}
 use mathlib.Core.Bool.{true}
 use mathlib.Core.List.{List}
 use lib.Dec.{eqb}
+use lib.ListN.{length}
 use native.Mathlib.Omega.{arith}
 use borrow.Author.Tests.{eqb-true}
-use Rattle.rules.proofs.Codec.Back.{image-read}
+use Rattle.rules.proofs.Codec.Back.{image-read, reads-back}
 use Rattle.rules.proofs.Commits.{CommitsTold, commits-told}
 use Rattle.rules.proofs.Cuts.{cut-is}
-use Rattle.rules.proofs.Recover.Entries.{entries-in}
+use Rattle.rules.proofs.Recover.Entries.{entries-read}
 use Rattle.rules.proofs.Recover.Expected.{committed-done, expected-length, expected-same}
 use Rattle.rules.proofs.Recover.Sound.{sound}
 use Rattle.rules.proofs.Recover.Steps.{acts-stand, cut-stands, memory-found, pass-finishes, start-stands, step-accepted, step-ended, step-stands, walked-length}
 use Rattle.rules.proofs.Recover.Valid.{saved-valid}
 use Rattle.rules.specs.Acknowledge.{kept}
-use Rattle.rules.specs.Claim.{Demand3, Holds, ReadsBack, boardAfter, isByte, isByteMemory, passLength, recovering}
+use Rattle.rules.specs.Claim.{Demand3, Holds, ReadsBack, boardAfter, entriesIn, isByte, isByteMemory, passLength, recovering}
 use Rattle.rules.specs.Image.{image, saved}
 use Rattle.rules.specs.Lists.{all}
 use Rattle.rules.specs.Reader.{Reads, readImage}
@@ -48,6 +49,10 @@ module _ (m : Memory) (rs : List (List ℕ)) (told : CommitsTold m rs) {s : u.St
       (λ p. p)
       (i .told .uses k q e n)
 
+  entries-held : boardAfter m rs .tables .cut ≡ true → length (saved (boardAfter m rs) .log) ≡ entriesIn 0 (image (boardAfter m rs))
+  unfolding image
+  entries-held cut = let b = boardAfter m rs in entries-read (image b) (saved b) (reads-back (saved b) (saved-valid rc i (i .shape .cut-setup cut)))
+
   holds : Rest (boardAfter m rs) → boardAfter m rs .tables .cut ≡ true → (as′ : List Act) → Holds m rs as′
   unfolding expectedBytes
   holds rest cut as′ =
@@ -61,7 +66,7 @@ module _ (m : Memory) (rs : List (List ℕ)) (told : CommitsTold m rs) {s : u.St
             (step-ended rc i up quiet p (eqb-true (restore (recovering m rs as′) .answer .value) 0
             (and-true (eqb (restore (recovering m rs as′) .answer .refusal) 0) (eqb (restore (recovering m rs as′) .answer .value) 0) f .1)))
             ∙ rw (i .told .lines up);
-        finishes = pass-finishes rc i up quiet (passLength m rs - 1) (cut-stands rc i up quiet p) (omega (arith, entries-in (boardAfter m rs)));
+        finishes = pass-finishes rc i up quiet (passLength m rs - 1) (cut-stands rc i up quiet p) (omega (arith, entries-held cut));
         closed = closed-by;
       }
 

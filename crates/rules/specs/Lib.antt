@@ -16,6 +16,7 @@ pub mod Run
 pub mod Image
 pub mod Contradiction
 pub mod Reader
+pub mod Marks
 pub mod Walk
 pub mod Recovery
 pub mod History

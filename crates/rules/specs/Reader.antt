@@ -12,11 +12,33 @@ use Rattle.rules.specs.Refusal.{inRange}
 use Rattle.rules.specs.Tables.{keyOf, threadOf}
 use Rattle.rules.specs.declared.Listed.{Listed}
 
+-- ---- records one behind the other: of any state S, by what each does to it and the length of its body
+
 -- what a record does: it stops the reading with a refusal, it is added to what was read, or it is the end
-pub data Turn : Type 0 where
-  Stop : ℕ → Turn
-  Next : Persistent → Turn
-  Last : Persistent → Turn
+pub data Turn (S : Type 0) : Type 0 where
+  Stop : ℕ → Turn S
+  Next : S → Turn S
+  Last : S → Turn S
+
+pub data Verdict (S : Type 0) : Type 0 where
+  Refuses : ℕ → Verdict S
+  Reads : S → Verdict S
+
+module _ {S : Type 0} where
+  -- a record at the front of the bytes: its kind, its place, its length, then its fields
+  unfoldable pub turnBy : (ℕ → Bool) → (S → ℕ → Bool) → (ℕ → ℕ) → (S → ℕ → List ℕ → Turn S) → S → List ℕ → Turn S
+  turnBy isKind placed body fields s [] = Stop 1
+  turnBy isKind placed body fields s (k ∷ bs) =
+      cond (isKind k) (cond (placed s k) (cond (leb (body k) (length bs)) (fields s k bs) (Stop 1)) (Stop 7)) (Stop 2)
+
+  -- all records, where k bytes are still to pass before the next one
+  unfoldable pub readBy : (S → List ℕ → Turn S) → (ℕ → ℕ) → S → ℕ → List ℕ → Verdict S
+  readBy turn body s k [] = Refuses 1
+  readBy turn body s (suc k) (b ∷ bs) = readBy turn body s k bs
+  readBy turn body s zero (b ∷ bs) =
+      elim (turn s (b ∷ bs)) [ Stop n ↦ Refuses n | Next q ↦ readBy turn body q (body b) bs | Last q ↦ Reads q ]
+
+-- ---- the records of an image
 
 -- nothing read yet; T is 0 until the head is read
 abbrev pub nothing : Persistent
@@ -42,13 +64,13 @@ keyAt bs i = keyOf (getD bs i 0) (numOf (take 2 (drop (i + 1) bs)))
 
 -- ---- the fields of each record, once its place and its length are right
 
-unfoldable pub headTurn : List ℕ → Turn
+unfoldable pub headTurn : List ℕ → Turn Persistent
 headTurn bs =
     cond (inRange (getD bs 0 0) (numOf (take 2 (drop 1 bs))))
     (Next (record { threads = getD bs 0 0; lines = numOf (take 2 (drop 1 bs)); medium = []; regions = []; log = [] }))
     (Stop 6)
 
-unfoldable pub lineTurn : Persistent → List ℕ → Turn
+unfoldable pub lineTurn : Persistent → List ℕ → Turn Persistent
 lineTurn p bs =
     Next (record { threads = p .threads; lines = p .lines; medium = p .medium ++ (lineAt bs 0 ∷ []); regions = p .regions; log = p .log })
 
@@ -64,7 +86,7 @@ abbrev pub lastListed : List Listed → ℕ
 lastListed rs = getD rs (length rs - 1) (record { key = 0; state = 0; deps = [] }) .key
 
 -- 7 "thread and number not rising, over 32 entries of kind 34"
-unfoldable pub listedTurn : Persistent → Listed → Turn
+unfoldable pub listedTurn : Persistent → Listed → Turn Persistent
 listedTurn p r =
     cond (all (isKnownThread (p .threads)) (r .key ∷ r .deps))
     (cond (eqb (length (p .regions)) 0 || ltb (lastListed (p .regions)) (r .key))
@@ -83,7 +105,7 @@ abbrev pub isLoggedBy : ℕ → Logged → Bool
 isLoggedBy t e = eqb (threadOf (e .key)) t
 
 -- 4 "line not below L"; 7 "in kind 35: falling", "over 32 log entries of a thread"
-unfoldable pub loggedTurn : Persistent → Logged → Turn
+unfoldable pub loggedTurn : Persistent → Logged → Turn Persistent
 loggedTurn p e =
     cond (isKnownThread (p .threads) (e .key))
     (cond (ltb (e .line) (p .lines))
@@ -93,41 +115,28 @@ loggedTurn p e =
     (Stop 7)) (Stop 7)) (Stop 4)) (Stop 3)
 
 -- 7 "bytes after the end"
-unfoldable pub endTurn : Persistent → List ℕ → Turn
+unfoldable pub endTurn : Persistent → List ℕ → Turn Persistent
 endTurn p bs = cond (eqb (length bs) 0) (Last p) (Stop 7)
 
-unfoldable pub fieldsTurn : Persistent → ℕ → List ℕ → Turn
+unfoldable pub fieldsTurn : Persistent → ℕ → List ℕ → Turn Persistent
 fieldsTurn p k bs =
     cond (eqb k 32) (headTurn bs)
     (cond (eqb k 33) (lineTurn p bs)
     (cond (eqb k 34) (listedTurn p (listedAt bs))
     (cond (eqb k 35) (loggedTurn p (loggedAt bs)) (endTurn p bs))))
 
--- ---- a record at the front of the bytes
-unfoldable pub turnOf : Persistent → List ℕ → Turn
-turnOf p [] = Stop 1
-turnOf p (k ∷ bs) =
-    cond (isImageKind k)
-    (cond (isPlaced p k) (cond (leb (imageBody k) (length bs)) (fieldsTurn p k bs) (Stop 1)) (Stop 7))
-    (Stop 2)
+abbrev pub turnOf : Persistent → List ℕ → Turn Persistent
+turnOf = turnBy isImageKind isPlaced imageBody fieldsTurn
+
+abbrev pub recordsRead : Persistent → ℕ → List ℕ → Verdict Persistent
+recordsRead = readBy turnOf imageBody
 
 -- ---- the whole image
 
-pub data Verdict : Type 0 where
-  Refuses : ℕ → Verdict
-  Reads : Persistent → Verdict
-
--- the records one behind the other, where k bytes are still to pass before the next one
-unfoldable pub recordsRead : Persistent → ℕ → List ℕ → Verdict
-recordsRead p k [] = Refuses 1
-recordsRead p (suc k) (b ∷ bs) = recordsRead p k bs
-recordsRead p zero (b ∷ bs) =
-    elim (turnOf p (b ∷ bs)) [ Stop n ↦ Refuses n | Next q ↦ recordsRead q (imageBody b) bs | Last q ↦ Reads q ]
-
 -- 8 after all others
-abbrev pub unlessContradicted : Verdict → Verdict
+abbrev pub unlessContradicted : Verdict Persistent → Verdict Persistent
 unlessContradicted (Refuses n) = Refuses n
 unlessContradicted (Reads p) = cond (contradicts p) (Refuses 8) (Reads p)
 
-unfoldable pub readImage : List ℕ → Verdict
+unfoldable pub readImage : List ℕ → Verdict Persistent
 readImage bs = unlessContradicted (recordsRead nothing 0 bs)

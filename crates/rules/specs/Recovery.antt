@@ -5,7 +5,7 @@ use mathlib.Core.List.{List, [], _∷_}
 use lib.Dec.{eqb}
 use lib.ListN.{drop, length}
 use Rattle.rules.specs.Bytes.{bytesOf, lineBytes, numOf, paste}
-use Rattle.rules.specs.Image.{Logged}
+use Rattle.rules.specs.Image.{Logged, Persistent}
 use Rattle.rules.specs.Reader.{Reads, Refuses, Verdict, readImage}
 use Rattle.rules.specs.Walk.{walkEntries}
 use Rattle.rules.specs.declared.Answer.{Answer}
@@ -40,7 +40,7 @@ restoreBy [] r = record { after = r; answer = answered 0 0 }
 restoreBy (e ∷ es) r =
     record { after = record { bytes = putBack e (r .bytes); at = r .at + 1 }; answer = answered 0 (cond (eqb (length es) 0) 0 1) }
 
-abbrev pub restoreRead : Verdict → Recovering → Restored
+abbrev pub restoreRead : Verdict Persistent → Recovering → Restored
 restoreRead (Refuses n) r = record { after = r; answer = answered n 0 }
 restoreRead (Reads p) r = restoreBy (drop (r .at) (walkEntries p)) r
 

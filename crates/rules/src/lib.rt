@@ -125,10 +125,11 @@ pub struct Listed {
     pub deps: [u32; DEPS],
 }
 
-// A log entry of an image by its region and line; the old line stays in the image.
+// A log entry of an image by its region and line; its old line stays in the image, at the place `at`.
 pub struct Mark {
     pub key: u32,
     pub line: u8,
+    pub at: usize,
 }
 
 // Demand 3: after every list of events, an accepted cut, and every list of recovery steps and cuts, recovery leaves the expected memory.

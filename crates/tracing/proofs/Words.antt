@@ -1,7 +1,7 @@
 -- The recovered words behind a cut are those of the expected memory: the recovery that the trace makes ends at 'finished', where demand 3 says what is found.
 use Prim.Native.Nat.{_*_, _-_, _≤_, suc, zero, ℕ}
-use mathlib.Core.Path.{_∙_, _≡_, ap, refl, sym}
-use mathlib.Core.Bool.{Bool, cond, false, true}
+use mathlib.Core.Path.{_≡_, refl}
+use mathlib.Core.Bool.{true}
 use mathlib.Core.List.{List, [], _++_, _∷_, map}
 use lib.Dec.{eqb}
 use lib.ListN.{drop, length, length-append, length-map}
@@ -15,7 +15,7 @@ use Rattle.rules.proofs.Sim.State.{Simulated, by}
 use Rattle.rules.proofs.Sim.All.{every}
 use Rattle.rules.specs.Claim.{boardAfter, isByte, isByteMemory, passLength, recovering, restores}
 use Rattle.rules.specs.History.{acceptedIn, expectedBytes, hasCut, memoryFound}
-use Rattle.rules.specs.Image.{Logged, image, orderOf, saved, savedEntry, savedLog, savedThread}
+use Rattle.rules.specs.Image.{Logged, Persistent, image, orderOf, saved, savedEntry, savedLog, savedThread}
 use Rattle.rules.specs.Lists.{all, rising}
 use Rattle.rules.specs.Reader.{Reads, Refuses, Verdict, readImage}
 use Rattle.rules.specs.Recovery.{Act, PowerCut, Recovering, Restore, act, acts, restore, restoreBy, restoreRead}
@@ -31,7 +31,7 @@ unfolding restoreBy
 by-finished [] r h = refl
 by-finished (e ∷ es) r h = test (eqb (length es) 0) (λ q. rw q) (λ q. absurd (h (rw q)))
 
-read-finished : (v : Verdict) (r : Recovering) → (restoreRead v r .answer .value ≡ 1 → ⊥) → restoreRead v r .answer .value ≡ 0
+read-finished : (v : Verdict Persistent) (r : Recovering) → (restoreRead v r .answer .value ≡ 1 → ⊥) → restoreRead v r .answer .value ≡ 0
 read-finished (Refuses n) r h = refl
 read-finished (Reads p) r h = by-finished (drop (r .at) (walkEntries p)) r h
 

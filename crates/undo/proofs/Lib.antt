@@ -6,6 +6,7 @@ pub mod Values
 pub mod Media
 pub mod Steps
 pub mod Walk
+pub mod Finish
 pub mod Shape
 pub mod Main
 pub mod Pick

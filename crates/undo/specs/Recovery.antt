@@ -56,24 +56,42 @@ pub record Image {Val : Type 0} (s : State Val) (gs : List ℕ) (us : ℕ → Li
   pub order : Walk (s .dep) gs
   pub entries : (r l : ℕ) → aimed l (us r) ≡ olds (eqb r) (persistent s l)
 
--- two memories that agree on all lines without a persistent entry
-abbrev pub Agree : {Val : Type 0} → State Val → (ℕ → Val) → (ℕ → Val) → Type 0
-Agree s a b = (l : ℕ) → persistent s l ≡ [] → a l ≡ b l
+-- ---- a list of entries, put back in passes that may be cut
 
--- the memories that can stand in the medium after a cut and any recovery passes that were cut, over the list w of entries
-pub data Tried {Val : Type 0} (s : State Val) (w : List (Undo Val)) : (ℕ → Val) → Type 0 where
-  -- after the cut: the medium, with anything on lines that have a persistent entry
-  at-cut : {a : ℕ → Val} → Agree s a (s .med) → Tried s w a
+-- two memories that agree on some lines
+abbrev pub AgreeOn : {Val : Type 0} → (ℕ → Type 0) → (ℕ → Val) → (ℕ → Val) → Type 0
+AgreeOn on a b = (l : ℕ) → on l → a l ≡ b l
+
+-- the memories that can stand in the medium m after a cut and any recovery passes that were cut, over the list w of entries
+pub data TriedOn {Val : Type 0} (on : ℕ → Type 0) (m : ℕ → Val) (w : List (Undo Val)) : (ℕ → Val) → Type 0 where
+  -- after the cut: the medium, with anything on the other lines
+  at-cut : {a : ℕ → Val} → AgreeOn on a m → TriedOn on m w a
   -- a pass that was cut between two entries, and one that was cut while an entry was put back
-  partly : {a : ℕ → Val} (us vs : List (Undo Val)) → w ≡ us ++ vs → Tried s w a → Tried s w (undo us a)
-  torn : {a : ℕ → Val} (us : List (Undo Val)) (u : Undo Val) (vs : List (Undo Val)) (x : Val) → w ≡ us ++ (u ∷ vs) → Tried s w a
-      → Tried s w (put (u .line) x (undo us a))
+  partly : {a : ℕ → Val} (us vs : List (Undo Val)) → w ≡ us ++ vs → TriedOn on m w a → TriedOn on m w (undo us a)
+  torn : {a : ℕ → Val} (us : List (Undo Val)) (u : Undo Val) (vs : List (Undo Val)) (x : Val) → w ≡ us ++ (u ∷ vs) → TriedOn on m w a
+      → TriedOn on m w (put (u .line) x (undo us a))
 
 -- the same with the walk's own place: the memories that can stand when a list of recovery steps and cuts has come to place n of the list w
-pub data Placed {Val : Type 0} (s : State Val) (w : List (Undo Val)) : ℕ → (ℕ → Val) → Type 0 where
-  begins : {a : ℕ → Val} → Agree s a (s .med) → Placed s w 0 a
-  restores : {a : ℕ → Val} (n : ℕ) (u : Undo Val) (vs : List (Undo Val)) → drop n w ≡ u ∷ vs → Placed s w n a
-      → Placed s w (suc n) (put (u .line) (u .old) a)
+pub data PlacedOn {Val : Type 0} (on : ℕ → Type 0) (m : ℕ → Val) (w : List (Undo Val)) : ℕ → (ℕ → Val) → Type 0 where
+  begins : {a : ℕ → Val} → AgreeOn on a m → PlacedOn on m w 0 a
+  restores : {a : ℕ → Val} (n : ℕ) (u : Undo Val) (vs : List (Undo Val)) → drop n w ≡ u ∷ vs → PlacedOn on m w n a
+      → PlacedOn on m w (suc n) (put (u .line) (u .old) a)
   -- a cut between two steps, and one inside a step
-  cuts : {a : ℕ → Val} (n : ℕ) → Placed s w n a → Placed s w 0 a
-  tears : {a : ℕ → Val} (n : ℕ) (u : Undo Val) (vs : List (Undo Val)) (x : Val) → drop n w ≡ u ∷ vs → Placed s w n a → Placed s w 0 (put (u .line) x a)
+  cuts : {a : ℕ → Val} (n : ℕ) → PlacedOn on m w n a → PlacedOn on m w 0 a
+  tears : {a : ℕ → Val} (n : ℕ) (u : Undo Val) (vs : List (Undo Val)) (x : Val) → drop n w ≡ u ∷ vs → PlacedOn on m w n a
+      → PlacedOn on m w 0 (put (u .line) x a)
+
+-- ---- of this log: what a cut leaves on the lines with a persistent entry does not matter
+
+module _ {Val : Type 0} where
+  abbrev pub Unlogged : State Val → ℕ → Type 0
+  Unlogged s l = persistent s l ≡ []
+
+  abbrev pub Agree : State Val → (ℕ → Val) → (ℕ → Val) → Type 0
+  Agree s = AgreeOn (Unlogged s)
+
+  abbrev pub Tried : State Val → List (Undo Val) → (ℕ → Val) → Type 0
+  Tried s = TriedOn (Unlogged s) (s .med)
+
+  abbrev pub Placed : State Val → List (Undo Val) → ℕ → (ℕ → Val) → Type 0
+  Placed s = PlacedOn (Unlogged s) (s .med)

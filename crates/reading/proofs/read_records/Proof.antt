@@ -8,7 +8,7 @@ use Rattle.reading.specs.Item.{itemOf}
 use Rattle.reading.specs.Scan.{readOf}
 use Rattle.reading.specs.declared.Item.{Item}
 use Rattle.reading.specs.declared.Item.the-variants.{End, Line}
-use Rattle.reading.proofs.Walk.{Reached, Went, ended, entry-room, line-room, reached-none, region-room, stopped, went-entry, went-head, went-line, went-region}
+use Rattle.reading.proofs.Walk.{Reached, Went, ended, entry-inside, entry-room, line-room, reached-none, region-room, stopped, went-entry, went-head, went-line, went-region}
 use borrow.Author.Needs.{needs}
 use Rattle.reading.proofs.read_records.Statement.{statement}
 use Rattle.reading.proofs.read_records.Tie as tie
@@ -21,12 +21,12 @@ abbrev μ-loop : tie.MeasureT-loop
 
 -- the record at the loop's place
 here : (c : tie.After-one-record Inv-loop μ-loop) (i : Item) → c .one-record .result ≡ i
-    → itemOf (c .before .before .loop .s) (drop (c .before .before .loop .at) (c .before .before .before .before .before .before .args .src .now)) ≡ i
-here c i e = rw (rest (c .before .before .before .before .before .before .args .src .now) (c .before .before .loop .at)) at (sym (c .one-record .ensures) ∙ e)
+    → itemOf (c .before .before .loop .s) (drop (c .before .before .loop .at) (c .before .before .before .before .before .before .before .args .src .now)) ≡ i
+here c i e = rw (rest (c .before .before .before .before .before .before .before .args .src .now) (c .before .before .loop .at)) at (sym (c .one-record .ensures) ∙ e)
 
 -- behind a record that goes on, whatever its kind
 behind : (c : tie.At-match-came Inv-loop μ-loop)
-    → Went (c .before .before .before .before .before .before .before .args .src .now) (c .match .s) (c .match .regions) (c .match .log) (c .before .before .before .loop .at)
+    → Went (c .before .before .before .before .before .before .before .before .args .src .now) (c .match .s) (c .match .regions) (c .match .log) (c .before .before .before .loop .at)
 behind c =
     let r = c .before .before .before .loop .inv in
     ⊎-elim
@@ -34,8 +34,8 @@ behind c =
     (⊎-elim
     (λ w. rw (w .3, w .4, w .5, w .2 .ensures) (went-line r (here (c .before) Line (w .1 .given .1))))
     (⊎-elim
-    (λ w. rw (w .4, w .5, w .6, w .3 .ensures) (went-region r _ _ _ _ _ _ (here (c .before) _ (w .1 .given .1))))
-    (λ w. rw (w .4, w .5, w .6, w .3 .ensures) (went-entry r _ _ (here (c .before) _ (w .1 .given .1))))))
+    (λ w. rw (w .5, w .6, w .7, w .4 .ensures, w .3 .ensures) (went-region r _ _ _ _ _ _ (here (c .before) _ (w .1 .given .1))))
+    (λ w. rw (w .5, w .6, w .7, w .4 .ensures, w .3 .ensures) (went-entry r _ _ (here (c .before) _ (w .1 .given .1))))))
     (c .match .came)
 
 after-head-requires : tie.Need-after-head-requires Inv-loop μ-loop
@@ -44,8 +44,11 @@ after-head-requires c κs = search needs
 no-listed-requires : tie.Need-no-listed-requires Inv-loop μ-loop
 no-listed-requires c κs = search needs
 
+mark-of-requires : tie.Need-mark-of-requires Inv-loop μ-loop
+mark-of-requires c κs = search needs
+
 loop-holds : tie.Need-loop-holds Inv-loop μ-loop
-loop-holds c = rw (c .no-listed .ensures, c .before .after-head .ensures) (reached-none (c .before .before .before .args .src .now))
+loop-holds c = rw (c .mark-of .ensures, c .before .no-listed .ensures, c .before .before .after-head .ensures) (reached-none (c .before .before .before .before .args .src .now))
 
 sub-one-record : tie.Need-sub-one-record Inv-loop μ-loop
 sub-one-record c = omega (arith, c .loop .inv .inside)
@@ -66,7 +69,7 @@ refused-requires : tie.Need-refused-requires Inv-loop μ-loop
 refused-requires c κs = search needs
 
 returns : tie.Need-returns Inv-loop μ-loop
-returns c = c .refused .ensures ∙ ap readOf (sym (stopped (c .before .before .before .before .before .before .loop .inv) _ (here (c .before .before .before .before) _ (c .before .before .item .given .1))))
+returns c = c .refused .ensures ∙ ap (readOf _) (sym (stopped (c .before .before .before .before .before .before .loop .inv) _ (here (c .before .before .before .before) _ (c .before .before .item .given .1))))
 
 enum-known-item-2 : tie.Need-enum-known-item-2 Inv-loop μ-loop
 enum-known-item-2 c = search needs
@@ -83,35 +86,44 @@ after-line-requires c κs = line-room (c .before .before .before .before .loop .
 enum-known-item-3 : tie.Need-enum-known-item-3 Inv-loop μ-loop
 enum-known-item-3 c = search needs
 
+listed-of-requires : tie.Need-listed-of-requires Inv-loop μ-loop
+listed-of-requires c κs = search needs
+
 mul-regions : tie.Need-mul-regions Inv-loop μ-loop
-mul-regions c = let h : c .before .before .before .before .before .loop .s .held < 32 = region-room (c .before .before .before .before .before .loop .s) _ _ _ _ _ _ _ (here (c .before .before .before) _ (c .before .item3 .given .1)) in record { fits = omega arith }
+mul-regions c = let h : c .before .before .before .before .before .before .loop .s .held < 32 = region-room (c .before .before .before .before .before .before .loop .s) _ _ _ _ _ _ _ (here (c .before .before .before .before) _ (c .before .before .item3 .given .1)) in record { fits = omega arith }
 
 array-set-from-regions : tie.Need-array-set-from-regions Inv-loop μ-loop
-array-set-from-regions c = region-room (c .before .before .before .before .before .loop .s) _ _ _ _ _ _ _ (here (c .before .before .before) _ (c .before .item3 .given .1))
+array-set-from-regions c = region-room (c .before .before .before .before .before .before .loop .s) _ _ _ _ _ _ _ (here (c .before .before .before .before) _ (c .before .before .item3 .given .1))
 
 after-region-requires : tie.Need-after-region-requires Inv-loop μ-loop
-after-region-requires c κs = region-room (c .before .before .before .before .before .loop .s) _ _ _ _ _ _ _ (here (c .before .before .before) _ (c .before .item3 .given .1))
+after-region-requires c κs = region-room (c .before .before .before .before .before .before .loop .s) _ _ _ _ _ _ _ (here (c .before .before .before .before) _ (c .before .before .item3 .given .1))
 
 enum-known-item-4 : tie.Need-enum-known-item-4 Inv-loop μ-loop
 enum-known-item-4 c = search needs
 
+add-mark-of : tie.Need-add-mark-of Inv-loop μ-loop
+add-mark-of c = let h = entry-inside (c .before .before .before .before .before .loop .inv) _ _ (here (c .before .before .before) _ (c .before .item4 .given .1)) in record { fits = omega arith }
+
+mark-of-requires-2 : tie.Need-mark-of-requires-2 Inv-loop μ-loop
+mark-of-requires-2 c κs = search needs
+
 mul-log : tie.Need-mul-log Inv-loop μ-loop
-mul-log c = let h : c .before .before .before .before .before .loop .s .logged < 256 = entry-room (c .before .before .before .before .before .loop .inv) _ _ (here (c .before .before .before) _ (c .before .item4 .given .1)) .0 in record { fits = omega arith }
+mul-log c = let h : c .before .before .before .before .before .before .loop .s .logged < 256 = entry-room (c .before .before .before .before .before .before .loop .inv) _ _ (here (c .before .before .before .before) _ (c .before .before .item4 .given .1)) .0 in record { fits = omega arith }
 
 array-set-from-log : tie.Need-array-set-from-log Inv-loop μ-loop
-array-set-from-log c = entry-room (c .before .before .before .before .before .loop .inv) _ _ (here (c .before .before .before) _ (c .before .item4 .given .1)) .0
+array-set-from-log c = entry-room (c .before .before .before .before .before .before .loop .inv) _ _ (here (c .before .before .before .before) _ (c .before .before .item4 .given .1)) .0
 
 after-entry-requires : tie.Need-after-entry-requires Inv-loop μ-loop
-after-entry-requires c κs = entry-room (c .before .before .before .before .before .loop .inv) _ _ (here (c .before .before .before) _ (c .before .item4 .given .1))
+after-entry-requires c κs = entry-room (c .before .before .before .before .before .before .loop .inv) _ _ (here (c .before .before .before .before) _ (c .before .before .item4 .given .1))
 
 enum-told-2 : tie.Need-enum-told-2 Inv-loop μ-loop
 enum-told-2 c = search needs
 
-scan-of-requires : tie.Need-scan-of-requires Inv-loop μ-loop
-scan-of-requires c κs = search needs
+read-of-requires : tie.Need-read-of-requires Inv-loop μ-loop
+read-of-requires c κs = search needs
 
 returns-2 : tie.Need-returns-2 Inv-loop μ-loop
-returns-2 c = rw (c .scan-of .ensures) (ended (c .before .before .before .before .before .loop .inv) (here (c .before .before .before) End (c .before .enum-told2 .given .1)))
+returns-2 c = rw (c .read-of .ensures) (ended (c .before .before .before .before .before .loop .inv) (here (c .before .before .before) End (c .before .enum-told2 .given .1)))
 
 shared-slice-read-kind : tie.Need-shared-slice-read-kind Inv-loop μ-loop
 shared-slice-read-kind c = omega (arith, behind (c .before) .within)
@@ -139,6 +151,7 @@ read-records-spec =
     μ-loop
     after-head-requires
     no-listed-requires
+    mark-of-requires
     loop-holds
     sub-one-record
     part-one-record-start
@@ -152,15 +165,18 @@ read-records-spec =
     enum-told
     after-line-requires
     enum-known-item-3
+    listed-of-requires
     mul-regions
     array-set-from-regions
     after-region-requires
     enum-known-item-4
+    add-mark-of
+    mark-of-requires-2
     mul-log
     array-set-from-log
     after-entry-requires
     enum-told-2
-    scan-of-requires
+    read-of-requires
     returns-2
     shared-slice-read-kind
     add-at

@@ -3,10 +3,10 @@ use mathlib.Core.Path.{_∙_, _≡_, sym}
 use mathlib.Core.Bool.{true}
 use mathlib.Core.List.{List}
 use native.Mathlib.Omega.{arith}
-use Rattle.reading.specs.Scan.{noMark}
+use Rattle.rules.specs.Marks.{noMark}
 use Rattle.reading.specs.declared.Read.{Read}
 use Rattle.recovery.proofs.Places.{all-bytes}
-use Rattle.recovery.proofs.Leaves.{at-small, few-read, index-small, leaves-more, leaves-past, leaves-refused, line-room, old-room}
+use Rattle.recovery.proofs.Leaves.{at-small, index-small, leaves-more, leaves-past, leaves-refused, line-room, logged-small, old-room}
 use Rattle.recovery.specs.Places.{foundAt}
 use Rattle.rules.specs.Claim.{isByte}
 use Rattle.rules.specs.Lists.{all}
@@ -45,8 +45,8 @@ found l =
     sym (rw (l .before .before .before .before .before .order-of .ensures) at (l .before .before .before .before .found-at .ensures))
     ∙ l .before .before .found .given .1
 
-few : (l : tie.After-log) → (read (start l) .scan .held ≤ 32) × (read (start l) .scan .logged ≤ 256)
-few l = let k = start l in few-read (image k) (bytes k) (read k) (k .before .pre) (place k) (accepted l)
+few : (l : tie.After-log) → read (start l) .scan .logged ≤ 256
+few l = let k = start l in logged-small (image k) (bytes k) (read k) (k .before .pre) (place k) (accepted l)
 
 inside : (l : tie.After-log) → index l < read (start l) .scan .logged
 inside l = let k = start l in index-small (image k) (bytes k) (read k) (k .before .pre) (place k) (accepted l) (index l) (found l)
@@ -84,28 +84,25 @@ returns-2 c =
     rw (c .stay2 .ensures) (leaves-past (image k) (bytes k) (read k) (k .before .pre) (place k) (o .before .before .if1 .left) f)
 
 mul-mark : tie.Need-mul-mark
-mul-mark c = record { fits = omega (arith, few c .1, inside c) }
+mul-mark c = record { fits = omega (arith, few c, inside c) }
 
 array-copy-out-mark : tie.Need-array-copy-out-mark
-array-copy-out-mark c = omega (arith, few c .1, inside c)
+array-copy-out-mark c = omega (arith, few c, inside c)
 
 cast-put-back : tie.Need-cast-put-back
 cast-put-back c = search needs
 
-old-start-requires : tie.Need-old-start-requires
-old-start-requires c κs = let l = c .before .before .before in (few l .0, omega (arith, few l .1, inside l))
-
 put-back-requires : tie.Need-put-back-requires
 put-back-requires c κs =
-    let l = c .before .before .before .before in
+    let l = c .before .before .before in
     let k = start l in (
       line-room (image k) (bytes k) (read k) (k .before .pre) (place k) (accepted l) (index l) (found l) noMark,
-      rw (c .old-start .ensures) (old-room (image k) (bytes k) (read k) (k .before .pre) (place k) (accepted l) (index l) (found l)),
+      old-room (image k) (bytes k) (read k) (k .before .pre) (place k) (accepted l) (index l) (found l) noMark,
     )
 
 add-next : tie.Need-add-next
 add-next c =
-    let l = c .before .before .before .before .before .before .before in
+    let l = c .before .before .before .before .before .before in
     let k = start l in
     let h = at-small (image k) (bytes k) (read k) (k .before .pre) (place k) (accepted l) (index l) (found l) in
     record { fits = omega arith }
@@ -121,13 +118,12 @@ same-length c = search needs
 
 returns-3 : tie.Need-returns-3
 returns-3 c =
-    let o = c .before .before .before .before .before in
+    let o = c .before .before .before .before in
     let l = o .before .before .before .before in
     let k = start l in
     rw (c .more .ensures)
     (leaves-more (image k) (bytes k) (read k) (k .before .pre) (place k) (accepted l) (index l) (found l) noMark _ _
-    (rw (l .before .before .before .before .before .order-of .ensures) at (c .before .found-at2 .ensures))
-    (rw (← o .old-start .ensures) (c .before .before .before .before .put-back .ensures)))
+    (rw (l .before .before .before .before .before .order-of .ensures) at (c .before .found-at2 .ensures)) (o .put-back .ensures))
 
 pub restore-read-spec : {M : Type 1} → statement M
 restore-read-spec =
@@ -144,7 +140,6 @@ restore-read-spec =
     mul-mark
     array-copy-out-mark
     cast-put-back
-    old-start-requires
     put-back-requires
     add-next
     found-at-requires-2

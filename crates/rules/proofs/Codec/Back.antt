@@ -9,14 +9,15 @@ use native.Mathlib.Omega.{arith}
 use borrow.Author.Tests.{eqb-true, le-ltb, lt-ltb, ne-eqb}
 use lib.Seq.{append-snoc}
 use Rattle.rules.proofs.Codec.Bytes.{isLine}
-use Rattle.rules.proofs.Codec.Turns.{entryBody, head-read, length-entry, length-region, line-read, listed-back, logged-back, record-read, regionBody, size-threads, persistentOf, turn-last}
+use Rattle.rules.proofs.Codec.Turns.{entryBody, head-read, length-entry, length-region, line-read, listed-back, logged-back, regionBody, size-threads, persistentOf}
+use Rattle.rules.proofs.Codec.Records.{record-read, turn-last}
 use Rattle.rules.proofs.Codec.Valid.{Valid, bound, count-append, fitsEntry, fitsRegion, keyOfListed, keyOfLogged, listed-test, logged-test, rises, rises-append}
 use Rattle.rules.specs.Claim.{isByte}
 use Rattle.rules.specs.Contradiction.{contradicts}
 use Rattle.rules.specs.Image.{Logged, Persistent, encode, entryRecord, lineRecord, regionRecord}
 use Rattle.rules.specs.declared.Listed.{Listed}
 use Rattle.rules.specs.Lists.{all, count, flat}
-use Rattle.rules.specs.Reader.{Reads, endTurn, fieldsTurn, isKnownThread, isLoggedBy, listedTurn, loggedTurn, nothing, readImage, recordsRead, turnOf}
+use Rattle.rules.specs.Reader.{Reads, endTurn, fieldsTurn, imageBody, isImageKind, isKnownThread, isLoggedBy, isPlaced, listedTurn, loggedTurn, nothing, readImage, recordsRead, turnBy, turnOf}
 use Rattle.rules.specs.Refusal.{inRange}
 use Rattle.rules.specs.Tables.{threadOf}
 use Rattle.undo.proofs.Laws.{and-true, is-same, test}
@@ -36,7 +37,7 @@ module _ (n l : ℕ) (m : List (List ℕ)) (size : inRange n l ≡ true) (whole 
   region-read rs r more e h o =
       let a = and-true (all (isKnownThread n) (r .key ∷ r .deps)) (eqb (length (r .deps)) 4 && isByte (r .state)) e in
       let d : length (r .deps) ≡ 4 = eqb-true (length (r .deps)) 4 (and-true (eqb (length (r .deps)) 4) (isByte (r .state)) (a .1) .0) in
-      record-read (persistentOf n l m rs []) (persistentOf n l m (rs ++ (r ∷ [])) []) 34 (regionBody r) more refl (rw (headed, lined)) (length-region r d)
+      record-read isImageKind isPlaced imageBody fieldsTurn (persistentOf n l m rs []) (persistentOf n l m (rs ++ (r ∷ [])) []) 34 (regionBody r) more refl (rw (headed, lined)) (length-region r d)
       (rw (listed-back n (size-threads n l size .1) r more (a .0) d, a .0, listed-test rs (r .key), o, lt-ltb (length rs) 32 h))
 
   any-entry : (es : List Logged) → cond (eqb (length es) 0) (leb 34 35) (leb 35 35) ≡ true
@@ -49,15 +50,15 @@ module _ (n l : ℕ) (m : List (List ℕ)) (size : inRange n l ≡ true) (whole 
   entry-read rs es e more b h o =
       let a = and-true (isKnownThread n (e .key)) (ltb (e .line) l && isLine (e .old)) b in
       let c = and-true (ltb (e .line) l) (isLine (e .old)) (a .1) in
-      record-read (persistentOf n l m rs es) (persistentOf n l m rs (es ++ (e ∷ []))) 35 (entryBody e) more refl (rw (headed, lined) (any-entry es)) (length-entry e)
+      record-read isImageKind isPlaced imageBody fieldsTurn (persistentOf n l m rs es) (persistentOf n l m rs (es ++ (e ∷ []))) 35 (entryBody e) more refl (rw (headed, lined) (any-entry es)) (length-entry e)
       (rw (logged-back n (size-threads n l size .1) e more (a .0) (c .1), a .0, c .0, logged-test es (e .key), o, lt-ltb (count (isLoggedBy (threadOf (e .key))) es) 32 h))
 
   any-end : (es : List Logged) → cond (eqb (length es) 0) (leb 34 36) (leb 35 36) ≡ true
   any-end es = test (eqb (length es) 0) (λ b. rw b) (λ b. rw b)
 
   pub end-read : (rs : List Listed) (es : List Logged) → recordsRead (persistentOf n l m rs es) 0 (36 ∷ []) ≡ Reads (persistentOf n l m rs es)
-  unfolding turnOf fieldsTurn endTurn
-  end-read rs es = turn-last (persistentOf n l m rs es) (persistentOf n l m rs es) 36 [] (rw (headed, lined, any-end es))
+  unfolding turnBy fieldsTurn endTurn
+  end-read rs es = turn-last turnOf imageBody (persistentOf n l m rs es) (persistentOf n l m rs es) 36 [] (rw (headed, lined, any-end es))
 
 -- ---- lists of records: what is read before them and they together are the parts of a valid state
 

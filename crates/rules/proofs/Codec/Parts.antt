@@ -1,45 +1,54 @@
 -- A record that was accepted, written again: it gives the bytes that were read, and what it adds fits.
 use Prim.Native.Nat.{_+_, _≤_, ℕ}
 use mathlib.Core.Path.{_∙_, _≡_, ap, refl, sym}
-use mathlib.Core.Bool.{Bool, cond, false, true}
-use mathlib.Core.List.{List, _++_, _∷_}
-use lib.Dec.{leb}
+use mathlib.Core.Bool.{_||_, true}
+use mathlib.Core.List.{List, [], _++_, _∷_}
+use lib.Dec.{eqb, leb, ltb}
 use lib.ListN.{drop, getD, length, take}
 use native.Mathlib.Omega.{arith}
-use borrow.Author.Tests.{leb-true}
 use lib.Seq.{drop-cons}
 use Rattle.rules.proofs.Codec.Bytes.{key-part, line-part, num-part}
+use Rattle.rules.proofs.Codec.Records.{next-same, past-test}
+use Rattle.rules.proofs.Codec.Turns.{persistentOf}
 use Rattle.rules.specs.Bytes.{bytesOf, lineAt, lineBytes, numOf}
 use Rattle.rules.specs.Claim.{isByte}
-use Rattle.rules.specs.Image.{Persistent, entryRecord, headRecord, keyBytes, lineRecord, regionRecord}
-use Rattle.rules.specs.Lists.{all, flat}
-use Rattle.rules.specs.Reader.{Last, Next, Stop, Turn, fieldsTurn, imageBody, isImageKind, isPlaced, keyAt, listedAt, loggedAt, turnOf}
-use Rattle.undo.proofs.Laws.{never}
+use Rattle.rules.specs.Image.{Logged, Persistent, entryRecord, headRecord, keyBytes, lineRecord, regionRecord}
+use Rattle.rules.specs.Lists.{all, count, flat}
+use Rattle.rules.specs.Reader.{Next, isKnownThread, isLoggedBy, keyAt, lastListed, lastLogged, listedAt, listedTurn, loggedAt, loggedTurn}
+use Rattle.rules.specs.Tables.{threadOf}
+use Rattle.rules.specs.declared.Listed.{Listed}
 
--- ---- what a turn that does not stop has past-test
+-- ---- what a region and a log entry that go on have shown, and what they add
 
-abbrev pub isOn : Turn → Bool
-isOn (Stop n) = false
-isOn (Next p) = true
-isOn (Last p) = true
+pub record Listing (p q : Persistent) (r : Listed) : Type 0 where
+  pub known : all (isKnownThread (p .threads)) (r .key ∷ r .deps) ≡ true
+  pub rises : (eqb (length (p .regions)) 0 || ltb (lastListed (p .regions)) (r .key)) ≡ true
+  pub few : ltb (length (p .regions)) 32 ≡ true
+  pub after : persistentOf (p .threads) (p .lines) (p .medium) (p .regions ++ (r ∷ [])) (p .log) ≡ q
 
-pub past-test : (b : Bool) (x : Turn) (n : ℕ) (u : Turn) → isOn u ≡ true → cond b x (Stop n) ≡ u → (b ≡ true) × (x ≡ u)
-past-test true x n u g e = (refl, e)
-past-test false x n u g e = never g (ap isOn (sym e))
+pub listing : (p q : Persistent) (r : Listed) → listedTurn p r ≡ Next q → Listing p q r
+unfolding listedTurn
+listing p q r e =
+    let a = past-test (all (isKnownThread (p .threads)) (r .key ∷ r .deps)) _ 3 (Next q) refl e in
+    let b = past-test (eqb (length (p .regions)) 0 || ltb (lastListed (p .regions)) (r .key)) _ 7 (Next q) refl (a .1) in
+    let c = past-test (ltb (length (p .regions)) 32) _ 7 (Next q) refl (b .1) in
+    record { known = a .0; rises = b .0; few = c .0; after = next-same (c .1) }
 
-pub record Passed (p : Persistent) (k : ℕ) (bs : List ℕ) (u : Turn) : Type 0 where
-  pub known : isImageKind k ≡ true
-  pub placed : isPlaced p k ≡ true
-  pub long : imageBody k ≤ length bs
-  pub fields : fieldsTurn p k bs ≡ u
+pub record Logging (p q : Persistent) (e : Logged) : Type 0 where
+  pub known : isKnownThread (p .threads) (e .key) ≡ true
+  pub line : ltb (e .line) (p .lines) ≡ true
+  pub climbs : leb (lastLogged (p .log)) (e .key) ≡ true
+  pub few : ltb (count (isLoggedBy (threadOf (e .key))) (p .log)) 32 ≡ true
+  pub after : persistentOf (p .threads) (p .lines) (p .medium) (p .regions) (p .log ++ (e ∷ [])) ≡ q
 
-pub turn-passed : (p : Persistent) (k : ℕ) (bs : List ℕ) (u : Turn) → isOn u ≡ true → turnOf p (k ∷ bs) ≡ u → Passed p k bs u
-unfolding turnOf
-turn-passed p k bs u g e =
-    let a = past-test (isImageKind k) (cond (isPlaced p k) (cond (leb (imageBody k) (length bs)) (fieldsTurn p k bs) (Stop 1)) (Stop 7)) 2 u g e in
-    let b = past-test (isPlaced p k) (cond (leb (imageBody k) (length bs)) (fieldsTurn p k bs) (Stop 1)) 7 u g (a .1) in
-    let c = past-test (leb (imageBody k) (length bs)) (fieldsTurn p k bs) 1 u g (b .1) in
-    record { known = a .0; placed = b .0; long = leb-true (imageBody k) (length bs) (c .0); fields = c .1 }
+pub logging : (p q : Persistent) (e : Logged) → loggedTurn p e ≡ Next q → Logging p q e
+unfolding loggedTurn
+logging p q e t =
+    let a = past-test (isKnownThread (p .threads) (e .key)) _ 3 (Next q) refl t in
+    let b = past-test (ltb (e .line) (p .lines)) _ 4 (Next q) refl (a .1) in
+    let c = past-test (leb (lastLogged (p .log)) (e .key)) _ 7 (Next q) refl (b .1) in
+    let d = past-test (ltb (count (isLoggedBy (threadOf (e .key))) (p .log)) 32) _ 7 (Next q) refl (c .1) in
+    record { known = a .0; line = b .0; climbs = c .0; few = d .0; after = next-same (d .1) }
 
 -- ---- the bodies
 

@@ -1,18 +1,19 @@
 -- A record that was written, read at the front of the bytes: it adds what it holds, and the reading goes on behind it.
-use Prim.Native.Nat.{_*_, _<_, _^_, _≤_, suc, zero, ℕ}
-use mathlib.Core.Path.{_∙_, _≡_, ap, refl}
+use Prim.Native.Nat.{_*_, _<_, _^_, _≤_, suc, ℕ}
+use mathlib.Core.Path.{_≡_, ap, refl}
 use mathlib.Core.Bool.{_&&_, false, true}
 use mathlib.Core.List.{List, [], _++_, _∷_}
 use lib.Dec.{eqb, leb}
-use lib.ListN.{drop, length, length-append}
+use lib.ListN.{length, length-append}
 use native.Mathlib.Omega.{arith}
-use borrow.Author.Tests.{le-leb, leb-true, lt-ltb, ltb-true, ne-eqb}
-use lib.Seq.{drop-at, take-at}
+use borrow.Author.Tests.{leb-true, lt-ltb, ltb-true, ne-eqb}
+use lib.Seq.{take-at}
+use Rattle.rules.proofs.Codec.Records.{record-read}
 use Rattle.rules.proofs.Codec.Bytes.{isLine, key-back, length-bytes, length-words, line-back, num-bytes}
 use Rattle.rules.specs.Bytes.{bytesOf, lineBytes, numOf}
 use Rattle.rules.specs.Image.{Logged, Persistent, headRecord, keyBytes, lineRecord}
 use Rattle.rules.specs.Lists.{all, flat}
-use Rattle.rules.specs.Reader.{Last, Next, Reads, Refuses, Stop, Turn, Verdict, fieldsTurn, headTurn, imageBody, isImageKind, isKnownThread, isPlaced, lineTurn, listedAt, loggedAt, nothing, recordsRead, turnOf}
+use Rattle.rules.specs.Reader.{Next, fieldsTurn, headTurn, imageBody, isImageKind, isKnownThread, isPlaced, lineTurn, listedAt, loggedAt, nothing, recordsRead}
 use Rattle.rules.specs.Refusal.{inRange}
 use Rattle.rules.specs.Tables.{numberOf, threadOf}
 use Rattle.rules.specs.declared.Listed.{Listed}
@@ -21,34 +22,6 @@ use Rattle.undo.proofs.Laws.{and-true}
 -- a persistent state by its parts
 abbrev pub persistentOf : ℕ → ℕ → List (List ℕ) → List Listed → List Logged → Persistent
 persistentOf n l m rs es = record { threads = n; lines = l; medium = m; regions = rs; log = es }
-
--- bytes to pass are dropped
-pub skip-bytes : (p : Persistent) (k : ℕ) (bs : List ℕ) → recordsRead p k bs ≡ recordsRead p 0 (drop k bs)
-unfolding recordsRead
-skip-bytes p zero bs = refl
-skip-bytes p (suc k) [] = refl
-skip-bytes p (suc k) (b ∷ bs) = skip-bytes p k bs
-
--- what follows a turn
-abbrev pub afterTurn : ℕ → List ℕ → Turn → Verdict
-afterTurn b bs t = elim t [ Stop n ↦ Refuses n | Next q ↦ recordsRead q (imageBody b) bs | Last q ↦ Reads q ]
-
-pub turn-next : (p q : Persistent) (b : ℕ) (bs : List ℕ) → turnOf p (b ∷ bs) ≡ Next q → recordsRead p 0 (b ∷ bs) ≡ recordsRead q 0 (drop (imageBody b) bs)
-unfolding recordsRead
-turn-next p q b bs e = ap (afterTurn b bs) e ∙ skip-bytes q (imageBody b) bs
-
-pub turn-last : (p q : Persistent) (b : ℕ) (bs : List ℕ) → turnOf p (b ∷ bs) ≡ Last q → recordsRead p 0 (b ∷ bs) ≡ Reads q
-unfolding recordsRead
-turn-last p q b bs e = ap (afterTurn b bs) e
-
--- a record of a kind that may stand here, with a body of the right length
-pub record-read : (p q : Persistent) (k : ℕ) (body more : List ℕ) → isImageKind k ≡ true → isPlaced p k ≡ true → length body ≡ imageBody k
-    → fieldsTurn p k (body ++ more) ≡ Next q → recordsRead p 0 (k ∷ (body ++ more)) ≡ recordsRead q 0 more
-unfolding turnOf
-record-read p q k body more a b c e =
-    let h : leb (imageBody k) (length (body ++ more)) ≡ true = le-leb (imageBody k) (length (body ++ more)) (simp length-append (omega arith)) in
-    let t : turnOf p (k ∷ (body ++ more)) ≡ Next q = rw (a, b, h) e in
-    turn-next p q k (body ++ more) t ∙ ap (recordsRead q 0) (drop-at body more (imageBody k) c)
 
 -- ---- the head
 
@@ -70,7 +43,7 @@ head-read n l more e =
     let s : l < 256 ^ 2 = omega (arith, size-lines n l e .1) in
     let t : fieldsTurn nothing 32 (n ∷ (bytesOf 2 l ++ more)) ≡ Next (persistentOf n l [] [] []) =
     rw (take-at (bytesOf 2 l) more 2 (length-bytes 2 l), num-bytes 2 l s, e) in
-    record-read nothing (persistentOf n l [] [] []) 32 (n ∷ bytesOf 2 l) more refl refl (ap suc (length-bytes 2 l)) t
+    record-read isImageKind isPlaced imageBody fieldsTurn nothing (persistentOf n l [] [] []) 32 (n ∷ bytesOf 2 l) more refl refl (ap suc (length-bytes 2 l)) t
 
 -- ---- behind the head
 
@@ -83,7 +56,7 @@ module _ (n l : ℕ) (m : List (List ℕ)) (rs : List Listed) (es : List Logged)
       → recordsRead (persistentOf n l m rs es) 0 (lineRecord x ++ more) ≡ recordsRead (persistentOf n l (m ++ (x ∷ [])) rs es) 0 more
   unfolding lineRecord fieldsTurn lineTurn
   line-read x more e h =
-      record-read (persistentOf n l m rs es) (persistentOf n l (m ++ (x ∷ [])) rs es) 33 (lineBytes x) more
+      record-read isImageKind isPlaced imageBody fieldsTurn (persistentOf n l m rs es) (persistentOf n l (m ++ (x ∷ [])) rs es) 33 (lineBytes x) more
       refl (rw (headed, lt-ltb (length m) l h)) (length-words 8 x) (rw (line-back x more e))
 
 -- ---- regions

@@ -1,92 +1,86 @@
--- The log entries of an image, counted by its bytes, are those that were saved.
-use Prim.Native.Nat.{_*_, _+_, suc, zero, ℕ}
-use mathlib.Core.Path.{_∙_, _≡_, ap, refl, sym}
-use mathlib.Core.List.{List, [], _++_, _∷_, append-assoc, map}
-use lib.ListN.{length, length-append}
-use native.Mathlib.Nat.{add-zero, zero-add}
+-- The log entries that an image holds by its bytes are those that are read.
+use Prim.Native.Nat.{_+_, suc, zero, ℕ}
+use mathlib.Core.Path.{_≡_, refl, sym}
+use mathlib.Core.Bool.{cond, true}
+use mathlib.Core.List.{List, [], _++_, _∷_, append-nil}
+use lib.Dec.{eqb, ltb}
+use lib.ListN.{drop, getD, length, length-append, take}
 use native.Mathlib.Omega.{arith}
-use Rattle.rules.proofs.Codec.Bytes.{length-bytes, length-words}
-use Rattle.rules.proofs.Recover.Saved.{length-padded}
-use Rattle.rules.specs.Bytes.{bytesOf, lineBytes}
+use Rattle.rules.proofs.Codec.Only.{Kind, Taken, endKind, entryKind, headKind, kind-of, lineKind, no-head, not-end, only-end, regionKind}
+use Rattle.rules.proofs.Codec.Parts.{listing, logging}
+use Rattle.rules.proofs.Codec.Records.{along-read, next-same, past-test, turn-passed}
+use Rattle.rules.proofs.Codec.Turns.{persistentOf}
+use Rattle.rules.specs.Bytes.{numOf}
 use Rattle.rules.specs.Claim.{entriesIn}
-use Rattle.rules.specs.Image.{Logged, encode, entryRecord, headRecord, image, keyBytes, lineRecord, regionRecord, saved, savedRegion, savedRegions}
-use Rattle.rules.specs.Lists.{flat, rising}
-use Rattle.rules.specs.Tables.{Board, numberOf, regionAt}
-use Rattle.rules.specs.declared.Region.{Region}
+use Rattle.rules.specs.Image.{Logged, Persistent}
+use Rattle.rules.specs.Reader.{Last, Next, Reads, fieldsTurn, headTurn, imageBody, isImageKind, isPlaced, lineTurn, listedAt, loggedAt, nothing, recordsRead, turnOf}
+use Rattle.rules.specs.Refusal.{inRange}
+use Rattle.undo.proofs.Laws.{never, test}
 
 -- the bytes of a body are passed over
-passed : (n : ℕ) (xs more : List ℕ) → length xs ≡ n → entriesIn n (xs ++ more) ≡ entriesIn 0 more
+passed : (n : ℕ) (bs : List ℕ) → entriesIn n bs ≡ entriesIn 0 (drop n bs)
 unfolding entriesIn
-passed zero [] more e = refl
-passed (suc n) [] more e = absurd (omega arith)
-passed zero (x ∷ xs) more e = absurd (omega arith)
-passed (suc n) (x ∷ xs) more e = passed n xs more (omega arith)
+passed zero bs = refl
+passed (suc n) [] = refl
+passed (suc n) (b ∷ bs) = passed n bs
 
-length-key : (k : ℕ) → length (keyBytes k) ≡ 3
-length-key k = let z = length-bytes 2 (numberOf k) in omega arith
-
-length-keys : (ks : List ℕ) → length (flat keyBytes ks) ≡ 3 * length ks
-unfolding flat
-length-keys [] = refl
-length-keys (k ∷ ks) = omega (arith, length-append (keyBytes k) (flat keyBytes ks), length-key k, length-keys ks)
-
-head-passed : (n l : ℕ) (more : List ℕ) → entriesIn 0 (headRecord n l ++ more) ≡ entriesIn 0 more
-unfolding headRecord entriesIn
-head-passed n l more = zero-add (entriesIn 2 (bytesOf 2 l ++ more)) ∙ passed 2 (bytesOf 2 l) more (length-bytes 2 l)
-
-line-passed : (l more : List ℕ) → entriesIn 0 (lineRecord l ++ more) ≡ entriesIn 0 more
-unfolding lineRecord entriesIn
-line-passed l more = zero-add (entriesIn 64 (lineBytes l ++ more)) ∙ passed 64 (lineBytes l) more (length-words 8 l)
-
-region-passed : (r : Region) (more : List ℕ) → entriesIn 0 (regionRecord (savedRegion r) ++ more) ≡ entriesIn 0 more
-unfolding regionRecord savedRegion entriesIn
-region-passed r more =
-    let ds : List ℕ = savedRegion r .deps in
-    let body : List ℕ = keyBytes (r .key) ++ (savedRegion r .state ∷ flat keyBytes ds) in
-    zero-add (entriesIn 16 (body ++ more))
-    ∙ passed 16 body more
-    (omega (arith, length-append (keyBytes (r .key)) (savedRegion r .state ∷ flat keyBytes ds), length-key (r .key), length-keys ds, length-padded (r .deps)))
-
-entry-counted : (e : Logged) (more : List ℕ) → entriesIn 0 (entryRecord e ++ more) ≡ 1 + entriesIn 0 more
-unfolding entryRecord entriesIn
-entry-counted e more =
-    let body : List ℕ = keyBytes (e .key) ++ (e .line ∷ lineBytes (e .old)) in
-    ap (λ n. 1 + n)
-    (passed 68 body more (omega (arith, length-append (keyBytes (e .key)) (e .line ∷ lineBytes (e .old)), length-key (e .key), length-words 8 (e .old))))
-
--- ---- the records of a kind
-
-lines-passed : (ls : List (List ℕ)) (more : List ℕ) → entriesIn 0 (flat lineRecord ls ++ more) ≡ entriesIn 0 more
-unfolding flat
-lines-passed [] more = refl
-lines-passed (l ∷ ls) more =
-    ap (entriesIn 0) (append-assoc (lineRecord l) (flat lineRecord ls) more) ∙ line-passed l (flat lineRecord ls ++ more) ∙ lines-passed ls more
-
-regions-passed : (f : ℕ → Region) (ks more : List ℕ) → entriesIn 0 (flat regionRecord (map (λ k. savedRegion (f k)) ks) ++ more) ≡ entriesIn 0 more
-unfolding flat
-regions-passed f [] more = refl
-regions-passed f (k ∷ ks) more =
-    ap (entriesIn 0) (append-assoc (regionRecord (savedRegion (f k))) (flat regionRecord (map (λ k. savedRegion (f k)) ks)) more)
-    ∙ region-passed (f k) (flat regionRecord (map (λ k. savedRegion (f k)) ks) ++ more)
-    ∙ regions-passed f ks more
-
-entries-counted : (es : List Logged) (more : List ℕ) → entriesIn 0 (flat entryRecord es ++ more) ≡ length es + entriesIn 0 more
-unfolding flat
-entries-counted [] more = sym (zero-add (entriesIn 0 more))
-entries-counted (e ∷ es) more =
-    let ih = entries-counted es more in
-    ap (entriesIn 0) (append-assoc (entryRecord e) (flat entryRecord es) more) ∙ entry-counted e (flat entryRecord es ++ more) ∙ omega arith
-
-end-passed : entriesIn 0 (36 ∷ []) ≡ 0
+-- nothing is ahead of the end
+end-none : (bs : List ℕ) → length bs ≡ 0 → entriesIn 0 (36 ∷ bs) ≡ 0
 unfolding entriesIn
-end-passed = refl
+end-none [] e = refl
+end-none (b ∷ bs) e = absurd (omega arith)
 
-pub entries-in : (b : Board) → entriesIn 0 (image b) ≡ length (saved b .log)
-unfolding image encode saved savedRegions
-entries-in b =
-    head-passed (saved b .threads) (saved b .lines) _
-    ∙ lines-passed (saved b .medium) _
-    ∙ regions-passed (λ k. regionAt k (b .tables .regions)) (rising (map (λ r. r .key) (b .tables .regions))) _
-    ∙ entries-counted (saved b .log) (36 ∷ [])
-    ∙ ap (λ n. length (saved b .log) + n) end-passed
-    ∙ add-zero (length (saved b .log))
+-- the entries that a record adds; before the head none is read
+abbrev pub entriesAt : ℕ → List ℕ → List Logged
+entriesAt k bs = cond (eqb k 35) (loggedAt bs ∷ []) []
+
+abbrev pub Headed : Persistent → Type 0
+Headed p = eqb (p .threads) 0 ≡ true → p .log ≡ []
+
+adds : {p q : Persistent} {bs : List ℕ} {k : ℕ} → Headed p → Kind k → Taken p k bs (Next q) → (q .log ≡ p .log ++ entriesAt k bs) × (Headed q)
+unfolding fieldsTurn headTurn lineTurn
+adds {p} {q} {bs} none headKind c =
+    let n = getD bs 0 0 in
+    let l = numOf (take 2 (drop 1 bs)) in
+    let x = next-same (past-test (inRange n l) (Next (persistentOf n l [] [] [])) 6 (Next q) refl (c .shown) .1) in
+    let z : eqb (p .threads) 0 ≡ true
+    = test (eqb (p .threads) 0) (λ a. a) (λ a. absurd (no-head (ltb (length (p .medium)) (p .lines)) (eqb (length (p .log)) 0) (rw a at (c .place)))) in
+    rw (← x, none z) (refl, λ y. refl)
+adds {p} {q} none lineKind c = rw (← next-same (c .shown)) (sym (append-nil (p .log)), none)
+adds {p} {q} {bs} none regionKind c = rw (← listing p q (listedAt bs) (c .shown) .after) (sym (append-nil (p .log)), none)
+adds {p} {q} {bs} none entryKind c = rw (← logging p q (loggedAt bs) (c .shown) .after) (refl, λ z. never (rw z at (c .place)) refl)
+adds none endKind c = absurd (not-end c)
+
+pub log-adds : (p q : Persistent) (k : ℕ) (bs : List ℕ) → Headed p → turnOf p (k ∷ bs) ≡ Next q → (q .log ≡ p .log ++ entriesAt k bs) × (Headed q)
+log-adds p q k bs none t =
+    let c = turn-passed isImageKind isPlaced imageBody fieldsTurn p k bs (Next q) refl t in adds none (kind-of k (c .known)) c
+
+pub log-ends : (p q : Persistent) (k : ℕ) (bs : List ℕ) → turnOf p (k ∷ bs) ≡ Last q → (k ≡ 36) × ((length bs ≡ 0) × (p ≡ q))
+log-ends p q k bs t = let c = turn-passed isImageKind isPlaced imageBody fieldsTurn p k bs (Last q) refl t in only-end (kind-of k (c .known)) c
+
+-- those read and those ahead are the entries of the bytes ws
+pub record Counted (ws : List ℕ) (p : Persistent) (bs : List ℕ) : Type 0 where
+  pub headed : Headed p
+  pub sum : length (p .log) + entriesIn 0 bs ≡ entriesIn 0 ws
+
+count-at : (k : ℕ) (bs : List ℕ) → length (entriesAt k bs) ≡ cond (eqb k 35) 1 0
+count-at k bs = test (eqb k 35) (λ e. rw e) (λ e. rw e)
+
+module _ (ws : List ℕ) where
+  goes-on : (p q : Persistent) (b : ℕ) (bs : List ℕ) → Counted ws p (b ∷ bs) → turnOf p (b ∷ bs) ≡ Next q → Counted ws q (drop (imageBody b) bs)
+  unfolding entriesIn
+  goes-on p q b bs g t =
+      let a = log-adds p q b bs (g .headed) t in
+      let n : length (q .log) ≡ length (p .log) + cond (eqb b 35) 1 0 = rw (a .0, ← count-at b bs) (length-append (p .log) (entriesAt b bs)) in
+      record { headed = a .1; sum = omega (arith, n, g .sum, passed (imageBody b) bs) }
+
+  ends : (p q : Persistent) (b : ℕ) (bs : List ℕ) → Counted ws p (b ∷ bs) → turnOf p (b ∷ bs) ≡ Last q → length (q .log) ≡ entriesIn 0 ws
+  ends p q b bs g t =
+      let x = log-ends p q b bs t in
+      let z : entriesIn 0 (b ∷ bs) ≡ 0 = rw (x .0) (end-none bs (x .1 .0)) in
+      rw (← x .1 .1) (omega (arith, g .sum))
+
+pub entries-read : (bs : List ℕ) (q : Persistent) → recordsRead nothing 0 bs ≡ Reads q → length (q .log) ≡ entriesIn 0 bs
+entries-read bs q e =
+    along-read turnOf imageBody (Counted bs) (λ r. length (r .log) ≡ entriesIn 0 bs) (goes-on bs) (ends bs) bs 0 nothing q
+    (record { headed = λ z. refl; sum = omega arith }) e

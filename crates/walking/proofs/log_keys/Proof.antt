@@ -5,7 +5,7 @@ use mathlib.Core.Path.{_≡_, refl}
 use mathlib.Core.List.{map}
 use lib.ListN.{length, length-set, take}
 use borrow.Author.Needs.{needs}
-use Rattle.judging.specs.Reach.{noMark}
+use Rattle.rules.specs.Marks.{noMark}
 use Rattle.lookup.proofs.Map.{fill-end, fill-on}
 
 abbrev Inv-loop : tie.InvT-loop

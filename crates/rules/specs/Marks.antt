@@ -1,0 +1,31 @@
+-- A log entry of an image as the programs hold it: by its region and line, and by the place where its old line stands.
+use Prim.Native.Nat.{_+_, suc, zero, ℕ}
+use mathlib.Core.Bool.{cond}
+use mathlib.Core.List.{List, [], _∷_}
+use lib.Dec.{eqb}
+use lib.ListN.{drop, getD}
+use Rattle.rules.specs.Image.{Logged}
+use Rattle.rules.specs.Reader.{imageBody}
+use Rattle.rules.specs.declared.Mark.{Mark}
+
+-- the entry whose old line stands at a place
+abbrev pub markAt : ℕ → Logged → Mark
+markAt a e = record { key = e .key; line = e .line; at = a }
+
+-- a free place of a table
+abbrev pub noMark : Mark
+noMark = record { key = 0; line = 0; at = 0 }
+
+-- the entries of a log, each with its place
+abbrev pub marksOf : List ℕ → List Logged → List Mark
+marksOf ps [] = []
+marksOf ps (e ∷ es) = markAt (getD ps 0 0) e ∷ marksOf (drop 1 ps) es
+
+-- the places of the old lines: behind kind, key and line of each record of kind 35, where n bytes of a record before them are still to come
+unfoldable pub oldsFrom : ℕ → ℕ → List ℕ → List ℕ
+oldsFrom n at [] = []
+oldsFrom (suc n) at (b ∷ bs) = oldsFrom n (suc at) bs
+oldsFrom zero at (k ∷ bs) = cond (eqb k 35) ((at + 5) ∷ oldsFrom (imageBody k) (suc at) bs) (oldsFrom (imageBody k) (suc at) bs)
+
+abbrev pub oldsIn : List ℕ → List ℕ
+oldsIn bs = oldsFrom 0 0 bs
