@@ -1,5 +1,6 @@
 pub mod Lists
 pub mod Bytes
+pub mod Kinds
 pub mod Record
 pub mod Tables
 pub mod Slots
