@@ -356,7 +356,7 @@ fn sum(a: usize, b: usize) -> usize {
 fn read_event(file: &mut [u8], from: usize, line: &[u8]) -> EventRead {
     let e = trying::find(line, 0, 61);
     let at = within(file, room_at(from));
-    let read = text::read_text(&line[..e], &mut file[at..]);
+    let read = parsing::read_text(&line[..e], &mut file[at..]);
     let c = read.cursor;
     let row = trying::row_of(line);
     EventRead {

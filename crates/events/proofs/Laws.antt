@@ -1,11 +1,12 @@
 -- The record reader: an empty record, and one that has a kind.
-use Prim.Native.Nat.{_-_, _<_, _≤_, suc, ℕ}
+use Prim.Native.Nat.{_-_, _<_, suc, ℕ}
 use mathlib.Core.Path.{_≡_, refl}
 use mathlib.Core.Bool.{cond}
 use mathlib.Core.List.{List, [], _∷_}
 use lib.Dec.{ltb}
-use lib.ListN.{List·getD-eq-default, drop, getD, length}
+use lib.ListN.{drop, getD, length}
 use native.Mathlib.Omega.{arith}
+use Rattle.rules.specs.Kinds.{lastKind}
 use Rattle.rules.specs.Record.{bodyLength, eventOf, readRecord}
 use Rattle.rules.specs.declared.Reading.the-variants.{Refused, Whole}
 
@@ -15,12 +16,8 @@ read-empty [] e = refl
 read-empty (b ∷ bs) e = absurd (omega arith)
 
 pub read-some : (bs : List ℕ) → 0 < length bs → readRecord bs
-    ≡ cond (ltb 8 (getD bs 0 0)) (Refused 2)
+    ≡ cond (ltb lastKind (getD bs 0 0)) (Refused 2)
     (cond (ltb (length bs - 1) (bodyLength (getD bs 0 0))) (Refused 1) (Whole (eventOf (getD bs 0 0) (drop 1 bs))))
 unfolding readRecord
 read-some [] h = absurd (omega arith)
 read-some (b ∷ bs) h = let e : suc (length bs) - 1 ≡ length bs = omega arith in rw e
-
--- a cut, and what is no kind, has no body
-pub no-body : (k : ℕ) → 8 ≤ k → bodyLength k ≡ 0
-no-body k h = List·getD-eq-default (3 ∷ 1 ∷ 1 ∷ 3 ∷ 11 ∷ 1 ∷ 1 ∷ 1 ∷ []) 0 h

@@ -1,1 +1,3 @@
 pub mod Number
+pub mod Row
+pub mod Whole

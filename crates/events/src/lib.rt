@@ -1,22 +1,119 @@
-// The reader of an event record: one byte of kind, then a body whose length the kind fixes.
+// The event record, one byte of kind, then a body whose length the kind fixes: its kinds, its reader, and whether one stands whole at the front of a file.
 ghost use Prim.Native.Nat.{_≤_};
 ghost use mathlib.Core.Path.{_≡_};
-ghost use lib.ListN.{length};
+ghost use lib.ListN.{getD, length};
+ghost use Rattle.rules.specs.Kinds.{kindAt, widthsOf};
 ghost use Rattle.rules.specs.Record.{bodyLength, eventOf, readRecord};
 ghost use Rattle.events.specs.Number.{refusalOf};
+ghost use Rattle.events.specs.Row.{rowOf};
+ghost use Rattle.events.specs.Whole.{recordLength};
 use rules::Event;
 use rules::Reading;
+
+// A kind of event: its word in the readable form, filled up with spaces, how many letters it has, and the widths of the numbers in its body, filled up with zeros.
+pub struct KindRow {
+    pub word: [u8; LETTERS],
+    pub letters: usize,
+    pub widths: [usize; FIELDS],
+}
+
+// The longest word, and the most numbers in a body.
+pub const LETTERS: usize = 8;
+
+pub const FIELDS: usize = 4;
+
+// The highest kind.
+pub const LAST_KIND: u8 = 8;
+
+// The table of kinds, in the order of their numbers.
+const KINDS: [KindRow; LAST_KIND as usize + 1] = [
+    KindRow {
+        word: *b"setup   ",
+        letters: 5,
+        widths: [1, 2, 0, 0],
+    },
+    KindRow {
+        word: *b"begin   ",
+        letters: 5,
+        widths: [1, 0, 0, 0],
+    },
+    KindRow {
+        word: *b"end     ",
+        letters: 3,
+        widths: [1, 0, 0, 0],
+    },
+    KindRow {
+        word: *b"read    ",
+        letters: 4,
+        widths: [1, 1, 1, 0],
+    },
+    KindRow {
+        word: *b"write   ",
+        letters: 5,
+        widths: [1, 1, 1, 8],
+    },
+    KindRow {
+        word: *b"log-ack ",
+        letters: 7,
+        widths: [1, 0, 0, 0],
+    },
+    KindRow {
+        word: *b"data-ack",
+        letters: 8,
+        widths: [1, 0, 0, 0],
+    },
+    KindRow {
+        word: *b"fence   ",
+        letters: 5,
+        widths: [1, 0, 0, 0],
+    },
+    KindRow {
+        word: *b"cut     ",
+        letters: 3,
+        widths: [0, 0, 0, 0],
+    },
+];
+
+// The row of a kind; of what is no kind, no word and no widths.
+pub fn kind_row(kind: u8) -> KindRow
+    ensures { λ r. ⌜ r ≡ rowOf (kindAt kind) ⌝ }
+{
+    let k = kind as usize;
+    if kind <= LAST_KIND {
+        return KINDS[k];
+    }
+    KindRow {
+        word: *b"        ",
+        letters: 0,
+        widths: [0; FIELDS],
+    }
+}
+
+// The width of a number in a body, 0 if there is none.
+pub fn width_at(kind: u8, f: usize) -> usize
+    ensures { λ r. ⌜ r ≡ getD (widthsOf kind) f 0 ⌝ }
+{
+    let row = kind_row(kind);
+    let widths = row.widths;
+    if f < FIELDS {
+        return widths[f];
+    }
+    0
+}
 
 // The bytes of a body, by its kind.
 pub fn body_length(kind: u8) -> usize
     ensures { λ r. ⌜ r ≡ bodyLength kind ⌝ }
 {
-    let table: [usize; 8] = [3, 1, 1, 3, 11, 1, 1, 1];
-    let k = kind as usize;
-    if k < 8 {
-        return table[k];
+    let row = kind_row(kind);
+    let widths = row.widths;
+    let mut sum: usize = 0;
+    let mut f: usize = 0;
+    while f < FIELDS {
+        sum += widths[f];
+        f += 1;
     }
-    0
+    sum
 }
 
 fn setup_of(body: &[u8]) -> Event
@@ -73,7 +170,7 @@ pub fn read_record(bytes: &[u8]) -> Reading
         return Reading::Refused(1);
     }
     let kind = bytes[0];
-    if 8 < kind {
+    if LAST_KIND < kind {
         return Reading::Refused(2);
     }
     let there = bytes.len() - 1;
@@ -83,6 +180,25 @@ pub fn read_record(bytes: &[u8]) -> Reading
     }
     let e = event_of(kind, &bytes[1..]);
     Reading::Whole(e)
+}
+
+// The bytes of the record at the front, 0 if it is not whole.
+pub fn record_length(r: &[u8]) -> usize
+    ensures { λ n. ⌜ n ≡ recordLength (now (r .entry)) ⌝ }
+{
+    if r.len() == 0 {
+        return 0;
+    }
+    let kind = r[0];
+    if kind > LAST_KIND {
+        return 0;
+    }
+    let behind = r.len() - 1;
+    let wanted = body_length(kind);
+    if behind < wanted {
+        return 0;
+    }
+    wanted + 1
 }
 
 // The refusal that a reading means, 0 for an event.

@@ -1,6 +1,7 @@
 pub mod Measures
 pub mod Lists
 pub mod Bytes
+pub mod Kinds
 pub mod Record
 pub mod Tables
 pub mod Slots

@@ -1,19 +1,19 @@
--- "Event records. One byte of kind, then a body whose length the kind fixes."
+-- "One byte of kind, then a body whose length the kind fixes": the reader of event records, by the table of kinds.
 use Prim.Native.Nat.{suc, zero, ℕ}
 use mathlib.Core.Bool.{Bool, cond, false, true}
 use mathlib.Core.List.{List, [], _∷_}
 use lib.Dec.{eqb, ltb}
 use lib.ListN.{drop, getD, length, take}
 use Rattle.rules.specs.Bytes.{numOf}
+use Rattle.rules.specs.Kinds.{bodyLengths, lastKind}
 use Rattle.rules.specs.declared.Event.{Event}
 use Rattle.rules.specs.declared.Event.the-variants.{Begin, Cut, DataAck, End, Fence, LogAck, Read, Setup, Write}
 use Rattle.rules.specs.declared.Reading.{Reading}
 use Rattle.rules.specs.declared.Reading.the-variants.{Refused, Whole}
 
--- 0 setup: T (1 byte), L (2). 1 begin: thread (1). 2 end: thread. 3 read: thread, line, word (1 each). 4 write: thread, line, word, value (8).
--- 5 log acknowledgement: line. 6 data acknowledgement: line. 7 fence: thread. 8 cut: empty
+-- the bytes of the body of a kind
 abbrev pub bodyLength : ℕ → ℕ
-bodyLength k = getD (3 ∷ 1 ∷ 1 ∷ 3 ∷ 11 ∷ 1 ∷ 1 ∷ 1 ∷ []) k 0
+bodyLength k = getD bodyLengths k 0
 
 -- the event of a kind with its body; every kind above 7 is read as a cut, and only 8 gets here
 unfoldable pub eventOf : ℕ → List ℕ → Event
@@ -31,7 +31,7 @@ eventOf k body =
 unfoldable pub readRecord : List ℕ → Reading
 readRecord [] = Refused 1
 readRecord (k ∷ body) =
-    cond (ltb 8 k) (Refused 2) (cond (ltb (length body) (bodyLength k)) (Refused 1) (Whole (eventOf k body)))
+    cond (ltb lastKind k) (Refused 2) (cond (ltb (length body) (bodyLength k)) (Refused 1) (Whole (eventOf k body)))
 
 -- a record that does not end its file
 abbrev pub isWhole : Reading → Bool

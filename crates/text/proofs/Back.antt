@@ -9,14 +9,14 @@ use lib.ListN.{length, length-append}
 use native.Mathlib.Omega.{arith}
 use native.Mathlib.Nat.{div-lt-iff-lt-mul, pow-suc}
 use Rattle.rules.specs.Lists.{all, flat}
-use Rattle.text.proofs.Numbers.{digit-not, is-number}
-use Rattle.text.proofs.Reading.{glued-line}
-use Rattle.text.proofs.Words.{space-passed, word-start, words-empty}
-use Rattle.text.specs.Form.{nameOf}
-use Rattle.text.specs.Read.{inWord, isBreak, linesOf, numberFrom, withDigit, wordsIn}
-use Rattle.text.specs.Write.{decimal, digits, lineText, numberText}
-use Rattle.text.specs.declared.Number.{Number}
-use Rattle.text.specs.declared.Number.the-variants.{Is, Not}
+use Rattle.parsing.proofs.Numbers.{digit-not, is-number}
+use Rattle.parsing.proofs.Reading.{glued-line}
+use Rattle.parsing.proofs.Words.{space-passed, word-start, words-empty}
+use Rattle.parsing.specs.Read.{inWord, isBreak, linesOf, numberFrom, withDigit, wordsIn}
+use Rattle.output.specs.Decimal.{decimal, digits}
+use Rattle.printing.specs.Text.{lineText, numberText}
+use Rattle.parsing.specs.declared.Number.{Number}
+use Rattle.parsing.specs.declared.Number.the-variants.{Is, Not}
 use Rattle.undo.proofs.Laws.{and-true, test}
 
 -- ---- digits
@@ -167,8 +167,8 @@ lines-of (c ∷ cs) r p =
     rw (not-true (eqb c 10) (h .0)) (glued-line c cs (linesOf r) (linesOf (cs ++ (10 ∷ r))) (lines-of cs r (h .1)))
 
 -- a line of the text, and what stands behind it
-pub text-lines : (k : ℕ) (ns r : List ℕ) → all plain (nameOf k) ≡ true → linesOf (lineText k ns ++ r) ≡ (nameOf k ++ flat numberText ns) ∷ linesOf r
+pub text-lines : (word ns r : List ℕ) → all plain word ≡ true → linesOf (lineText word ns ++ r) ≡ (word ++ flat numberText ns) ∷ linesOf r
 unfolding lineText
-text-lines k ns r p =
-    rw (append-assoc (nameOf k) (flat numberText ns ++ (10 ∷ [])) r, append-assoc (flat numberText ns) (10 ∷ []) r, ← append-assoc (nameOf k) (flat numberText ns) (10 ∷ r))
-    (lines-of (nameOf k ++ flat numberText ns) r (all-append no-line (nameOf k) (flat numberText ns) (plain-no-line (nameOf k) p) (numbers-no-line ns)))
+text-lines word ns r p =
+    rw (append-assoc word (flat numberText ns ++ (10 ∷ [])) r, append-assoc (flat numberText ns) (10 ∷ []) r, ← append-assoc word (flat numberText ns) (10 ∷ r))
+    (lines-of (word ++ flat numberText ns) r (all-append no-line word (flat numberText ns) (plain-no-line word p) (numbers-no-line ns)))

@@ -1,23 +1,29 @@
 -- Fields and lines are read back.
-use Rattle.lines.proofs.Words.{bytes-num, Bytes, a-byte, no-byte}
 use Prim.Native.Nat.{_*_, _+_, _<_, _^_, _≤_, suc, zero, ℕ}
 use mathlib.Core.Path.{_∙_, _≡_, ap, refl, sym}
-use mathlib.Core.Bool.{true}
+use mathlib.Core.Bool.{Bool, _&&_, true}
 use mathlib.Core.List.{List, [], _++_, _∷_, map}
-use lib.ListN.{drop, length, length-drop, replicate, take, take-append-drop}
+use lib.Dec.{eqb, ltb}
+use lib.ListN.{drop, getD, length, length-drop, replicate, take, take-append-drop}
 use native.Mathlib.Omega.{arith}
-use borrow.Author.Tests.{lt-ltb, ne-eqb}
-use lib.Seq.{drop-append-le, length-take-le, take-append-le}
-use native.Mathlib.Nat.{pow-suc}
+use borrow.Author.Tests.{eqb-false, eqb-true, lt-ltb, ltb-true, ne-eqb}
+use lib.Seq.{length-take-le}
+use native.Mathlib.Nat.{add-zero, pow-suc, zero-add}
+use Rattle.events.proofs.Table.{body-total, fitting}
+use Rattle.events.specs.Row.{isWidth}
+use Rattle.lines.proofs.Words.{Bytes, a-byte, bytes-num, no-byte}
+use Rattle.output.specs.Decimal.{decimal}
+use Rattle.parsing.proofs.Numbers.{number-some}
+use Rattle.parsing.specs.Read.{behind, bytesLine, complete, field, fieldsFrom, got, kindBytes, kindOf, kindThen, mostOf, noWord, numberIn, otherLine, same, widthAt, wordsIn, wordsRead}
+use Rattle.parsing.specs.declared.Number.the-variants.{Is}
+use Rattle.printing.proofs.Pieces.{numbers-front}
+use Rattle.printing.specs.Text.{numberText, numbersOf}
 use Rattle.rules.specs.Bytes.{bytesOf, numOf}
+use Rattle.rules.specs.Kinds.{bytesWord, kindAt, kinds, lastKind, total, widthsOf, wordOf}
 use Rattle.rules.specs.Lists.{all, flat, place}
 use Rattle.rules.specs.Record.{bodyLength}
 use Rattle.text.proofs.Back.{decimal-back, line-words, plain}
-use Rattle.text.proofs.Numbers.{number-some}
-use Rattle.text.specs.Form.{nameOf, names, widths, widthsOf}
-use Rattle.text.specs.Read.{behind, complete, field, fieldsFrom, got, kindBytes, kindOf, kindThen, mostOf, numberIn, same, widthAt, wordsIn, wordsRead}
-use Rattle.text.specs.Write.{decimal, numberText, numbersOf}
-use Rattle.text.specs.declared.Number.the-variants.{Is}
+use Rattle.undo.proofs.Laws.{and-true, test}
 
 -- ---- the bytes of a field
 
@@ -67,10 +73,6 @@ field-bytes w bs b l = rw (length-take-le w bs l) at (bytes-num (bytes-take w b)
 
 -- ---- the fields of a line
 
-total : List ℕ → ℕ
-total [] = 0
-total (w ∷ ws) = w + total ws
-
 -- the widths ws are those of a line of kind k from field f on
 data Follows (k : ℕ) : ℕ → List ℕ → Type 0 where
   done : {f : ℕ} → complete k f ≡ true → Follows k f []
@@ -93,7 +95,7 @@ nil-of [] e = refl
 nil-of (b ∷ bs) e = absurd (omega arith)
 
 fields-back : (k f : ℕ) (ws bs : List ℕ) → Follows k f ws → Bytes bs → length bs ≡ total ws → fieldsFrom k f (map decimal (numbersOf ws bs)) ≡ got bs true
-unfolding numbersOf total
+unfolding numbersOf
 fields-back k f [] bs (done e) b l = rw (nil-of bs l) (got-nil k f e)
 fields-back k f (w ∷ ws) bs (one e h fs) b l =
     let t : w ≤ length bs = omega arith in
@@ -102,86 +104,102 @@ fields-back k f (w ∷ ws) bs (one e h fs) b l =
     let ih = fields-back k (suc f) ws (drop w bs) fs (bytes-drop w b) d in
     got-one k f (numOf (take w bs)) (decimal (numOf (take w bs))) (map decimal (numbersOf ws (drop w bs))) n ∙ rw (e, ih, field-bytes w bs b t, behind-got (take w bs) (drop w bs), take-append-drop)
 
--- the numbers of a body are in its own bytes, whatever stands behind
-numbers-front : (ws xs ys : List ℕ) → total ws ≤ length xs → numbersOf ws (xs ++ ys) ≡ numbersOf ws xs
-unfolding numbersOf total
-numbers-front [] xs ys l = refl
-numbers-front (w ∷ ws) xs ys l =
-    let t : w ≤ length xs = omega arith in
-    let d : total ws ≤ length (drop w xs) = rw length-drop (omega arith) in
-    rw (take-append-le w xs ys t, drop-append-le w xs ys t, numbers-front ws (drop w xs) ys d)
-
 -- ---- the kinds
 
+-- a width of the table is one of these
+is-width : (w : ℕ) → isWidth w ≡ true → Width w
+is-width w e = test (eqb w 1) (λ a. rw (eqb-true w 1 a) width1) (λ a. test (eqb w 2) (λ b. rw (eqb-true w 2 b) width2) (λ b. rw (eqb-true w 8 (rw (a, b) at e)) width8))
+
+-- the numbers of an event
+event-width : (k f : ℕ) → k ≤ lastKind → widthAt k f ≡ getD (widthsOf k) f 0
+unfolding widthAt
+event-width k f h = rw (ne-eqb k bytesLine (λ e. omega arith))
+
+event-complete : (k f : ℕ) → k ≤ lastKind → getD (widthsOf k) f 0 ≡ 0 → complete k f ≡ true
+unfolding complete
+event-complete k f h e = rw (ne-eqb k bytesLine (λ z. omega arith), event-width k f h, e)
+
+follow : (k f : ℕ) (ws : List ℕ) → k ≤ lastKind → all isWidth ws ≡ true → ((i : ℕ) → getD (widthsOf k) (f + i) 0 ≡ getD ws i 0) → Follows k f ws
+follow k f [] h e g = done (event-complete k f h (let z = g 0 in rw add-zero at z))
+follow k f (w ∷ ws) h e g =
+    let p = and-true (isWidth w) (all isWidth ws) e in
+    one (event-width k f h ∙ (let z = g 0 in rw add-zero at z)) (is-width w (p .0))
+    (follow k (suc f) ws h (p .1) (λ i. let z = g (suc i) in let n : f + suc i ≡ suc f + i = omega arith in rw n at z))
+
+-- every kind of the table has a word that begins its line and nothing else: one test over the table
+abbrev named : ℕ → Bool
+named k = ltb 0 (length (wordOf k)) && (all plain (wordOf k) && eqb (kindOf (wordOf k)) k)
+
+-- a test of every number below n
+below : (ℕ → Bool) → ℕ → Bool
+below p zero = true
+below p (suc n) = p n && below p n
+
+below-at : (p : ℕ → Bool) (n k : ℕ) → below p n ≡ true → k < n → p k ≡ true
+unfolding below
+below-at p zero k e h = absurd (omega arith)
+below-at p (suc n) k e h =
+    let q = and-true (p n) (below p n) e in
+    test (eqb k n) (λ a. rw (eqb-true k n a) (q .0)) (λ a. below-at p n k (q .1) (omega (arith, eqb-false k n a)))
+
+all-named : below named (length kinds) ≡ true
+unfolding below kindAt plain kindOf place same
+all-named = refl
+
 record Kind (k : ℕ) : Type 0 where
-  some : 0 < length (nameOf k)
-  pure : all plain (nameOf k) ≡ true
-  named : kindOf (nameOf k) ≡ k
+  some : 0 < length (wordOf k)
+  pure : all plain (wordOf k) ≡ true
+  begins : kindOf (wordOf k) ≡ k
   follows : Follows k 0 (widthsOf k)
-  long : total (widthsOf k) ≡ bodyLength k
-  short : length (nameOf k) ≤ 8
-  few : length (widthsOf k) ≤ bodyLength k
 
-kinds : (k : ℕ) → k ≤ 8 → Kind k
-unfolding names plain kindOf place same widthsOf widths total widthAt complete
-kinds zero h = record { some = omega arith; pure = refl; named = refl; follows = (one refl width1 (one refl width2 (done refl))); long = refl; short = omega arith; few = omega arith }
-kinds (suc zero) h = record { some = omega arith; pure = refl; named = refl; follows = (one refl width1 (done refl)); long = refl; short = omega arith; few = omega arith }
-kinds (suc (suc zero)) h = record { some = omega arith; pure = refl; named = refl; follows = (one refl width1 (done refl)); long = refl; short = omega arith; few = omega arith }
-kinds (suc (suc (suc zero))) h = record { some = omega arith; pure = refl; named = refl; follows = (one refl width1 (one refl width1 (one refl width1 (done refl)))); long = refl; short = omega arith; few = omega arith }
-kinds (suc (suc (suc (suc zero)))) h = record { some = omega arith; pure = refl; named = refl; follows = (one refl width1 (one refl width1 (one refl width1 (one refl width8 (done refl))))); long = refl; short = omega arith; few = omega arith }
-kinds (suc (suc (suc (suc (suc zero))))) h = record { some = omega arith; pure = refl; named = refl; follows = (one refl width1 (done refl)); long = refl; short = omega arith; few = omega arith }
-kinds (suc (suc (suc (suc (suc (suc zero)))))) h = record { some = omega arith; pure = refl; named = refl; follows = (one refl width1 (done refl)); long = refl; short = omega arith; few = omega arith }
-kinds (suc (suc (suc (suc (suc (suc (suc zero))))))) h = record { some = omega arith; pure = refl; named = refl; follows = (one refl width1 (done refl)); long = refl; short = omega arith; few = omega arith }
-kinds (suc (suc (suc (suc (suc (suc (suc (suc zero)))))))) h = record { some = omega arith; pure = refl; named = refl; follows = (done refl); long = refl; short = omega arith; few = omega arith }
-kinds (suc (suc (suc (suc (suc (suc (suc (suc (suc k))))))))) h = absurd (omega arith)
-
--- the numbers of a record are in its own bytes, whatever stands behind
-pub numbers-before : (k : ℕ) (body f : List ℕ) → k ≤ 8 → bodyLength k ≤ length body → numbersOf (widthsOf k) (body ++ f) ≡ numbersOf (widthsOf k) body
-numbers-before k body f h l = numbers-front (widthsOf k) body f (omega (arith, kinds k h .long))
-
-pub name-short : (k : ℕ) → k ≤ 8 → length (nameOf k) ≤ 8
-name-short k h = kinds k h .short
-
-pub few-numbers : (k : ℕ) → k ≤ 8 → length (widthsOf k) ≤ bodyLength k
-few-numbers k h = kinds k h .few
+kind : (k : ℕ) → k ≤ lastKind → Kind k
+kind k h =
+    let t = below-at named (length kinds) k all-named (omega arith) in
+    let a = and-true (ltb 0 (length (wordOf k))) (all plain (wordOf k) && eqb (kindOf (wordOf k)) k) t in
+    let b = and-true (all plain (wordOf k)) (eqb (kindOf (wordOf k)) k) (a .1) in
+    record {
+      some = ltb-true 0 (length (wordOf k)) (a .0);
+      pure = b .0;
+      begins = eqb-true (kindOf (wordOf k)) k (b .1);
+      follows = follow k 0 (widthsOf k) h (fitting k .wide) (λ i. rw (zero-add i));
+    }
 
 -- ---- a line of an event
 
-kind-then : (k : ℕ) (ws : List (List ℕ)) → k ≤ 8 → kindThen k ws ≡ behind (k ∷ []) (fieldsFrom k 0 ws)
+kind-then : (k : ℕ) (ws : List (List ℕ)) → k ≤ lastKind → kindThen k ws ≡ behind (k ∷ []) (fieldsFrom k 0 ws)
 unfolding kindThen kindBytes
-kind-then k ws h = rw (ne-eqb k 10 (λ e. omega arith), ne-eqb k 9 (λ e. omega arith))
+kind-then k ws h = rw (ne-eqb k noWord (λ e. omega arith), ne-eqb k bytesLine (λ e. omega arith))
 
 words-first : (w : List ℕ) (ws : List (List ℕ)) → wordsRead (w ∷ ws) ≡ kindThen (kindOf w) ws
 unfolding wordsRead
 words-first w ws = refl
 
-pub name-plain : (k : ℕ) → k ≤ 8 → all plain (nameOf k) ≡ true
-name-plain k h = kinds k h .pure
+pub name-plain : (k : ℕ) → k ≤ lastKind → all plain (wordOf k) ≡ true
+name-plain k h = kind k h .pure
 
-pub event-back : (k : ℕ) (body : List ℕ) → k ≤ 8 → Bytes body → bodyLength k ≤ length body → wordsRead (wordsIn (nameOf k ++ flat numberText (numbersOf (widthsOf k) body))) ≡ got (k ∷ take (bodyLength k) body) true
+pub event-back : (k : ℕ) (body : List ℕ) → k ≤ lastKind → Bytes body → bodyLength k ≤ length body → wordsRead (wordsIn (wordOf k ++ flat numberText (numbersOf (widthsOf k) body))) ≡ got (k ∷ take (bodyLength k) body) true
 event-back k body h b l =
-    let kd = kinds k h in
+    let kd = kind k h in
     let n = bodyLength k in
-    let t : length (take n body) ≡ total (widthsOf k) = length-take-le n body l ∙ sym (kd .long) in
+    let t : length (take n body) ≡ total (widthsOf k) = length-take-le n body l ∙ body-total k in
     let f : numbersOf (widthsOf k) body ≡ numbersOf (widthsOf k) (take n body) = ap (numbersOf (widthsOf k)) (sym (take-append-drop n body)) ∙ numbers-front (widthsOf k) (take n body) (drop n body) (omega arith) in
-    rw (f, line-words (nameOf k) (numbersOf (widthsOf k) (take n body)) (kd .some) (kd .pure), words-first, kd .named, kind-then k (map decimal (numbersOf (widthsOf k) (take n body))) h, fields-back k 0 (widthsOf k) (take n body) (kd .follows) (bytes-take n b) t, behind-got)
+    rw (f, line-words (wordOf k) (numbersOf (widthsOf k) (take n body)) (kd .some) (kd .pure), words-first, kd .begins, kind-then k (map decimal (numbersOf (widthsOf k) (take n body))) h, fields-back k 0 (widthsOf k) (take n body) (kd .follows) (bytes-take n b) t, behind-got)
 
 -- ---- a line of bytes
 
-bytes-width : (f : ℕ) → widthAt 9 f ≡ 1
+bytes-width : (f : ℕ) → widthAt bytesLine f ≡ 1
 unfolding widthAt
 bytes-width f = refl
 
-bytes-complete : (f : ℕ) → 0 < f → complete 9 f ≡ true
+bytes-complete : (f : ℕ) → 0 < f → complete bytesLine f ≡ true
 unfolding complete
 bytes-complete f h = lt-ltb 0 f h
 
-bytes-follow : (f n : ℕ) → 0 < f + n → Follows 9 f (replicate n 1)
+bytes-follow : (f n : ℕ) → 0 < f + n → Follows bytesLine f (replicate n 1)
 bytes-follow f zero h = done (bytes-complete f (omega arith))
 bytes-follow f (suc n) h = one (bytes-width f) width1 (bytes-follow (suc f) n (omega arith))
 
 ones-total : (n : ℕ) → total (replicate n 1) ≡ n
-unfolding total
 ones-total zero = refl
 ones-total (suc n) = rw (ones-total n) (omega arith)
 
@@ -190,24 +208,20 @@ unfolding numbersOf numOf
 ones-numbers [] = refl
 ones-numbers (b ∷ bs) = let e : b + 256 * 0 ≡ b = omega arith in rw (e, ones-numbers bs)
 
-bytes-then : (ws : List (List ℕ)) → kindThen 9 ws ≡ behind [] (fieldsFrom 9 0 ws)
+bytes-then : (ws : List (List ℕ)) → kindThen bytesLine ws ≡ behind [] (fieldsFrom bytesLine 0 ws)
 unfolding kindThen kindBytes
 bytes-then ws = refl
 
-bytes-some : 0 < length (nameOf 9)
-unfolding names
-bytes-some = omega arith
-
-pub bytes-plain : all plain (nameOf 9) ≡ true
-unfolding names plain
+pub bytes-plain : all plain bytesWord ≡ true
+unfolding plain
 bytes-plain = refl
 
-bytes-named : kindOf (nameOf 9) ≡ 9
-unfolding names kindOf place same
+bytes-named : kindOf bytesWord ≡ bytesLine
+unfolding kindOf otherLine place same
 bytes-named = refl
 
-pub bytes-back : (bs : List ℕ) → 0 < length bs → Bytes bs → wordsRead (wordsIn (nameOf 9 ++ flat numberText bs)) ≡ got bs true
+pub bytes-back : (bs : List ℕ) → 0 < length bs → Bytes bs → wordsRead (wordsIn (bytesWord ++ flat numberText bs)) ≡ got bs true
 bytes-back bs z b =
     let ws : List ℕ = replicate (length bs) 1 in
-    let f : fieldsFrom 9 0 (map decimal bs) ≡ got bs true = rw (ones-numbers bs) at (fields-back 9 0 ws bs (bytes-follow 0 (length bs) (omega arith)) b (sym (ones-total (length bs)))) in
-    rw (line-words (nameOf 9) bs bytes-some bytes-plain, words-first, bytes-named, bytes-then, f, behind-got)
+    let f : fieldsFrom bytesLine 0 (map decimal bs) ≡ got bs true = rw (ones-numbers bs) at (fields-back bytesLine 0 ws bs (bytes-follow 0 (length bs) (omega arith)) b (sym (ones-total (length bs)))) in
+    rw (line-words bytesWord bs (omega arith) bytes-plain, words-first, bytes-named, bytes-then, f, behind-got)

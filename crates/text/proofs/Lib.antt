@@ -1,14 +1,3 @@
-pub mod Rooms
-pub mod Digits
-pub mod Fields
-pub mod Records
-pub mod Widths
-pub mod Numbers
-pub mod Words
-pub mod Reading
 pub mod Back
 pub mod BackLines
-pub mod Pieces
-pub mod Lengths
-pub mod Lines
 pub mod Main

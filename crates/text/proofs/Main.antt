@@ -11,11 +11,12 @@ use Rattle.rules.specs.Lists.{flat}
 use Rattle.rules.specs.Record.{bodyLength, isWhole, readRecord, recordsFrom}
 use Rattle.text.proofs.Back.{text-lines}
 use Rattle.text.proofs.BackLines.{bytes-back, bytes-plain, event-back, name-plain}
-use Rattle.text.proofs.Records.{bytes-line, records-none, records-off, records-on, records-pass, stands, whole-line, whole-pos}
+use Rattle.events.proofs.Records.{records-none, records-off, records-on, records-pass, stands, whole-pos}
+use Rattle.printing.proofs.Records.{bytes-line, whole-line}
 use Rattle.text.specs.Claim.{RoundTrip}
-use Rattle.text.specs.Form.{nameOf, widthsOf}
-use Rattle.text.specs.Read.{bytesOfText, got, lineThen, linesOf, linesRead, readAs, wordsIn, wordsRead}
-use Rattle.text.specs.Write.{numberText, numbersOf, recordText, textOf}
+use Rattle.rules.specs.Kinds.{bytesWord, widthsOf, wordOf}
+use Rattle.parsing.specs.Read.{bytesOfText, got, lineThen, linesOf, linesRead, readAs, wordsIn, wordsRead}
+use Rattle.printing.specs.Text.{numberText, numbersOf, recordText, textOf}
 use Rattle.undo.proofs.Laws.{test}
 use Rattle.undo.proofs.Shape.{rest}
 
@@ -44,13 +45,13 @@ whole-back : (b : ℕ) (bs : List ℕ) → Bytes bs → isWhole (readRecord (b �
 whole-back b bs hs w rest cs n e =
     let p = whole-pos (b ∷ bs) w in
     let s = stands (b ∷ bs) p in
-    rw (whole-line (b ∷ bs) p, text-lines b (numbersOf (widthsOf b) bs) rest (name-plain b (s .known)))
-    (read-on (nameOf b ++ flat numberText (numbersOf (widthsOf b) bs)) (linesOf rest) (b ∷ take (bodyLength b) bs) cs n (event-back b bs (s .known) hs (omega (arith, s .room-for))) e)
+    rw (whole-line (b ∷ bs) p, text-lines (wordOf b) (numbersOf (widthsOf b) bs) rest (name-plain b (s .known)))
+    (read-on (wordOf b ++ flat numberText (numbersOf (widthsOf b) bs)) (linesOf rest) (b ∷ take (bodyLength b) bs) cs n (event-back b bs (s .known) hs (omega (arith, s .room-for))) e)
 
 rest-back : (b : ℕ) (bs : List ℕ) → Bytes (b ∷ bs) → isWhole (readRecord (b ∷ bs)) ≡ false → linesRead (linesOf (recordText (b ∷ bs) ++ [])) ≡ readAs (b ∷ bs) 1 true
 rest-back b bs hs w =
-    rw (bytes-line (b ∷ bs) w, text-lines 9 (b ∷ bs) [] bytes-plain)
-    (read-on (nameOf 9 ++ flat numberText (b ∷ bs)) (linesOf []) (b ∷ bs) [] 0 (bytes-back (b ∷ bs) (omega arith) hs) read-none ∙ rw append-nil)
+    rw (bytes-line (b ∷ bs) w, text-lines bytesWord (b ∷ bs) [] bytes-plain)
+    (read-on (bytesWord ++ flat numberText (b ∷ bs)) (linesOf []) (b ∷ bs) [] 0 (bytes-back (b ∷ bs) (omega arith) hs) read-none ∙ rw append-nil)
 
 -- the text of the records from a place on
 from-back : (k : ℕ) {bs : List ℕ} → Bytes bs → linesRead (linesOf (flat recordText (recordsFrom k bs))) ≡ readAs (drop k bs) (length (recordsFrom k bs)) true

@@ -5,7 +5,7 @@ use mathlib.Core.Bool.{Bool, cond, true}
 use mathlib.Core.List.{List}
 use lib.Dec.{leb}
 use lib.ListN.{drop, length, take}
-use Rattle.text.specs.Read.{bytesOfText, lastLine}
+use Rattle.parsing.specs.Read.{bytesOfText, lastLine}
 use Rattle.tobytes.specs.declared.Left.{Left}
 
 -- where the lines of a piece end that are read: behind the last whole line; of the last piece all

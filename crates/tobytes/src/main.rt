@@ -5,7 +5,7 @@ ghost use Prim.Native.Nat.{_≤_};
 ghost use mathlib.Core.Path.{_≡_};
 ghost use mathlib.Core.Bool.{true};
 ghost use lib.ListN.{length, take};
-ghost use Rattle.text.specs.Read.{bytesOfText, goodBytes};
+ghost use Rattle.parsing.specs.Read.{bytesOfText, goodBytes};
 ghost use Rattle.tobytes.specs.Results.{Pieced, lineEnd};
 
 // How many lines of the text are read, and whether all were in the form and went out.
@@ -50,7 +50,7 @@ fn both(a: bool, b: bool) -> bool
 fn lines(text: &[u8], out: &mut [u8], before: u64) -> Read
     ensures { λ r. ⌜ (r .ok ≡ true → bytesOfText (now (text .entry)) .ok ≡ true) ⌝ }
 {
-    let r = text::read_text(text, out);
+    let r = parsing::read_text(text, out);
     let c = r.cursor;
     if c.short {
         return Read {
@@ -76,7 +76,7 @@ fn line_end(piece: &[u8], last: bool) -> usize
     if last {
         return piece.len();
     }
-    text::whole_lines(piece)
+    parsing::whole_lines(piece)
 }
 
 // Reads a piece behind the bytes that are held, and its lines.

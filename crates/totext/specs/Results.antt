@@ -3,7 +3,7 @@ use Prim.Native.Nat.{ℕ}
 use mathlib.Core.Path.{_≡_}
 use mathlib.Core.List.{List}
 use lib.ListN.{drop, take}
-use Rattle.text.specs.Write.{wholeLength}
+use Rattle.events.specs.Whole.{wholeLength}
 use Rattle.totext.specs.declared.Left.{Left}
 
 -- from a buffer d, of which the first `have` bytes are held, to d′: a piece that begins with those is passed up to the end of its whole records.

@@ -1,12 +1,13 @@
 // Reads an event file on standard input and writes it in the readable form, one event a line. The file may have any length: it is read in pieces.
 // No contract can say what goes out: the functions that write ask it of their callers. In whatever pieces a file comes, these texts make its text (`InPieces`).
-use text::Cursor;
+use output::Cursor;
 ghost use Prim.Native.Nat.{_*_, _≤_};
 ghost use mathlib.Core.Path.{_≡_};
 ghost use lib.ListN.{length, take};
 ghost use Rattle.rules.specs.Lists.{flat};
-ghost use Rattle.text.specs.Form.{nameOf};
-ghost use Rattle.text.specs.Write.{numberText, recordLength, wholeLength, wholeText};
+ghost use Rattle.rules.specs.Kinds.{bytesWord};
+ghost use Rattle.events.specs.Whole.{recordLength, wholeLength};
+ghost use Rattle.printing.specs.Text.{numberText, wholeText};
 ghost use Rattle.totext.specs.Results.{Pieced};
 
 // A piece of the file, and its text: a byte is at most 32 bytes of text.
@@ -43,7 +44,7 @@ fn send_numbers(piece: &[u8], out: &[u8], n: usize) -> bool
 
 // Writes the word of a line of bytes.
 fn send_word(word: &[u8]) -> bool
-    requires { ⌜ now word ≡ nameOf 9 ⌝ }
+    requires { ⌜ now word ≡ bytesWord ⌝ }
 {
     pieces::flush(word, word.len())
 }
@@ -53,7 +54,7 @@ fn records(piece: &[u8], out: &mut [u8]) -> Sent
     requires { ⌜ 32 * length (now piece) ≤ length (now out) ⌝ }
     ensures { λ r. ⌜ r .passed ≡ wholeLength (now (piece .entry)) ⌝ }
 {
-    let p = text::put_whole(
+    let p = printing::put_whole(
         out,
         Cursor {
             at: 0,
@@ -72,7 +73,7 @@ fn is_unknown(file: &[u8]) -> bool {
     if file.len() == 0 {
         return false;
     }
-    8 < file[0]
+    events::LAST_KIND < file[0]
 }
 
 // Whether a whole record can come behind `held` bytes, where n bytes were there and `have` of them before.
@@ -136,7 +137,7 @@ fn numbers(file: &[u8], n: usize, out: &mut [u8]) -> bool
     if file.len() < n {
         return false;
     }
-    let c = text::put_numbers(
+    let c = printing::put_numbers(
         out,
         Cursor {
             at: 0,

@@ -9,7 +9,7 @@ use native.Mathlib.Omega.{arith}
 use native.Mathlib.Nat.{add-suc, add-zero, suc-add}
 use native.Mathlib.Numerals.{add-one}
 use borrow.Author.Tests.{lt-ltb}
-use Rattle.text.specs.Room.{put, puts, room}
+use Rattle.output.specs.Room.{put, puts, room}
 
 -- bytes for which there is room
 pub puts-fit : (d bs : List ℕ) (at : ℕ) → at + length bs ≤ length d

@@ -14,9 +14,8 @@ use Rattle.rules.specs.Record.{bodyLength, isWhole, readRecord, recordsFrom, re
 use Rattle.rules.specs.Run.{run}
 use Rattle.rules.specs.Step.{step}
 use Rattle.rules.specs.Tables.{Board}
-use Rattle.text.proofs.Records.{fits-more, length-empty, length-more, length-off, not-whole, records-skip, stands}
-use Rattle.text.proofs.Rooms.{pos}
-use Rattle.text.specs.Write.{recordLength, wholeLength}
+use Rattle.events.proofs.Records.{fits-more, length-empty, length-more, length-off, not-whole, pos, records-skip, stands}
+use Rattle.events.specs.Whole.{recordLength, wholeLength}
 use Rattle.tracing.specs.Pieces.{RanPiece, dueIn, fitting, leftOf, restAt}
 use Rattle.tracing.specs.Results.{TracedEvent}
 use Rattle.tracing.specs.Text.{eventText, longestText, traceText}

@@ -22,7 +22,7 @@ use Rattle.rules.specs.Slots.{carried, flownSlots, slotFrom, written}
 use Rattle.rules.specs.Step.{apply, fence, settledBoard, setup, step, stepBy, stepEvent}
 use Rattle.rules.specs.Tables.{Zero, fresh, lentFrom, lentLine, ownerOf, startLines}
 use Rattle.rules.specs.Walk.{entriesFrom, entriesOf, nextPlace, walk, walkEntries, walkFrom, without}
-use Rattle.text.specs.Write.{decimal, digits}
+use Rattle.output.specs.Decimal.{decimal, digits}
 use Rattle.tracing.specs.Text.{answerText, behindText, cutText, eventText, finish, flatTo, imageBuffer, lineText, memoryText, numberText, recoveredText, traceText, wordText}
 
 pub file : List ℕ

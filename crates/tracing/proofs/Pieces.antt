@@ -10,9 +10,8 @@ use Rattle.rules.specs.Record.{bodyLength, isWhole, readRecord, recordsFrom, re
 use Rattle.rules.specs.Run.{run}
 use Rattle.rules.specs.Step.{step}
 use Rattle.rules.specs.Tables.{Board}
-use Rattle.text.proofs.Pieces.{kind-front, onto, read-front, records-split, wholes}
-use Rattle.text.proofs.Records.{stands, whole-pos}
-use Rattle.text.specs.Write.{wholeFrom, wholeLength}
+use Rattle.events.proofs.Records.{kind-front, onto, read-front, records-split, stands, whole-pos, wholes}
+use Rattle.events.specs.Whole.{wholeFrom, wholeLength}
 use Rattle.tracing.specs.Pieces.{GoesOn, dueIn, leftOf, restAt}
 use Rattle.tracing.specs.Text.{eventText, traceText}
 use Rattle.undo.proofs.Laws.{test}

@@ -11,8 +11,8 @@ use native.Mathlib.Nat.{mul-suc}
 use Rattle.rules.specs.Step.{Stepped, step}
 use Rattle.rules.specs.Tables.{Board}
 use Rattle.rules.specs.declared.Answer.{Answer}
-use Rattle.text.specs.Write.{decimal}
-use Rattle.text.proofs.Lengths.{decimal-short, either-short}
+use Rattle.output.specs.Decimal.{decimal}
+use Rattle.output.proofs.Digits.{decimal-short, either-short}
 use Rattle.tracing.specs.Results.{Put}
 use Rattle.tracing.specs.Text.{answerText, behindText, cutText, eventText, flatTo, imageLine, lineText, memoryText, numberText, wordText}
 

@@ -9,7 +9,7 @@ use Rattle.rules.specs.Record.{isWhole, readRecord, recordsOf}
 use Rattle.rules.specs.Run.{run}
 use Rattle.rules.specs.Step.{step}
 use Rattle.rules.specs.Tables.{Board}
-use Rattle.text.specs.Write.{wholeLength}
+use Rattle.events.specs.Whole.{wholeLength}
 use Rattle.tracing.specs.Results.{Put}
 use Rattle.tracing.specs.Text.{eventText, longestText, traceText}
 use Rattle.tracing.specs.declared.TracedPiece.{TracedPiece}

@@ -7,7 +7,7 @@ use lib.ListN.{length}
 use lib.Seq.{sets}
 use Rattle.rules.specs.Step.{step}
 use Rattle.rules.specs.Tables.{Board}
-use Rattle.text.specs.Write.{recordLength}
+use Rattle.events.specs.Whole.{recordLength}
 use Rattle.tracing.specs.Text.{eventText}
 use Rattle.tracing.specs.declared.Traced.{Traced}
 

@@ -12,7 +12,7 @@ use Rattle.rules.specs.Run.{Wrote}
 use Rattle.rules.specs.Step.{Stepped, step}
 use Rattle.rules.specs.Tables.{Board}
 use Rattle.rules.specs.declared.Answer.{Answer}
-use Rattle.text.specs.Write.{decimal}
+use Rattle.output.specs.Decimal.{decimal}
 
 -- a number and the byte that ends it
 unfoldable pub numberText : ℕ → ℕ → List ℕ

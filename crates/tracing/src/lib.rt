@@ -1,9 +1,9 @@
 // The text that a trace prints: a line for each answer, and behind an accepted cut a line for each word of the recovered memory that is not zero.
 // Every writer has one contract shape: given room for its bytes from `at` on, the buffer at exit has them there and nothing else changed, and the
 // answer is the place behind them.
+use output::Cursor;
 use rows::Head;
 use rules::Answer;
-use text::Cursor;
 ghost use Prim.Native.Nat.{ℕ, _*_, _+_, _≤_};
 ghost use mathlib.Core.Path.{_≡_};
 ghost use mathlib.Core.Bool.{Bool, cond, true};
@@ -12,7 +12,8 @@ ghost use lib.Dec.{leb, ltb};
 ghost use lib.ListN.{getD, length};
 ghost use Rattle.rules.specs.Image.{save};
 ghost use Rattle.rows.specs.Whole.{boardOf};
-ghost use Rattle.text.specs.Write.{decimal, recordLength};
+ghost use Rattle.events.specs.Whole.{recordLength};
+ghost use Rattle.output.specs.Decimal.{decimal};
 ghost use Rattle.tracing.specs.Text.{answerText, behindText, cutText, imageBuffer, imageLine, lineText, longestText, memoryText, numberText, recovered, recoveredText, wordText};
 ghost use Rattle.tracing.specs.Results.{Put, TracedEvent};
 ghost use Rattle.tracing.specs.Pieces.{GoesOn, Ran};
@@ -31,7 +32,7 @@ fn put_decimal(dst: &mut [u8], at: usize, n: u64) -> usize
     requires { ⌜ at + length (decimal n) ≤ length (now dst) ⌝ }
     ensures { λ r. ⌜ Put (now (dst .entry)) (now (dst .exit)) at r (decimal n) ⌝ }
 {
-    let c = text::put_decimal(dst, Cursor { at, short: false }, n);
+    let c = output::put_decimal(dst, Cursor { at, short: false }, n);
     c.at
 }
 
@@ -250,7 +251,7 @@ fn trace_step(
     Traced {
         head: g,
         at: q,
-        passed: text::record_length(bytes),
+        passed: events::record_length(bytes),
         room: true,
     }
 }
@@ -316,7 +317,7 @@ fn is_due(rest: &[u8], last: bool) -> bool
     if last {
         return 0 < rest.len();
     }
-    0 < text::record_length(rest)
+    0 < events::record_length(rest)
 }
 
 // What a piece leaves: the numbers beside the rows, the place behind its text, the bytes that are run, and whether the next record found no room.

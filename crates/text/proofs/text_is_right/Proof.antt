@@ -1,6 +1,6 @@
 use Rattle.text.proofs.Main.{round-trip}
-use Rattle.text.proofs.Lines.{lines-in-pieces}
-use Rattle.text.proofs.Pieces.{in-pieces}
+use Rattle.parsing.proofs.Lines.{lines-in-pieces}
+use Rattle.printing.proofs.Pieces.{in-pieces}
 use Rattle.text.proofs.text_is_right.Statement.{statement}
 use Rattle.text.proofs.text_is_right.Tie as tie
 

@@ -1,6 +1,6 @@
 use mathlib.Core.Path.{_∙_}
 use native.Mathlib.Omega.{arith}
-use Rattle.text.proofs.Lines.{last-in}
+use Rattle.parsing.proofs.Lines.{last-in}
 use Rattle.tobytes.specs.Results.{lineEnd}
 use borrow.Author.Needs.{needs}
 use Rattle.tobytes.proofs.line_end.Statement.{statement}

@@ -1,6 +1,6 @@
 use mathlib.Core.Bool.{false≢true}
 use mathlib.Core.Path.{_∙_, sym}
-use Rattle.text.proofs.Lines.{good-front}
+use Rattle.parsing.proofs.Lines.{good-front}
 use borrow.Author.Needs.{needs}
 use Rattle.tobytes.proofs.lines.Statement.{statement}
 use Rattle.tobytes.proofs.lines.Tie as tie

@@ -3,8 +3,9 @@ use mathlib.Core.Path.{sym}
 use lib.ListN.{take}
 use lib.Seq.{length-take-le}
 use Rattle.rules.specs.Lists.{flat}
-use Rattle.text.proofs.Lengths.{numbers-short, put-front}
-use Rattle.text.specs.Write.{numberText}
+use Rattle.output.proofs.Rooms.{put-front}
+use Rattle.printing.proofs.Lengths.{numbers-short}
+use Rattle.printing.specs.Text.{numberText}
 use borrow.Author.Needs.{needs}
 use Rattle.totext.proofs.numbers.Statement.{statement}
 use Rattle.totext.proofs.numbers.Tie as tie

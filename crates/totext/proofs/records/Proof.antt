@@ -1,6 +1,7 @@
 use native.Mathlib.Omega.{arith}
-use Rattle.text.proofs.Lengths.{put-front, whole-short}
-use Rattle.text.specs.Write.{wholeText}
+use Rattle.output.proofs.Rooms.{put-front}
+use Rattle.printing.proofs.Lengths.{whole-short}
+use Rattle.printing.specs.Text.{wholeText}
 use borrow.Author.Needs.{needs}
 use Rattle.totext.proofs.records.Statement.{statement}
 use Rattle.totext.proofs.records.Tie as tie

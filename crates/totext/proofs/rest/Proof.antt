@@ -1,6 +1,5 @@
 use mathlib.Core.Path.{_≡_, refl}
 use lib.ListN.{length}
-use Rattle.text.specs.Form.{names}
 use borrow.Author.Needs.{needs}
 use Rattle.totext.proofs.rest.Statement.{statement}
 use Rattle.totext.proofs.rest.Tie as tie
@@ -15,7 +14,6 @@ slice-aggregate-send-word : tie.Need-slice-aggregate-send-word Inv-loop μ-loop
 slice-aggregate-send-word c = search needs
 
 send-word-requires : tie.Need-send-word-requires Inv-loop μ-loop
-unfolding names
 send-word-requires c κs = refl
 
 returns : tie.Need-returns Inv-loop μ-loop

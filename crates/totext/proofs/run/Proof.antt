@@ -2,9 +2,8 @@ use native.Mathlib.Omega.{arith}
 use mathlib.Core.Path.{_∙_, _≡_, refl}
 use mathlib.Core.List.{[]}
 use lib.ListN.{length, take}
-use Rattle.text.proofs.Pieces.{whole-stop}
-use Rattle.text.proofs.Records.{length-empty}
-use Rattle.text.specs.Write.{recordLength}
+use Rattle.events.proofs.Records.{length-empty, whole-stop}
+use Rattle.events.specs.Whole.{recordLength}
 use borrow.Author.Needs.{needs}
 use Rattle.totext.proofs.run.Statement.{statement}
 use Rattle.totext.proofs.run.Tie as tie

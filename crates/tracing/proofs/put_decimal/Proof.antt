@@ -1,6 +1,6 @@
 use mathlib.Core.Path.{_∙_, ap}
-use Rattle.text.specs.Room.{Room, room}
-use Rattle.text.specs.Write.{decimal}
+use Rattle.output.specs.Room.{Room, room}
+use Rattle.output.specs.Decimal.{decimal}
 use Rattle.tracing.proofs.Digits.{puts-fit}
 use borrow.Author.Needs.{needs}
 use Rattle.tracing.proofs.put_decimal.Statement.{statement}

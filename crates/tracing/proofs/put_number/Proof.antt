@@ -2,7 +2,7 @@ use Prim.Native.Nat.{ℕ}
 use mathlib.Core.List.{[], _∷_}
 use Rattle.saving.proofs.Emit.{last, on, room, room-last, said, start}
 use Rattle.tracing.proofs.Texts.{number-said}
-use Rattle.text.specs.Write.{decimal}
+use Rattle.output.specs.Decimal.{decimal}
 use Rattle.tracing.specs.Text.{numberText}
 use borrow.Author.Needs.{needs}
 use Rattle.tracing.proofs.put_number.Statement.{statement}

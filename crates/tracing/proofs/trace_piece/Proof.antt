@@ -6,7 +6,7 @@ use lib.ListN.{drop, length}
 use native.Mathlib.Omega.{arith}
 use Rattle.lines.proofs.Paste.{rest}
 use Rattle.rows.specs.Whole.{boardOf}
-use Rattle.text.proofs.Rooms.{pos}
+use Rattle.events.proofs.Records.{pos}
 use Rattle.tracing.proofs.Due.{Runs, at-end, at-full, at-last, goes, is-false, is-true, isDue, starts}
 use borrow.Author.Needs.{needs}
 use Rattle.tracing.proofs.trace_piece.Statement.{statement}

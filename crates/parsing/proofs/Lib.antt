@@ -1,0 +1,5 @@
+pub mod Names
+pub mod Numbers
+pub mod Words
+pub mod Reading
+pub mod Lines

@@ -1,0 +1,349 @@
+// Event files out of their readable form: lines of a word and numbers, spaces between them, '#' in front of a comment.
+use output::Cursor;
+ghost use Prim.Native.Nat.{_+_, _%_, _≤_};
+ghost use mathlib.Core.Path.{_≡_};
+ghost use lib.ListN.{length, drop};
+ghost use Rattle.rules.specs.Bytes.{bytesOf};
+ghost use Rattle.rules.specs.Kinds.{wordOf};
+ghost use Rattle.rules.specs.Lists.{place};
+ghost use Rattle.output.specs.Room.{room, puts};
+ghost use Rattle.parsing.specs.Results.{NextWord, ReadsAs, TextReadAs};
+ghost use Rattle.parsing.specs.Read.{stops, same, kindOf, otherLine, mostOf, withDigit, numberIn, widthAt, complete, wordsIn, fieldsFrom, kindBytes, wordsRead, bytesOfText, goodBytes, lastLine};
+
+// Lines that are no event: bytes as they stand, and a first word that means nothing. No kind has these numbers.
+const BYTES_LINE: u8 = 254;
+
+const NO_WORD: u8 = 255;
+
+// What a word means as a number.
+pub enum Number {
+    Not,
+    Is(u64),
+}
+
+// A part of a line.
+pub struct Span {
+    pub start: usize,
+    pub end: usize,
+}
+
+// What is read of a line, and whether it is in the form.
+pub struct LineRead {
+    pub cursor: Cursor,
+    pub ok: bool,
+}
+
+// What is read of a text: the bytes up to the cursor, the place behind those of the lines in the form, the number of these lines, and whether these are all.
+// If not, the next line is the first one that is not in the form.
+pub struct TextRead {
+    pub cursor: Cursor,
+    pub good: usize,
+    pub lines: u64,
+    pub ok: bool,
+}
+
+// Whether a search stops at a byte.
+fn stop(what: u8, b: u8) -> bool
+    ensures { λ r. ⌜ r ≡ stops what b ⌝ }
+{
+    if what == 0 {
+        return b != 32;
+    }
+    if what == 1 {
+        if b == 32 {
+            return true;
+        }
+        return b == 35;
+    }
+    b == 10
+}
+
+// The first place from `from` on where a search stops, or the end.
+fn find(s: &[u8], from: usize, what: u8) -> usize
+    requires { ⌜ from ≤ length (now s) ⌝ }
+    ensures { λ r. ⌜ r ≡ from + place (stops what) (drop from (now (s .entry))) ⌝ }
+{
+    let mut i = from;
+    while i < s.len() {
+        if stop(what, s[i]) {
+            return i;
+        }
+        i += 1;
+    }
+    i
+}
+
+// The first word from `at` on.
+fn next_word(line: &[u8], at: usize) -> Span
+    requires { ⌜ at ≤ length (now line) ⌝ }
+    ensures { λ r. ⌜ NextWord (now (line .entry)) at r ⌝ }
+{
+    let start = find(line, at, 0);
+    if line.len() <= start {
+        return Span { start, end: start };
+    }
+    if line[start] == 35 {
+        return Span { start, end: start };
+    }
+    let end = find(line, start, 1);
+    Span { start, end }
+}
+
+// Whether two words are the same.
+fn equal(a: &[u8], b: &[u8]) -> bool
+    ensures { λ r. ⌜ r ≡ same (now (a .entry)) (now (b .entry)) ⌝ }
+{
+    if a.len() != b.len() {
+        return false;
+    }
+    let mut i: usize = 0;
+    while i < a.len() {
+        if a[i] != b[i] {
+            return false;
+        }
+        i += 1;
+    }
+    true
+}
+
+// Whether a word is the one of a kind.
+fn is_name(word: &[u8], kind: u8) -> bool
+    ensures { λ r. ⌜ r ≡ same (now (word .entry)) (wordOf kind) ⌝ }
+{
+    let row = events::kind_row(kind);
+    let name = row.word;
+    let n = row.letters;
+    equal(word, &name[..n])
+}
+
+// The line that a word begins which is no kind's.
+fn other_line(word: &[u8]) -> u8
+    ensures { λ r. ⌜ r ≡ otherLine (now (word .entry)) ⌝ }
+{
+    if equal(word, b"bytes") {
+        return BYTES_LINE;
+    }
+    NO_WORD
+}
+
+// The kind of line that a word begins.
+fn kind_of(word: &[u8]) -> u8
+    ensures { λ r. ⌜ r ≡ kindOf (now (word .entry)) ⌝ }
+{
+    let mut k: u8 = 0;
+    while k <= events::LAST_KIND {
+        if is_name(word, k) {
+            return k;
+        }
+        k += 1;
+    }
+    other_line(word)
+}
+
+// The width of a field, 0 if there is none.
+fn width_at(kind: u8, f: usize) -> usize
+    ensures { λ r. ⌜ r ≡ widthAt kind f ⌝ }
+{
+    if kind == BYTES_LINE {
+        return 1;
+    }
+    events::width_at(kind, f)
+}
+
+// Whether a line has all its fields.
+fn is_complete(kind: u8, f: usize) -> bool
+    ensures { λ r. ⌜ r ≡ complete kind f ⌝ }
+{
+    if kind == BYTES_LINE {
+        return 0 < f;
+    }
+    width_at(kind, f) == 0
+}
+
+// The largest number of w bytes.
+fn most(w: usize) -> u64
+    ensures { λ r. ⌜ r ≡ mostOf w ⌝ }
+{
+    if w == 1 {
+        return 255;
+    }
+    if w == 2 {
+        return 65535;
+    }
+    18446744073709551615
+}
+
+// A number with one digit more.
+fn with_digit(top: u64, v: u64, b: u8) -> Number
+    requires { ⌜ 9 ≤ top ⌝ }
+    ensures { λ r. ⌜ r ≡ withDigit top v b ⌝ }
+{
+    if b < 48 {
+        return Number::Not;
+    }
+    if 57 < b {
+        return Number::Not;
+    }
+    let d = (b - 48) as u64;
+    if (top - d) / 10 < v {
+        return Number::Not;
+    }
+    Number::Is(10 * v + d)
+}
+
+// A word as a number of w bytes.
+fn number_in(word: &[u8], w: usize) -> Number
+    ensures { λ r. ⌜ r ≡ numberIn w (now (word .entry)) ⌝ }
+{
+    if w == 0 {
+        return Number::Not;
+    }
+    let top = most(w);
+    let mut v: u64 = 0;
+    let mut i: usize = 0;
+    while i < word.len() {
+        let n = with_digit(top, v, word[i]);
+        let Number::Is(u) = n else {
+            return Number::Not;
+        };
+        v = u;
+        i += 1;
+    }
+    Number::Is(v)
+}
+
+// The low byte of a number.
+fn low(x: u64) -> u8
+    ensures { λ r. ⌜ r ≡ x % 256 ⌝ }
+{
+    (x % 256) as u8
+}
+
+// A number in w bytes, the low one first.
+fn put_le(out: &mut [u8], c: Cursor, x: u64, w: usize) -> Cursor
+    ensures { λ r. ⌜ room (now (out .exit)) r ≡ puts (room (now (out .entry)) c) (bytesOf w x) ⌝ }
+{
+    let mut q = c;
+    let mut y = x;
+    let mut k: usize = 0;
+    while k < w {
+        q = output::put_byte(out, q, low(y));
+        y = y / 256;
+        k += 1;
+    }
+    q
+}
+
+// The fields of a line from `from` on.
+fn read_fields(line: &[u8], from: usize, kind: u8, out: &mut [u8], c: Cursor) -> LineRead
+    requires { ⌜ from ≤ length (now line) ⌝ }
+    ensures { λ r. ⌜ ReadsAs (fieldsFrom kind 0 (wordsIn (drop from (now (line .entry))))) (now (out .entry)) (now (out .exit)) c r ⌝ }
+{
+    let mut q = c;
+    let mut at = from;
+    let mut f: usize = 0;
+    loop {
+        let word = next_word(line, at);
+        let start = word.start;
+        let end = word.end;
+        if start == end {
+            return LineRead {
+                cursor: q,
+                ok: is_complete(kind, f),
+            };
+        }
+        let w = width_at(kind, f);
+        let n = number_in(&line[start..end], w);
+        let Number::Is(v) = n else {
+            return LineRead {
+                cursor: q,
+                ok: false,
+            };
+        };
+        q = put_le(out, q, v, w);
+        at = end;
+        f += 1;
+    }
+}
+
+// The byte of kind that a record begins with.
+fn put_kind(out: &mut [u8], c: Cursor, kind: u8) -> Cursor
+    ensures { λ r. ⌜ room (now (out .exit)) r ≡ puts (room (now (out .entry)) c) (kindBytes kind) ⌝ }
+{
+    if kind == BYTES_LINE {
+        return c;
+    }
+    output::put_byte(out, c, kind)
+}
+
+// A line.
+fn read_line(line: &[u8], out: &mut [u8], c: Cursor) -> LineRead
+    ensures { λ r. ⌜ ReadsAs (wordsRead (wordsIn (now (line .entry)))) (now (out .entry)) (now (out .exit)) c r ⌝ }
+{
+    let word = next_word(line, 0);
+    let start = word.start;
+    let end = word.end;
+    if start == end {
+        return LineRead {
+            cursor: c,
+            ok: true,
+        };
+    }
+    let kind = kind_of(&line[start..end]);
+    if kind == NO_WORD {
+        return LineRead {
+            cursor: c,
+            ok: false,
+        };
+    }
+    let q = put_kind(out, c, kind);
+    read_fields(line, end, kind, out, q)
+}
+
+// A text as the bytes of an event file, as many of them as there is room for.
+pub fn read_text(text: &[u8], out: &mut [u8]) -> TextRead
+    ensures { λ r. ⌜ TextReadAs (bytesOfText (now (text .entry))) (goodBytes (now (text .entry))) (now (out .entry)) (now (out .exit)) r ⌝ }
+{
+    let mut q = Cursor {
+        at: 0,
+        short: false,
+    };
+    let mut at: usize = 0;
+    let mut lines: u64 = 0;
+    while at < text.len() {
+        let end = find(text, at, 2);
+        let good = q.at;
+        let r = read_line(&text[at..end], out, q);
+        q = r.cursor;
+        if !r.ok {
+            return TextRead {
+                cursor: q,
+                good,
+                lines,
+                ok: false,
+            };
+        }
+        at = end + 1;
+        lines += 1;
+    }
+    TextRead {
+        cursor: q,
+        good: q.at,
+        lines,
+        ok: true,
+    }
+}
+
+// The end of the last whole line.
+pub fn whole_lines(text: &[u8]) -> usize
+    ensures { λ r. ⌜ r ≡ lastLine (now (text .entry)) ⌝ }
+{
+    let mut i = text.len();
+    while 0 < i {
+        if text[i - 1] == 10 {
+            return i;
+        }
+        i -= 1;
+    }
+    0
+}
