@@ -1,7 +1,8 @@
 // Whether an image contradicts itself, by its regions and the marks of its log: the first `held` regions and the first `logged` marks count.
 //
 // What belongs to one region is tested region by region. Then every dependence is of a listed region, and a table of bits tells which region reaches which:
-// row p has bit q set where the region at place p reaches the region at place q. One pass over the log finds the lines that regions apart from each other logged.
+// row p has bit q set where the region at place p reaches the region at place q. One pass over the log finds the lines that regions apart from each other
+// logged.
 use rules::Listed;
 use rules::Mark;
 ghost use Prim.Native.Nat.{_<_, _≤_, _+_, _^_, min, ℕ};
@@ -13,8 +14,9 @@ ghost use lib.ListN.{getD, length, take};
 ghost use Rattle.undo.specs.Table.{any};
 ghost use Rattle.rules.specs.Lists.{all};
 ghost use Rattle.rules.specs.Contradiction.{anyBroken, inOrder, isAstray, isBroken, isLeftOver, isListed};
-ghost use Rattle.judging.specs.Marks.{anyPair, contradictsIn, isFaulty, isUnlisted, stands};
-ghost use Rattle.judging.specs.Reach.{apartFrom, bitIf, clashBy, isApart, isRound, keyed, linkOf, linksOf, meet, placeIn, roundOf, roundsOf, rowOf, seesAt, stepTo, tableBy, tangledBy};
+ghost use Rattle.judging.specs.Marks.{contradictsIn, isFaulty, stands};
+ghost use Rattle.judging.specs.Reach.{apartFrom, bitIf, clashesIn, isApart, isRound, keyed, linkOf, linksOf, meet};
+ghost use Rattle.judging.specs.Reach.{placeIn, roundOf, roundsOf, rowOf, seesAt, stepTo, tableBy, tangledBy};
 
 pub fn least(a: usize, b: usize) -> usize
     ensures { λ r. ⌜ r ≡ min a b ⌝ }
@@ -435,7 +437,7 @@ fn meets(a: u32, b: u32) -> bool
 // regions that logged it behind entry i, as bits.
 fn any_clash(keys: &[u32], rows: &[u32], logged: usize, log: [Mark; 256]) -> bool
     requires { ⌜ (length (now keys) ≡ length (now rows)) × ((length (now rows) ≤ 32) × (logged ≤ 256)) ⌝ }
-    ensures { λ r. ⌜ r ≡ (any (isUnlisted (keyed (now (keys .entry)))) (take logged log) || anyPair (clashBy (keyed (now (keys .entry))) (now (rows .entry))) (take logged log)) ⌝ }
+    ensures { λ r. ⌜ r ≡ clashesIn (keyed (now (keys .entry))) (now (rows .entry)) (take logged log) ⌝ }
 {
     let apart = all_apart(rows);
     let mut seen = [0u32; 256];
