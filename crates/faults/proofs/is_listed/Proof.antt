@@ -1,9 +1,9 @@
-use Rattle.judging.proofs.is_listed.Statement.{statement}
-use Rattle.judging.proofs.is_listed.Tie as tie
+use Rattle.faults.proofs.is_listed.Statement.{statement}
+use Rattle.faults.proofs.is_listed.Tie as tie
 use mathlib.Core.Path.{_∙_, refl, sym}
 use lib.Dec.{eqb}
 use borrow.Author.Needs.{needs}
-use Rattle.judging.proofs.Keys.{keyed-listed, keyed-place}
+use Rattle.faults.proofs.Keys.{keyed-listed, keyed-place}
 use Rattle.lookup.proofs.Search.{found}
 
 place-in-requires : tie.Need-place-in-requires
