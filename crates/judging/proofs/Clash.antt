@@ -12,6 +12,7 @@ use Rattle.judging.proofs.Bits.{bit-below, meet-if, meet-or}
 use Rattle.judging.specs.Marks.{anyPair, isUnlisted}
 use Rattle.judging.specs.Reach.{apartFrom, bitIf, clashBy, isApart, isRegion, meet, placeIn, placesOn}
 use Rattle.rules.proofs.Lists.{place-lt}
+use Rattle.faults.specs.Faults.{isRegion, placeIn}
 use Rattle.lookup.proofs.Search.{any-place}
 use Rattle.rules.specs.Contradiction.{isListed}
 use Rattle.rules.specs.declared.Listed.{Listed}

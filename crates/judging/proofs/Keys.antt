@@ -7,30 +7,17 @@ use lib.ListN.{length, length-map, take}
 use Rattle.judging.specs.Marks.{isFaulty, isUnlisted}
 use Rattle.judging.specs.Reach.{clashBy, isRegion, isRound, keyed, linkOf, linksOf, placeIn, tableBy, tangledBy}
 use Rattle.rules.proofs.Lists.{any-map, place-map}
+use Rattle.faults.proofs.Keys.{keyed-listed, keyed-long, keyed-place}
+use Rattle.faults.specs.Faults.{isFaulty, isRegion, keyed, placeIn}
 use Rattle.rules.specs.Contradiction.{isAstray, isListed}
-use Rattle.rules.specs.Lists.{place}
 use Rattle.rules.specs.declared.Listed.{Listed}
 use Rattle.rules.specs.declared.Mark.{Mark}
-use Rattle.undo.specs.Table.{any}
 
 -- the first of what a function makes of a list are what it makes of the first
 pub firsts : {A B : Type 0} (f : A → B) (n : ℕ) (xs : List A) → take n (map f xs) ≡ map f (take n xs)
 firsts f zero xs = refl
 firsts f (suc n) [] = refl
 firsts f (suc n) (x ∷ xs) = ap (_∷_ (f x)) (firsts f n xs)
-
-abbrev bare : ℕ → Listed
-bare k = record { key = k; state = 0; deps = [] }
-
-module _ (ks : List ℕ) where
-  pub keyed-place : (k : ℕ) → placeIn (keyed ks) k ≡ place (λ x. eqb x k) ks
-  keyed-place k = place-map (isRegion k) (λ x. eqb x k) bare ks (λ x. refl)
-
-  pub keyed-listed : (k : ℕ) → isListed k (keyed ks) ≡ any (λ x. eqb x k) ks
-  keyed-listed k = any-map (isRegion k) (λ x. eqb x k) bare ks (λ x. refl)
-
-  pub keyed-long : length (keyed ks) ≡ length ks
-  keyed-long = length-map ks bare
 
 module _ (rs : List Listed) where
   abbrev keys : List ℕ

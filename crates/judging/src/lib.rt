@@ -1,37 +1,26 @@
 // Whether an image contradicts itself, by its regions and the marks of its log: the first `held` regions and the first `logged` marks count.
 //
 // What belongs to one region is tested region by region. Then every dependence is of a listed region, and a table of bits tells which region reaches which:
-// row p has bit q set where the region at place p reaches the region at place q. One pass over the log finds the lines that regions apart from each other logged.
+// row p has bit q set where the region at place p reaches the region at place q. One pass over the log finds the lines that regions apart from each other
+// logged.
 use rules::Listed;
 use rules::Mark;
 ghost use Prim.Native.Nat.{_<_, _≤_, _+_, _^_, min, ℕ};
 ghost use mathlib.Core.Path.{_≡_};
-ghost use mathlib.Core.Bool.{_||_, _&&_, true};
+ghost use mathlib.Core.Bool.{true};
 ghost use mathlib.Core.List.{map};
-ghost use lib.Dec.{eqb};
 ghost use lib.ListN.{getD, length, take};
 ghost use Rattle.undo.specs.Table.{any};
-ghost use Rattle.rules.specs.Lists.{all};
-ghost use Rattle.rules.specs.Contradiction.{anyBroken, inOrder, isAstray, isBroken, isLeftOver, isListed};
-ghost use Rattle.judging.specs.Marks.{anyPair, contradictsIn, isFaulty, isUnlisted, stands};
-ghost use Rattle.judging.specs.Reach.{apartFrom, bitIf, clashBy, isApart, isRound, keyed, linkOf, linksOf, meet, placeIn, roundOf, roundsOf, rowOf, seesAt, stepTo, tableBy, tangledBy};
+ghost use Rattle.rules.specs.Contradiction.{anyBroken};
+ghost use Rattle.faults.specs.Faults.{isFaulty, keyed};
+ghost use Rattle.judging.specs.Marks.{contradictsIn};
+ghost use Rattle.judging.specs.Reach.{apartFrom, bitIf, clashesIn, isApart, isRound, linkOf, linksOf, meet};
+ghost use Rattle.judging.specs.Reach.{roundOf, roundsOf, rowOf, seesAt, stepTo, tableBy, tangledBy};
 
 pub fn least(a: usize, b: usize) -> usize
     ensures { λ r. ⌜ r ≡ min a b ⌝ }
 {
     if a <= b { a } else { b }
-}
-
-fn either(a: bool, b: bool) -> bool
-    ensures { λ r. ⌜ r ≡ (a || b) ⌝ }
-{
-    if a { true } else { b }
-}
-
-fn both(a: bool, b: bool) -> bool
-    ensures { λ r. ⌜ r ≡ (a && b) ⌝ }
-{
-    if a { b } else { false }
 }
 
 // ---- places
@@ -50,122 +39,7 @@ pub fn keys_of(regions: [Listed; 32]) -> [u32; 32]
     keys
 }
 
-// The place of region `key`; the number of regions where it is not listed.
-fn place_in(keys: &[u32], key: u32) -> usize
-    ensures { λ r. ⌜ r ≡ placeIn (keyed (now (keys .entry))) key ⌝ }
-{
-    let mut i: usize = 0;
-    let at = loop {
-        if keys.len() <= i {
-            break i;
-        }
-        if keys[i] == key {
-            break i;
-        }
-        i += 1;
-    };
-    at
-}
-
-fn is_listed(keys: &[u32], key: u32) -> bool
-    ensures { λ r. ⌜ r ≡ isListed key (keyed (now (keys .entry))) ⌝ }
-{
-    place_in(keys, key) < keys.len()
-}
-
 // ---- what is wrong with a region by itself
-
-// The dependence d before others: `next` is the one behind it, the others are in order, the others are all empty.
-fn is_placed(d: u32, next: u32, order: bool, empty: bool) -> bool
-    ensures { λ r. ⌜ r ≡ stands d next order empty ⌝ }
-{
-    if d == 0 {
-        return empty;
-    }
-    let rises = either(next == 0, d < next);
-    both(d % 65536 != 0, both(order, rises))
-}
-
-fn in_order(deps: [u32; 4]) -> bool
-    ensures { λ r. ⌜ r ≡ inOrder deps ⌝ }
-{
-    let d0 = deps[0];
-    let d1 = deps[1];
-    let d2 = deps[2];
-    let d3 = deps[3];
-    let e3 = both(0 == d3, true);
-    let e2 = both(0 == d2, e3);
-    let e1 = both(0 == d1, e2);
-    let o3 = is_placed(d3, 0, true, true);
-    let o2 = is_placed(d2, d3, o3, e3);
-    let o1 = is_placed(d1, d2, o2, e2);
-    is_placed(d0, d1, o1, e1)
-}
-
-fn no_deps(deps: [u32; 4]) -> bool
-    ensures { λ r. ⌜ r ≡ all (eqb 0) deps ⌝ }
-{
-    let d0 = deps[0];
-    let d1 = deps[1];
-    let d2 = deps[2];
-    let d3 = deps[3];
-    both(0 == d0, both(0 == d1, both(0 == d2, 0 == d3)))
-}
-
-pub fn depends(deps: [u32; 4], key: u32) -> bool
-    ensures { λ r. ⌜ r ≡ any (eqb key) deps ⌝ }
-{
-    let d0 = deps[0];
-    let d1 = deps[1];
-    let d2 = deps[2];
-    let d3 = deps[3];
-    either(key == d0, either(key == d1, either(key == d2, key == d3)))
-}
-
-// A dependence on a region that is not listed.
-fn is_astray(keys: &[u32], d: u32) -> bool
-    ensures { λ r. ⌜ r ≡ isAstray (keyed (now (keys .entry))) d ⌝ }
-{
-    if d == 0 {
-        return false;
-    }
-    !is_listed(keys, d)
-}
-
-fn has_astray(keys: &[u32], deps: [u32; 4]) -> bool
-    ensures { λ r. ⌜ r ≡ any (isAstray (keyed (now (keys .entry)))) deps ⌝ }
-{
-    let d0 = deps[0];
-    let d1 = deps[1];
-    let d2 = deps[2];
-    let d3 = deps[3];
-    let a0 = is_astray(keys, d0);
-    let a1 = is_astray(keys, d1);
-    let a2 = is_astray(keys, d2);
-    let a3 = is_astray(keys, d3);
-    either(a0, either(a1, either(a2, a3)))
-}
-
-fn is_left_over(r: Listed) -> bool
-    ensures { λ b. ⌜ b ≡ isLeftOver r ⌝ }
-{
-    let deps = r.deps;
-    let none = no_deps(deps);
-    both(r.state == 1, none)
-}
-
-fn is_faulty(keys: &[u32], r: Listed) -> bool
-    ensures { λ b. ⌜ b ≡ isFaulty (keyed (now (keys .entry))) r ⌝ }
-{
-    let deps = r.deps;
-    let order = in_order(deps);
-    let astray = has_astray(keys, deps);
-    let left = is_left_over(r);
-    either(
-        r.key % 65536 == 0,
-        either(1 < r.state, either(!order, either(astray, left))),
-    )
-}
 
 fn any_faulty(keys: &[u32], regions: [Listed; 32]) -> bool
     requires { ⌜ length (now keys) ≤ 32 ⌝ }
@@ -174,7 +48,7 @@ fn any_faulty(keys: &[u32], regions: [Listed; 32]) -> bool
     let mut i: usize = 0;
     while i < keys.len() {
         let x = regions[i];
-        if is_faulty(keys, x) {
+        if faults::is_faulty(keys, x) {
             return true;
         }
         i += 1;
@@ -184,17 +58,6 @@ fn any_faulty(keys: &[u32], regions: [Listed; 32]) -> bool
 
 // ---- a thread's regions, one behind the other
 
-// Of two entries, one behind the other: of one thread, and the numbers are not consecutive or the second does not depend on the first.
-fn is_broken(a: Listed, b: Listed) -> bool
-    ensures { λ r. ⌜ r ≡ isBroken a b ⌝ }
-{
-    let deps = b.deps;
-    let first = a.key;
-    let on = depends(deps, first);
-    let follows = b.key as u64 == first as u64 + 1;
-    both(a.key / 65536 == b.key / 65536, !both(follows, on))
-}
-
 fn any_broken(n: usize, regions: [Listed; 32]) -> bool
     requires { ⌜ n ≤ 32 ⌝ }
     ensures { λ b. ⌜ b ≡ anyBroken (take n regions) ⌝ }
@@ -203,7 +66,7 @@ fn any_broken(n: usize, regions: [Listed; 32]) -> bool
     while i + 1 < n {
         let x = regions[i];
         let y = regions[i + 1];
-        if is_broken(x, y) {
+        if faults::is_broken(x, y) {
             return true;
         }
         i += 1;
@@ -219,7 +82,7 @@ fn link_of(keys: &[u32], d: u32) -> usize
     if d == 0 {
         return keys.len();
     }
-    place_in(keys, d)
+    faults::place_in(keys, d)
 }
 
 // The places of a region's dependences; the number of regions for none.
@@ -353,7 +216,7 @@ fn is_round(keys: &[u32], rows: &[u32], r: Listed) -> bool
     requires { ⌜ length (now rows) ≤ 32 ⌝ }
     ensures { λ b. ⌜ b ≡ isRound (keyed (now (keys .entry))) (now (rows .entry)) r ⌝ }
 {
-    let p = place_in(keys, r.key);
+    let p = faults::place_in(keys, r.key);
     sees(rows, p, p)
 }
 
@@ -381,7 +244,7 @@ fn is_apart(rows: &[u32], p: usize, q: usize) -> bool
 {
     let there = sees(rows, p, q);
     let back = sees(rows, q, p);
-    either(p == q, !either(there, back))
+    faults::either(p == q, !faults::either(there, back))
 }
 
 fn bit_if(b: bool, p: usize) -> u32
@@ -435,7 +298,7 @@ fn meets(a: u32, b: u32) -> bool
 // regions that logged it behind entry i, as bits.
 fn any_clash(keys: &[u32], rows: &[u32], logged: usize, log: [Mark; 256]) -> bool
     requires { ⌜ (length (now keys) ≡ length (now rows)) × ((length (now rows) ≤ 32) × (logged ≤ 256)) ⌝ }
-    ensures { λ r. ⌜ r ≡ (any (isUnlisted (keyed (now (keys .entry)))) (take logged log) || anyPair (clashBy (keyed (now (keys .entry))) (now (rows .entry))) (take logged log)) ⌝ }
+    ensures { λ r. ⌜ r ≡ clashesIn (keyed (now (keys .entry))) (now (rows .entry)) (take logged log) ⌝ }
 {
     let apart = all_apart(rows);
     let mut seen = [0u32; 256];
@@ -443,7 +306,7 @@ fn any_clash(keys: &[u32], rows: &[u32], logged: usize, log: [Mark; 256]) -> boo
     while 0 < i {
         i -= 1;
         let m = log[i];
-        let p = place_in(keys, m.key);
+        let p = faults::place_in(keys, m.key);
         if keys.len() <= p {
             return true;
         }

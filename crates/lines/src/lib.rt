@@ -61,7 +61,7 @@ fn join32(lo: u32, hi: u32) -> u64
 }
 
 // Whether n bytes from `at` on lie in a slice.
-fn has_room(len: usize, at: usize, n: usize) -> bool
+pub fn has_room(len: usize, at: usize, n: usize) -> bool
     ensures { λ r. ⌜ r ≡ leb (at + n) len ⌝ }
 {
     if len < n {

@@ -85,3 +85,14 @@ module _ (l : ℕ) (free : Found) (i : ℕ) (ss : List Slot) (d : Slot) (h : i <
 pub slot-end : (l : ℕ) (free : Found) (i : ℕ) (ss : List Slot) → length ss ≤ i → slotFrom l free i (drop i ss) ≡ free
 unfolding slotFrom
 slot-end l free i ss h = rw (drop-of-length-le ss h)
+
+-- ---- lists of four
+
+module _ {A : Type 0} (d : A) where
+  pub four : (xs : List A) → length xs ≡ 4 → xs ≡ getD xs 0 d ∷ getD xs 1 d ∷ getD xs 2 d ∷ getD xs 3 d ∷ []
+  four [] h = absurd (omega arith)
+  four (a ∷ []) h = absurd (omega arith)
+  four (a ∷ (b ∷ [])) h = absurd (omega arith)
+  four (a ∷ (b ∷ (c ∷ []))) h = absurd (omega arith)
+  four (a ∷ (b ∷ (c ∷ (e ∷ [])))) h = refl
+  four (a ∷ (b ∷ (c ∷ (e ∷ (f ∷ r))))) h = absurd (omega arith)

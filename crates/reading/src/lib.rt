@@ -9,7 +9,8 @@ ghost use Rattle.rules.specs.Reader.{nothing, imageBody, isKnownThread, keyAt, 
 ghost use Rattle.rules.specs.Lists.{all};
 ghost use Rattle.rules.specs.Refusal.{inRange};
 ghost use Rattle.reading.specs.Scan.{noListed, readOf, refusedWith};
-ghost use Rattle.reading.specs.Item.{placed, headItem, regionItem, countFor, entryItem, endItem, fieldsItem, itemOf, afterHead, afterLine, afterRegion, afterEntry, tabled};
+ghost use Rattle.reading.specs.Item.{placed, headItem, regionItem, countFor, entryItem, endItem, fieldsItem, itemOf};
+ghost use Rattle.reading.specs.Item.{afterHead, afterLine, afterRegion, afterEntry, tabled};
 use rules::Listed;
 use rules::Mark;
 

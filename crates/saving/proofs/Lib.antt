@@ -1,4 +1,3 @@
-pub mod Rising
 pub mod Emit
 pub mod Records
 pub mod Whole

@@ -1,5 +1,5 @@
 // The recovery walk: the order of the regions, and the log entry at a place of the walk. The first `held` regions and the first `logged` marks count.
-use judging::depends;
+use faults::depends;
 use judging::keys_of;
 use judging::least;
 use rules::Found;

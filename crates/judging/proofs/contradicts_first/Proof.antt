@@ -7,7 +7,7 @@ use native.Mathlib.Omega.{arith}
 use borrow.Author.Needs.{needs}
 use Rattle.judging.proofs.Judged.{judged}
 use Rattle.judging.proofs.Keys.{faulty, firsts, tangled}
-use Rattle.judging.specs.Marks.{isFaulty}
+use Rattle.faults.specs.Faults.{isFaulty}
 use Rattle.judging.specs.Reach.{tangledBy}
 use Rattle.undo.specs.Table.{any}
 
