@@ -3,3 +3,4 @@ pub mod Numbers
 pub mod Words
 pub mod Reading
 pub mod Lines
+pub mod Sizes

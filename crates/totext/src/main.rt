@@ -1,5 +1,5 @@
 // Reads an event file on standard input and writes it in the readable form, one event a line. The file may have any length: it is read in pieces.
-// No contract can say what goes out: the functions that write ask it of their callers. In whatever pieces a file comes, these texts make its text (`InPieces`).
+// No contract can say what goes out: the functions that write ask it of their callers. In whatever pieces a file comes, these texts make its text (`Ran`).
 use output::Cursor;
 ghost use Prim.Native.Nat.{_*_, _≤_};
 ghost use mathlib.Core.Path.{_≡_};
@@ -8,7 +8,7 @@ ghost use Rattle.rules.specs.Lists.{flat};
 ghost use Rattle.rules.specs.Kinds.{bytesWord};
 ghost use Rattle.events.specs.Whole.{recordLength, wholeLength};
 ghost use Rattle.printing.specs.Text.{numberText, wholeText};
-ghost use Rattle.totext.specs.Results.{Pieced};
+ghost use Rattle.totext.specs.Results.{Pieced, Ran, goesOn, mayCome};
 
 // A piece of the file, and its text: a byte is at most 32 bytes of text.
 const PIECE: usize = 4096;
@@ -68,23 +68,17 @@ fn records(piece: &[u8], out: &mut [u8]) -> Sent
     Sent { passed: p.at, sent }
 }
 
-// Whether the first byte is no kind of an event: then no whole record can come.
-fn is_unknown(file: &[u8]) -> bool {
-    if file.len() == 0 {
+// Whether a whole record may still come, where `rest` is left and more was read than was held, or not.
+fn may_come(rest: &[u8], grew: bool) -> bool
+    ensures { λ r. ⌜ r ≡ mayCome grew (now (rest .entry)) ⌝ }
+{
+    if !grew {
         return false;
     }
-    events::LAST_KIND < file[0]
-}
-
-// Whether a whole record can come behind `held` bytes, where n bytes were there and `have` of them before.
-fn may_come(file: &[u8], held: usize, have: usize, n: usize) -> bool {
-    if n <= have {
-        return false;
-    }
-    if held == 0 {
+    if rest.len() == 0 {
         return true;
     }
-    !is_unknown(file)
+    rest[0] <= events::LAST_KIND
 }
 
 // Reads a piece behind the bytes that are held, writes its whole records, and keeps what is left.
@@ -97,12 +91,15 @@ fn piece(file: &mut [u8], have: usize, out: &mut [u8]) -> Left
     let held = pieces::shift(file, s.passed, n);
     Left {
         held,
-        more: may_come(file, held, have, n),
+        more: may_come(&file[..held], have < n),
         sent: s.sent,
     }
 }
 
-fn goes_on(s: Left) -> bool {
+// Whether a piece follows.
+fn goes_on(s: Left) -> bool
+    ensures { λ r. ⌜ r ≡ goesOn s ⌝ }
+{
     if s.sent {
         return s.more;
     }
@@ -112,7 +109,7 @@ fn goes_on(s: Left) -> bool {
 // Writes records as long as they are whole: none is at the front of what is left.
 fn run(file: &mut [u8], out: &mut [u8]) -> Left
     requires { ⌜ 32 * length (now file) ≤ length (now out) ⌝ }
-    ensures { λ r. ⌜ recordLength (take (r .held) (now (file .exit))) ≡ 0 ⌝ }
+    ensures { λ r. ⌜ Ran (now (file .entry)) (now (file .exit)) r ⌝ }
 {
     let mut s = Left {
         held: 0,

@@ -1,9 +1,10 @@
 use native.Mathlib.Omega.{arith}
-use mathlib.Core.Path.{_∙_, ap, sym}
+use mathlib.Core.Path.{_∙_, _≡_, ap, sym}
 use Prim.Native.Nat.{ℕ}
 use lib.ListN.{drop, take}
 use lib.Seq.{length-take-le}
-use Rattle.pieces.proofs.Move.{refilled-front, shifted-front}
+use Rattle.events.specs.Whole.{wholeLength}
+use Rattle.pieces.proofs.Move.{moved-all, refilled-front, shifted-front}
 use borrow.Author.Needs.{needs}
 use Rattle.totext.proofs.piece.Statement.{statement}
 use Rattle.totext.proofs.piece.Tie as tie
@@ -23,6 +24,12 @@ records-requires c κs = let f = c .before .before .before .before in let r = f 
 shift-requires : tie.Need-shift-requires
 shift-requires c κs = search needs
 
+slice-reshare-prefix-may-come : tie.Need-slice-reshare-prefix-may-come
+slice-reshare-prefix-may-come c = let w = c .before .before in let p = w .before .before .before .before in let f = p .before .before .before .before .before in omega (arith, w .shift .ensures .0, moved-all (f .refill .last .0) (p .records .result .passed) (f .refill .result) (f .refill .ensures .counts), f .refill .ensures .counts, w .shift .kept .0)
+
+slice-aggregate-may-come : tie.Need-slice-aggregate-may-come
+slice-aggregate-may-come c = let w = c .before .before .before in let p = w .before .before .before .before in let f = p .before .before .before .before .before in sym (length-take-le (w .shift .result) (w .shift .last .0) (omega (arith, w .shift .ensures .0, moved-all (f .refill .last .0) (p .records .result .passed) (f .refill .result) (f .refill .ensures .counts), f .refill .ensures .counts, w .shift .kept .0)))
+
 may-come-requires : tie.Need-may-come-requires
 may-come-requires c κs = search needs
 
@@ -33,7 +40,7 @@ same-length-2 : tie.Need-same-length-2
 same-length-2 c = search needs
 
 returns : tie.Need-returns
-returns c = let w = c .before .before .before .before in let p = w .before .before .before .before in let f = p .before .before .before .before .before in let s = f .before .before .before .before in let d = f .refill .last .0 in let n = f .refill .result in let h = w .shift .ensures in record { piece = take n d; begins = refilled-front (s .args .file .now) d (s .args .have) n (f .refill .ensures) (f .refill .kept .0); left = rw (h .1, h .0) (shifted-front d (p .records .result .passed) n (f .refill .ensures .counts) ∙ ap (λ (x : ℕ). drop x (take n d)) (p .records .ensures)) }
+returns c = let w = c .before .before .before .before in let p = w .before .before .before .before in let f = p .before .before .before .before .before in let s = f .before .before .before .before in let d = f .refill .last .0 in let n = f .refill .result in let h = w .shift .ensures in let l : take (w .shift .result) (w .shift .last .0) ≡ drop (wholeLength (take n d)) (take n d) = rw (h .1, h .0) (shifted-front d (p .records .result .passed) n (f .refill .ensures .counts) ∙ ap (λ (x : ℕ). drop x (take n d)) (p .records .ensures)) in record { piece = take n d; begins = refilled-front (s .args .file .now) d (s .args .have) n (f .refill .ensures) (f .refill .kept .0); left = l; more = rw (← l, length-take-le n d (f .refill .ensures .counts)) (c .may-come .ensures) }
 
 pub piece-spec : {M : Type 1} → statement M
 piece-spec =
@@ -44,6 +51,8 @@ piece-spec =
     slice-aggregate-records
     records-requires
     shift-requires
+    slice-reshare-prefix-may-come
+    slice-aggregate-may-come
     may-come-requires
     same-length
     same-length-2
