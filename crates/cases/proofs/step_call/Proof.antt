@@ -1,8 +1,8 @@
 use lib.ListN.{length-take}
 use native.Mathlib.Omega.{arith}
 use borrow.Author.Needs.{needs}
-use Rattle.cases.proofs.call_step.Statement.{statement}
-use Rattle.cases.proofs.call_step.Tie as tie
+use Rattle.cases.proofs.step_call.Statement.{statement}
+use Rattle.cases.proofs.step_call.Tie as tie
 
 within-requires : tie.Need-within-requires
 within-requires c κs = search needs
@@ -34,8 +34,8 @@ same-length-2 c = search needs
 returns : tie.Need-returns
 returns c = search needs
 
-pub call-step-spec : {M : Type 1} → statement M
-call-step-spec =
+pub step-call-spec : {M : Type 1} → statement M
+step-call-spec =
     tie.close
     (tie.spec
     within-requires
