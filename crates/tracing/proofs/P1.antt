@@ -22,8 +22,9 @@ use Rattle.rules.specs.Slots.{carried, flownSlots, slotFrom, written}
 use Rattle.rules.specs.Step.{apply, fence, settledBoard, setup, step, stepBy, stepEvent}
 use Rattle.rules.specs.Tables.{Zero, fresh, lentFrom, lentLine, ownerOf, startLines}
 use Rattle.rules.specs.Walk.{entriesFrom, entriesOf, nextPlace, walk, walkEntries, walkFrom, without}
-use Rattle.text.specs.Write.{decimal, digits}
-use Rattle.tracing.specs.Text.{answerText, behindText, cutText, eventText, finish, flatTo, imageBuffer, lineText, memoryText, numberText, recoveredText, traceText, wordText}
+use Rattle.output.specs.Decimal.{decimal, digits}
+use Rattle.tracing.specs.Text.{behindText, eventText, traceText}
+use Rattle.wording.specs.Text.{answerText, cutText, finish, flatTo, imageBuffer, lineText, memoryText, numberText, recoveredText, wordText}
 
 pub file : List ℕ
 file =

@@ -43,9 +43,9 @@ use Rattle.rules.specs.declared.Event.the-variants.{Begin, Cut, DataAck, End, F
 use Rattle.rules.specs.declared.Listed.{Listed}
 use Rattle.rules.specs.declared.Reading.{Reading}
 use Rattle.rules.specs.declared.Reading.the-variants.{Refused, Whole}
-use Rattle.tracing.proofs.Words.{expected-found, image-log}
-use Rattle.tracing.specs.Claim.{WordsExpected}
-use Rattle.tracing.specs.Text.{cutText, finish, flatTo, imageBuffer, imageLine, lineText, memoryText, recovered, recoveredText}
+use Rattle.wording.proofs.Words.{expected-found, image-log}
+use Rattle.wording.specs.Claim.{WordsExpected}
+use Rattle.wording.specs.Text.{cutText, finish, flatTo, imageBuffer, imageLine, lineText, memoryText, recovered, recoveredText}
 use Rattle.undo.proofs.Laws.{and-true, test}
 
 -- ---- the expected memory holds lines of eight 64-bit words

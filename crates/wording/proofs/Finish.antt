@@ -7,7 +7,7 @@ use borrow.Author.Tests.{eq-eqb, ne-eqb}
 use Rattle.recovery.specs.Places.{restoredOf}
 use Rattle.recovery.specs.declared.Walked.{Walked}
 use Rattle.rules.specs.Recovery.{Recovering, Restored, restore}
-use Rattle.tracing.specs.Text.{finish}
+use Rattle.wording.specs.Text.{finish}
 
 module _ (r : Recovering) (bs : List ℕ) (w : Walked) (s : restoredOf bs w ≡ restore r) where
   pub finish-stop : (n : ℕ) → (w .answer .value ≡ 1 → ⊥) → bs ≡ finish n r

@@ -22,7 +22,7 @@ use Rattle.rules.specs.Recovery.{Act, PowerCut, Recovering, Restore, act, acts,
 use Rattle.rules.specs.Walk.{walkEntries}
 use Rattle.rules.specs.Tables.{Board, Memory, threadAt}
 use Rattle.rules.specs.declared.Event.{Event}
-use Rattle.tracing.specs.Text.{finish, recovered}
+use Rattle.wording.specs.Text.{finish, recovered}
 use Rattle.undo.proofs.Laws.{and-true, test}
 
 -- a step answers 'finished' where it does not answer 'more'

@@ -1,7 +1,7 @@
 use Rattle.lines.specs.Room.{lineIn}
 use borrow.Author.Needs.{needs}
-use Rattle.tracing.proofs.image_line.Statement.{statement}
-use Rattle.tracing.proofs.image_line.Tie as tie
+use Rattle.wording.proofs.image_line.Statement.{statement}
+use Rattle.wording.proofs.image_line.Tie as tie
 
 mul-take-line : tie.Need-mul-take-line
 mul-take-line c = search needs
@@ -20,4 +20,5 @@ unfolding lineIn
 returns c = c .take-line .ensures
 
 pub image-line-spec : {M : Type 1} → statement M
-image-line-spec = tie.close (tie.spec mul-take-line add-take-line add-take-line-2 take-line-requires returns)
+image-line-spec =
+    tie.close (tie.spec mul-take-line add-take-line add-take-line-2 take-line-requires returns)

@@ -1,13 +1,13 @@
 use mathlib.Core.Path.{_≡_, _∙_, refl}
 use Prim.Native.Nat.{_+_}
 use lib.ListN.{length}
-use Rattle.tracing.proofs.Finish.{finish-last, finish-more, finish-stop}
-use Rattle.tracing.specs.Text.{finish, recovered}
+use Rattle.wording.proofs.Finish.{finish-last, finish-more, finish-stop}
+use Rattle.wording.specs.Text.{finish, recovered}
 use borrow.Author.Needs.{needs}
-use Rattle.tracing.proofs.recover.Statement.{statement}
-use Rattle.tracing.proofs.recover.Tie as tie
-use Rattle.tracing.proofs.recover.Reads as reads
-use Rattle.tracing.proofs.recover.Lts as lts
+use Rattle.wording.proofs.recover.Statement.{statement}
+use Rattle.wording.proofs.recover.Tie as tie
+use Rattle.wording.proofs.recover.Reads as reads
+use Rattle.wording.proofs.recover.Lts as lts
 use Rattle.recovery.proofs.step_at.Reads as step-at-reads
 
 abbrev Inv-loop : tie.InvT-loop
