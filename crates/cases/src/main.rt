@@ -15,8 +15,8 @@
 // Prints a line for each case, then how many there are and how many are right. A line in no form makes its case wrong.
 use rows::Head;
 use rules::Answer;
+use steps::Outcome;
 use trying::Due;
-use trying::Row;
 use trying::Total;
 ghost use Prim.Native.Nat.{_≤_};
 ghost use mathlib.Core.Path.{_≡_};
@@ -26,98 +26,66 @@ ghost use Rattle.trying.specs.Score.{agree, counted};
 
 // ---- a line
 
-// What a line is; `)` has the number of turns, a call its number, and behind the last line comes the end.
-enum Kind {
-    Blank,
-    Open,
-    Close(u64),
-    Case,
-    Lent,
-    Event,
-    Call(u8),
-    End,
-}
+// The words that begin a line, by number. A line with no word is empty, a bracket or an event, and so is one that begins with `lent` inside a case.
+const CASE: usize = 0;
 
-// Whether a line begins with a word.
-fn begins(line: &[u8], word: &[u8]) -> bool {
-    if line.len() < word.len() {
+const ANSWERS: usize = 1;
+
+const IMAGE: usize = 2;
+
+const RECOVER: usize = 3;
+
+const BYTE: usize = 4;
+
+const WORD: usize = 5;
+
+const PLACE: usize = 6;
+
+const RECORD: usize = 7;
+
+const PUT: usize = 8;
+
+const LENGTH: usize = 9;
+
+const LENT: usize = 10;
+
+const NO_WORD: usize = 11;
+
+// Whether a line begins with word i and a blank.
+fn is_word(line: &[u8], i: usize) -> bool {
+    let words =
+        b"case    answers image   recover byte    word    place   record  put     length  lent    ";
+    if NO_WORD <= i {
         return false;
     }
-    let mut i: usize = 0;
-    while i < word.len() {
-        if line[i] != word[i] {
+    let mut j: usize = 0;
+    while j < 8 {
+        let b = words[8 * i + j];
+        if byte_at(line, j) != b {
             return false;
         }
-        i += 1;
+        if b == 32 {
+            return true;
+        }
+        j += 1;
     }
     true
 }
 
-// The calls by number; 0 is none.
-fn call_of(line: &[u8]) -> u8 {
-    if begins(line, b"answers ") {
-        return 1;
+fn word_of(line: &[u8]) -> usize {
+    let mut i: usize = 0;
+    while i < NO_WORD {
+        if is_word(line, i) {
+            return i;
+        }
+        i += 1;
     }
-    if begins(line, b"image ") {
-        return 2;
-    }
-    if begins(line, b"record ") {
-        return 3;
-    }
-    if begins(line, b"put ") {
-        return 4;
-    }
-    if begins(line, b"length ") {
-        return 5;
-    }
-    if begins(line, b"recover ") {
-        return 6;
-    }
-    if begins(line, b"place = ") {
-        return 7;
-    }
-    if begins(line, b"place ") {
-        return 8;
-    }
-    if begins(line, b"byte ") {
-        return 9;
-    }
-    if begins(line, b"word ") {
-        return 10;
-    }
-    0
+    i
 }
 
-fn first_number(line: &[u8]) -> u64 {
-    let row = trying::row_of(line);
-    let numbers = row.numbers;
-    numbers[0]
-}
-
-fn kind_of(line: &[u8], last: bool) -> Kind {
-    if last {
-        return Kind::End;
-    }
-    if line.len() == 0 {
-        return Kind::Blank;
-    }
-    if begins(line, b"(") {
-        return Kind::Open;
-    }
-    if begins(line, b")") {
-        return Kind::Close(first_number(line));
-    }
-    if begins(line, b"case ") {
-        return Kind::Case;
-    }
-    if begins(line, b"lent ") {
-        return Kind::Lent;
-    }
-    let n = call_of(line);
-    if n == 0 {
-        return Kind::Event;
-    }
-    Kind::Call(n)
+// The byte at i; 0 if there is none.
+fn byte_at(bytes: &[u8], i: usize) -> u8 {
+    if i < bytes.len() { bytes[i] } else { 0 }
 }
 
 // The number n, or that of the bytes if there are fewer.
@@ -127,21 +95,17 @@ fn within(bytes: &[u8], n: usize) -> usize
     if n < bytes.len() { n } else { bytes.len() }
 }
 
-fn least(a: usize, b: usize) -> usize
-    ensures { λ r. ⌜ r ≤ b ⌝ }
-{
-    if a < b { a } else { b }
+// One of two numbers.
+fn either(first: bool, a: usize, b: usize) -> usize {
+    if first { a } else { b }
 }
 
-// The place n bytes behind `at`, or the end.
-fn behind(bytes: &[u8], at: usize, n: usize) -> usize
-    requires { ⌜ at ≤ length (now bytes) ⌝ }
-    ensures { λ r. ⌜ (at ≤ r) × (r ≤ length (now (bytes .entry))) ⌝ }
-{
-    if n < bytes.len() - at {
-        return at + n;
-    }
-    bytes.len()
+fn sum(a: usize, b: usize) -> usize {
+    if a <= usize::MAX - b { a + b } else { a }
+}
+
+fn low(x: u64) -> u8 {
+    (x % 256) as u8
 }
 
 // The line at a place: its text starts there and ends at its comment or its end, and whether it is behind the last one.
@@ -161,7 +125,7 @@ fn line_at(text: &[u8], at: usize) -> Line
     Line {
         start: start,
         end: end,
-        next: behind(text, e, 1),
+        next: sum(e, 1),
         last: text.len() <= at,
     }
 }
@@ -183,27 +147,24 @@ fn spot_at(at: usize) -> Spot {
     }
 }
 
-// The end of lines that are repeated n times.
-fn repeated(s: Spot, next: usize, n: u64) -> Spot {
-    if s.turns < n {
-        return Spot {
-            at: s.mark,
-            mark: s.mark,
-            turns: s.turns + 1,
-        };
+// Behind a line with the first byte b and the first number n: `(` begins lines that are repeated, `)` ends them.
+fn spot_behind(s: Spot, b: u8, n: u64, next: usize) -> Spot {
+    if b == 41 {
+        if s.turns < n {
+            return Spot {
+                at: s.mark,
+                mark: s.mark,
+                turns: s.turns + 1,
+            };
+        }
     }
-    spot_at(next)
-}
-
-fn spot_behind(s: Spot, kind: Kind, next: usize) -> Spot {
-    match kind {
-        Kind::Open => spot_at(next),
-        Kind::Close(n) => repeated(s, next, n),
-        _ => Spot {
-            at: next,
-            mark: s.mark,
-            turns: s.turns,
-        },
+    if b == 40 || b == 41 {
+        return spot_at(next);
+    }
+    Spot {
+        at: next,
+        mark: s.mark,
+        turns: s.turns,
     }
 }
 
@@ -271,22 +232,15 @@ fn spoil(s: Score) -> Score {
     }
 }
 
-// What is looked at, as an answer.
-fn seen(value: u64) -> Answer {
-    Answer {
-        refusal: 0,
-        value: value,
-    }
-}
-
 // ---- events
 
-// A case as far as its events are tried: the numbers beside the rows, the score, the bytes of its file, and whether these are all.
+// A case as far as it is tried: the numbers beside the rows, the score, the bytes of its file, whether these are all, and the length of the image.
 struct Tried {
     head: Head,
     score: Score,
     file: usize,
     whole: bool,
+    image: usize,
 }
 
 fn fresh(zero: bool, lent: usize) -> Tried {
@@ -298,49 +252,32 @@ fn fresh(zero: bool, lent: usize) -> Tried {
         },
         file: 0,
         whole: true,
+        image: 0,
     }
 }
 
-fn spoiled(t: Tried) -> Tried {
-    let h = t.head;
-    let s = t.score;
-    Tried {
-        head: h,
-        score: spoil(s),
-        file: t.file,
-        whole: t.whole,
-    }
-}
-
-fn low(x: u64) -> u8 {
-    (x % 256) as u8
-}
-
-// Where the next record goes in the file: a file that is full begins anew.
-fn room_at(file: usize) -> usize {
-    if file < 4064 { file } else { 0 }
-}
-
-// What a line has for the board: nothing, an event, or no form. Where the event's record stands in the file of its case, and what its answer must be.
+// What a line has for the board: whether it has an event, whether that is in its form, and where its record stands in the file of its case. A line without
+// one has the empty record, which the board refuses.
 struct EventRead {
     event: bool,
     ok: bool,
     at: usize,
     end: usize,
-    due: Due,
 }
 
-fn no_event() -> EventRead {
+fn no_event(ok: bool, at: usize) -> EventRead
+    ensures { λ r. ⌜ (r .at ≡ at) × (r .end ≡ at) ⌝ }
+{
     EventRead {
-        event: false,
-        ok: true,
-        at: 0,
-        end: 0,
-        due: Due {
-            refusal: 0,
-            value: 0,
-        },
+        event: !ok,
+        ok: ok,
+        at: at,
+        end: at,
     }
+}
+
+fn is_event(word: usize, first: u8) -> bool {
+    LENT <= word && first != 0 && first != 40 && first != 41
 }
 
 // The event is in the form of crate text, has room in the file, and stands before a '='.
@@ -348,211 +285,116 @@ fn is_in_form(ok: bool, short: bool, split: bool) -> bool {
     ok && !short && split
 }
 
-fn sum(a: usize, b: usize) -> usize {
-    if a <= usize::MAX - b { a + b } else { a }
-}
-
-// The event of a line goes into the file behind the last one.
-fn read_event(file: &mut [u8], from: usize, line: &[u8]) -> EventRead {
+// The event of a line goes into the file behind the last one; a file that is full begins anew.
+fn read_event(file: &mut [u8], from: usize, event: bool, line: &[u8]) -> EventRead
+    ensures { λ r. ⌜ (r .at ≤ r .end) × (r .end ≤ length (now (file .exit))) ⌝ }
+{
+    if !event {
+        return no_event(true, within(file, from));
+    }
+    let at = within(file, either(from < 4064, from, 0));
     let e = trying::find(line, 0, 61);
-    let at = within(file, room_at(from));
     let read = parsing::read_text(&line[..e], &mut file[at..]);
     let c = read.cursor;
-    let row = trying::row_of(line);
+    let end = within(file, sum(at, c.at));
+    if end < at {
+        return no_event(false, at);
+    }
+    if !is_in_form(read.ok, c.short, e < line.len()) {
+        return no_event(false, at);
+    }
     EventRead {
         event: true,
-        ok: is_in_form(read.ok, c.short, e < line.len()),
+        ok: true,
         at: at,
-        end: sum(at, c.at),
-        due: trying::due_of(row),
+        end: end,
     }
 }
 
-// A step over the lines of the events: the next line, whether they are over, and what the line has.
-struct Next {
-    spot: Spot,
-    over: bool,
-    read: EventRead,
+// A line that has an answer to judge, or is in no form.
+fn scored(s: Score, judged: bool, ok: bool, a: Answer, line: &[u8]) -> Score {
+    if !judged {
+        return s;
+    }
+    if !ok {
+        return spoil(s);
+    }
+    judge(s, a, trying::due_of(line))
 }
 
-fn is_of_events(kind: Kind) -> bool {
-    match kind {
-        Kind::Case => false,
-        Kind::Lent => false,
-        Kind::Call(_) => false,
-        Kind::End => false,
-        _ => true,
-    }
-}
-
-fn read_if_event(file: &mut [u8], from: usize, kind: Kind, line: &[u8]) -> EventRead {
-    match kind {
-        Kind::Event => read_event(file, from, line),
-        _ => no_event(),
-    }
-}
-
-fn next_event(text: &[u8], s: Spot, file: &mut [u8], from: usize) -> Next {
-    let l = line_at(text, s.at);
-    let a = l.start;
-    let b = l.end;
-    let kind = kind_of(&text[a..b], l.last);
-    if !is_of_events(kind) {
-        return Next {
-            spot: s,
-            over: true,
-            read: no_event(),
-        };
-    }
-    let read = read_if_event(file, from, kind, &text[a..b]);
-    Next {
-        spot: spot_behind(s, kind, l.next),
-        over: false,
-        read: read,
-    }
-}
-
-fn try_event(
-    t: Tried,
-    threads: &mut [[u64; 34]; 8],
-    regions: &mut [[u32; 16]; 32],
-    owner: &mut [u32; 256],
-    lock: &mut [bool; 256],
-    cur: &mut [[u64; 8]; 256],
-    med: &mut [[u64; 8]; 256],
-    old: &mut [[u64; 8]; 256],
-    car: &mut [[u64; 8]; 256],
-    file: &[u8],
-    r: EventRead,
-) -> Tried {
-    if !r.event {
-        return t;
-    }
-    if !r.ok {
-        return spoiled(t);
-    }
-    let end = within(file, r.end);
-    let at = least(r.at, end);
-    let h = t.head;
-    let o = engine::event(
-        h,
-        threads,
-        regions,
-        owner,
-        lock,
-        cur,
-        med,
-        old,
-        car,
-        &file[at..end],
-    );
-    let g = o.head;
-    let a = o.answer;
+fn with_event(t: Tried, r: EventRead, o: Outcome, line: &[u8]) -> Tried {
     let s = t.score;
+    let h = o.head;
+    let a = o.answer;
     Tried {
-        head: g,
-        score: judge(s, a, r.due),
-        file: end,
-        whole: t.whole && at == t.file,
+        head: h,
+        score: scored(s, r.event, r.ok, a, line),
+        file: r.end,
+        whole: t.whole && r.at == t.file,
+        image: t.image,
     }
-}
-
-// A case behind its events, and where it goes on.
-struct Eventful {
-    tried: Tried,
-    at: usize,
-}
-
-// The lines of a case as far as they are events, from `at` on. No run uses up the count of lines.
-fn try_events(text: &[u8], from: usize, zero: bool, memory: &[u8], file: &mut [u8]) -> Eventful {
-    let mut threads = [[0u64; 34]; 8];
-    let mut regions = [[0u32; 16]; 32];
-    let mut owner = [0u32; 256];
-    let mut lock = [false; 256];
-    let mut cur = [[0u64; 8]; 256];
-    let mut med = [[0u64; 8]; 256];
-    let mut old = [[0u64; 8]; 256];
-    let mut car = [[0u64; 8]; 256];
-    starting::load(memory, &mut cur);
-    starting::load(memory, &mut med);
-    let mut t = fresh(zero, memory.len());
-    let mut s = spot_at(from);
-    let mut lines = u64::MAX;
-    while lines > 0 {
-        let n = next_event(text, s, file, t.file);
-        if n.over {
-            break;
-        }
-        let r = n.read;
-        t = try_event(
-            t,
-            &mut threads,
-            &mut regions,
-            &mut owner,
-            &mut lock,
-            &mut cur,
-            &mut med,
-            &mut old,
-            &mut car,
-            file,
-            r,
-        );
-        let next = n.spot;
-        s = next;
-        lines -= 1;
-    }
-    Eventful { tried: t, at: s.at }
 }
 
 // ---- calls
 
-// A case behind some of its calls: the score, and the length of the image.
-struct Called {
-    score: Score,
-    image: usize,
-}
-
-fn scored(c: Called, a: Answer, row: Row) -> Called {
-    let s = c.score;
-    Called {
-        score: judge(s, a, trying::due_of(row)),
-        image: c.image,
-    }
-}
-
-fn bad_call(c: Called) -> Called {
-    let s = c.score;
-    Called {
-        score: spoil(s),
-        image: c.image,
-    }
-}
-
-fn with_image(c: Called, image: usize) -> Called {
-    let s = c.score;
-    Called {
-        score: s,
-        image: image,
-    }
-}
-
-// The answers of the file, into the first n bytes.
-fn call_answers(file: &[u8], memory: &[u8], out: &mut [u8], n: usize) -> Answer {
+// The answers of the file, or its image, into the first n bytes.
+fn run_call(word: usize, n: usize, file: &[u8], memory: &[u8], out: &mut [u8]) -> Answer {
     let k = within(out, n);
-    engine::run_file(file, memory, &mut out[..k])
-}
-
-// The image, into the first n bytes.
-fn call_image(file: &[u8], memory: &[u8], out: &mut [u8], n: usize) -> Answer {
-    let k = within(out, n);
+    if word == ANSWERS {
+        return engine::run_file(file, memory, &mut out[..k]);
+    }
     engine::run_image(file, memory, &mut out[..k])
 }
 
 // A step over an image of n bytes with a place of m bytes.
-fn call_step(out: &mut [u8], n: usize, place: &mut [u8], m: usize) -> Answer {
+fn step_call(out: &mut [u8], n: usize, place: &mut [u8], m: usize) -> Answer {
     let k = within(out, n);
     let p = within(place, m);
     recovery::recovery_call(&mut out[..k], &mut place[..p])
+}
+
+// Where word w of line l stands in an image; behind the buffer if there is none.
+fn word_place(l: u64, w: u64) -> usize {
+    if 255 < l {
+        return 40000;
+    }
+    if 7 < w {
+        return 40000;
+    }
+    (5 + 65 * l + 8 * w) as usize
+}
+
+fn look(word: usize, x: u64, y: u64, out: &[u8], place: &[u8]) -> u64 {
+    if word == PLACE {
+        return lines::take_word(place, 0);
+    }
+    if word == BYTE {
+        return byte_at(out, x as usize) as u64;
+    }
+    lines::take_word(out, word_place(x, y))
+}
+
+// The answer of a call; what is looked at is the value of one.
+fn call(
+    word: usize,
+    line: &[u8],
+    file: &[u8],
+    memory: &[u8],
+    out: &mut [u8],
+    image: usize,
+    place: &mut [u8],
+) -> Answer {
+    let x = trying::number(line, 0);
+    if word <= IMAGE {
+        return run_call(word, x as usize, file, memory, out);
+    }
+    if word == RECOVER {
+        return step_call(out, image, place, x as usize);
+    }
+    Answer {
+        refusal: 0,
+        value: look(word, x, trying::number(line, 1), out, place),
+    }
 }
 
 // The bytes of an image record of a kind.
@@ -566,195 +408,99 @@ fn record_length(kind: u64) -> usize {
     }
 }
 
-// A byte, i places behind `at`, if there is room.
-fn put_byte(out: &mut [u8], at: usize, i: usize, b: u8)
-    ensures { λ _. ⌜ length (now (out .exit)) ≡ length (now (out .entry)) ⌝ }
-{
-    if out.len() <= at {
-        return;
+fn set_byte(out: &mut [u8], at: usize, b: u8) {
+    if at < out.len() {
+        out[at] = b;
     }
-    if out.len() - at <= i {
-        return;
-    }
-    out[at + i] = b;
 }
 
-// The numbers from place k on up to place e, as bytes from `at` on; 0 where there is no number.
-fn put_bytes(out: &mut [u8], at: usize, numbers: [u64; 20], k: usize, e: usize) {
+// The numbers of a line from number k on up to number e, as bytes from `at` on; 0 where there is no number.
+fn put_bytes(out: &mut [u8], at: usize, line: &[u8], k: usize, e: usize) {
     let mut i = k;
-    let mut p: usize = 0;
+    let mut p = at;
     while i < e {
-        put_byte(out, at, p, low(trying::number_at(numbers, i)));
-        i += 1;
-        p += 1;
-    }
-}
-
-// The number of the eight bytes from `at` on.
-fn word_at(bytes: &[u8], at: usize) -> u64 {
-    let mut v: u64 = 0;
-    let mut i: usize = 8;
-    while 0 < i {
-        i -= 1;
-        v = v % 72057594037927936 * 256 + byte_at(bytes, at, i) as u64;
-    }
-    v
-}
-
-// The byte i behind `at`; 0 if there is none.
-fn byte_at(bytes: &[u8], at: usize, i: usize) -> u8 {
-    if bytes.len() <= at {
-        return 0;
-    }
-    if bytes.len() - at <= i {
-        return 0;
-    }
-    bytes[at + i]
-}
-
-// A number in the first eight bytes.
-fn put_word(bytes: &mut [u8], v: u64) {
-    let mut y = v;
-    let mut i: usize = 0;
-    while i < 8 {
-        put_byte(bytes, 0, i, low(y));
-        y = y / 256;
+        set_byte(out, p, low(trying::number(line, i)));
+        p = sum(p, 1);
         i += 1;
     }
 }
 
-// Where word w of line l stands in an image.
-fn word_place(l: u64, w: u64) -> usize {
-    if 255 < l {
-        return 40000;
+// Whether a line changes the buffer, the place or the length of the image.
+fn changes(word: usize, line: &[u8]) -> bool {
+    if word == PLACE {
+        return trying::find(line, 0, 61) == line.len();
     }
-    if 7 < w {
-        return 40000;
-    }
-    (5 + 65 * l + 8 * w) as usize
+    PLACE < word
 }
 
-// A call that runs the file of the case.
-fn run_call(c: Called, call: u8, row: Row, file: &[u8], memory: &[u8], out: &mut [u8]) -> Called {
-    let numbers = row.numbers;
-    let n = numbers[0] as usize;
-    if call == 1 {
-        return scored(c, call_answers(file, memory, out, n), row);
+// Answers the length of the image behind it.
+fn change(word: usize, line: &[u8], out: &mut [u8], image: usize, place: &mut [u8]) -> usize {
+    let x = trying::number(line, 0);
+    if word == PLACE {
+        lines::put_word(place, 0, x);
+        return image;
     }
-    let a = call_image(file, memory, out, n);
-    let d = scored(c, a, row);
-    if a.refusal != 0 {
-        return d;
+    if word == PUT {
+        put_bytes(out, x as usize, line, 1, trying::number_count(line));
+        return image;
     }
-    with_image(d, a.value as usize)
+    if word == LENGTH {
+        return x as usize;
+    }
+    let n = record_length(x);
+    put_bytes(out, image, line, 0, n);
+    sum(image, n)
 }
 
-// A line that changes the buffer or the place.
-fn change(c: Called, call: u8, row: Row, out: &mut [u8], place: &mut [u8]) -> Called {
-    let numbers = row.numbers;
-    let x = numbers[0];
-    if call == 3 {
-        let n = record_length(x);
-        let at = within(out, c.image);
-        put_bytes(out, at, numbers, 0, n);
-        return with_image(c, behind(out, at, n));
-    }
-    if call == 4 {
-        put_bytes(out, x as usize, numbers, 1, row.n);
-        return c;
-    }
-    if call == 5 {
-        return with_image(c, within(out, x as usize));
-    }
-    put_word(place, x);
-    c
+// The bytes of the file of a case; one that found no room counts as empty.
+fn file_length(t: Tried, file: &[u8]) -> usize
+    ensures { λ r. ⌜ r ≤ length (now (file .entry)) ⌝ }
+{
+    within(file, either(t.whole, t.file, 0))
 }
 
-// A line that steps or looks.
-fn look(c: Called, call: u8, row: Row, out: &mut [u8], place: &mut [u8]) -> Called {
-    let numbers = row.numbers;
-    let x = numbers[0];
-    if call == 6 {
-        return scored(c, call_step(out, c.image, place, x as usize), row);
+// The score and the length of the image behind a call.
+fn with_call(t: Tried, judged: bool, a: Answer, line: &[u8], image: usize) -> Tried {
+    let h = t.head;
+    let s = t.score;
+    Tried {
+        head: h,
+        score: scored(s, judged, true, a, line),
+        file: t.file,
+        whole: t.whole,
+        image: image,
     }
-    if call == 7 {
-        return scored(c, seen(word_at(place, 0)), row);
-    }
-    if call == 9 {
-        return scored(c, seen(byte_at(out, x as usize, 0) as u64), row);
-    }
-    scored(c, seen(word_at(out, word_place(x, numbers[1]))), row)
 }
 
 fn try_call(
-    c: Called,
-    kind: Kind,
+    t: Tried,
+    word: usize,
     line: &[u8],
     file: &[u8],
     memory: &[u8],
     out: &mut [u8],
     place: &mut [u8],
-) -> Called {
-    let row = trying::row_of(line);
-    match kind {
-        Kind::Call(n) => {
-            if n < 3 {
-                return run_call(c, n, row, file, memory, out);
-            }
-            if n < 6 || n == 8 {
-                return change(c, n, row, out, place);
-            }
-            look(c, n, row, out, place)
-        }
-        Kind::Event => bad_call(c),
-        Kind::Lent => bad_call(c),
-        _ => c,
+) -> Tried {
+    if LENT <= word {
+        return t;
     }
-}
-
-fn ends_case(kind: Kind) -> bool {
-    match kind {
-        Kind::Case => true,
-        Kind::End => true,
-        _ => false,
+    if changes(word, line) {
+        let none = Answer {
+            refusal: 0,
+            value: 0,
+        };
+        return with_call(
+            t,
+            false,
+            none,
+            line,
+            change(word, line, out, t.image, place),
+        );
     }
-}
-
-// The lines of a case behind its events.
-fn try_calls(
-    text: &[u8],
-    from: usize,
-    score: Score,
-    file: &[u8],
-    memory: &[u8],
-    out: &mut [u8],
-    place: &mut [u8],
-) -> Done {
-    let mut c = Called {
-        score: score,
-        image: 0,
-    };
-    let mut s = spot_at(from);
-    let mut lines = u64::MAX;
-    while lines > 0 {
-        let l = line_at(text, s.at);
-        let a = l.start;
-        let b = l.end;
-        let kind = kind_of(&text[a..b], l.last);
-        if ends_case(kind) {
-            break;
-        }
-        c = try_call(c, kind, &text[a..b], file, memory, out, place);
-        s = spot_behind(s, kind, l.next);
-        lines -= 1;
-    }
-    let q = c.score;
-    print_right(q.right);
-    Done {
-        case: true,
-        right: q.right,
-        at: s.at,
-    }
+    let n = file_length(t, file);
+    let a = call(word, line, &file[..n], memory, out, t.image, place);
+    let saved = word == IMAGE && a.refusal == 0;
+    with_call(t, true, a, line, either(saved, a.value as usize, t.image))
 }
 
 // ---- the text
@@ -772,61 +518,71 @@ fn print_right(right: bool) {
     }
 }
 
-// The length of the file of a case; one that found no room counts as empty.
-fn file_length(t: Tried) -> usize {
-    if t.whole {
-        return t.file;
-    }
-    0
+fn ends_case(last: bool, word: usize) -> bool {
+    last || word == CASE
 }
 
-// A file as it stands.
-fn file_of(file: [u8; 4096]) -> [u8; 4096]
-    ensures { λ r. ⌜ 4096 ≡ length r ⌝ }
-{
-    file
-}
-
-// How a case starts: over zero memory, or over n lent bytes; and where its events begin.
-struct Start {
+// The lines of a case, from `from` on. No run uses up the count of lines.
+fn run_lines(
+    text: &[u8],
+    from: usize,
     zero: bool,
-    n: usize,
-    fill: u8,
-    at: usize,
-}
-
-// A line `lent` stands right behind the name.
-fn start_with(line: &[u8], at: usize, next: usize) -> Start {
-    if !begins(line, b"lent ") {
-        return Start {
-            zero: true,
-            n: 0,
-            fill: 0,
-            at: at,
-        };
+    memory: &[u8],
+    file: &mut [u8],
+    out: &mut [u8],
+    place: &mut [u8],
+) -> Done {
+    let mut threads = [[0u64; 34]; 8];
+    let mut regions = [[0u32; 16]; 32];
+    let mut owner = [0u32; 256];
+    let mut lock = [false; 256];
+    let mut cur = [[0u64; 8]; 256];
+    let mut med = [[0u64; 8]; 256];
+    let mut old = [[0u64; 8]; 256];
+    let mut car = [[0u64; 8]; 256];
+    starting::load(memory, &mut cur);
+    starting::load(memory, &mut med);
+    let mut t = fresh(zero, memory.len());
+    let mut s = spot_at(from);
+    let mut lines = u64::MAX;
+    while lines > 0 {
+        let l = line_at(text, s.at);
+        let a = l.start;
+        let b = l.end;
+        let line = &text[a..b];
+        let word = word_of(line);
+        if ends_case(l.last, word) {
+            break;
+        }
+        let first = byte_at(line, 0);
+        let r = read_event(file, t.file, is_event(word, first), line);
+        let i = r.at;
+        let j = r.end;
+        let h = t.head;
+        let o = engine::event(
+            h,
+            &mut threads,
+            &mut regions,
+            &mut owner,
+            &mut lock,
+            &mut cur,
+            &mut med,
+            &mut old,
+            &mut car,
+            &file[i..j],
+        );
+        t = with_event(t, r, o, line);
+        t = try_call(t, word, line, file, memory, out, place);
+        s = spot_behind(s, first, trying::number(line, 0), l.next);
+        lines -= 1;
     }
-    let row = trying::row_of(line);
-    let numbers = row.numbers;
-    Start {
-        zero: false,
-        n: numbers[0] as usize,
-        fill: low(numbers[1]),
-        at: next,
+    let q = t.score;
+    print_right(q.right);
+    Done {
+        case: true,
+        right: q.right,
+        at: s.at,
     }
-}
-
-fn start_of(text: &[u8], at: usize) -> Start {
-    let l = line_at(text, at);
-    let a = l.start;
-    let b = l.end;
-    start_with(&text[a..b], at, l.next)
-}
-
-// The lent memory, as much of it as a case may have.
-fn memory_of(fill: u8) -> [u8; 16448]
-    ensures { λ r. ⌜ 16448 ≡ length r ⌝ }
-{
-    [fill; 16448]
 }
 
 // The buffer of a case; an image has at most 34,853 bytes.
@@ -836,31 +592,31 @@ fn buffer() -> [u8; 40000]
     [0; 40000]
 }
 
-// A case behind its events, which are a file now.
-fn run_calls(text: &[u8], at: usize, score: Score, file: &[u8], memory: &[u8]) -> Done {
-    let mut out = buffer();
-    let mut place = [0u8; 16];
-    try_calls(text, at, score, file, memory, &mut out, &mut place)
-}
-
 // A case over its memory.
 fn run_over(text: &[u8], at: usize, zero: bool, memory: &[u8]) -> Done {
     let mut file = io::buffer();
-    let e = try_events(text, at, zero, memory, &mut file);
-    let t = e.tried;
-    let s = t.score;
-    let f = file_length(t);
-    let whole = file_of(file);
-    let n = within(&whole, f);
-    run_calls(text, e.at, s, &whole[..n], memory)
+    let mut out = buffer();
+    let mut place = [0u8; 16];
+    run_lines(text, at, zero, memory, &mut file, &mut out, &mut place)
 }
 
-// The case whose lines begin at `from`.
+// The lent memory, as much of it as a case may have.
+fn memory_of(fill: u8) -> [u8; 16448]
+    ensures { λ r. ⌜ 16448 ≡ length r ⌝ }
+{
+    [fill; 16448]
+}
+
+// The case whose lines begin at `from`. A line `lent` stands right behind the name.
 fn run_case(text: &[u8], from: usize) -> Done {
-    let start = start_of(text, from);
-    let memory = memory_of(start.fill);
-    let k = within(&memory, start.n);
-    run_over(text, start.at, start.zero, &memory[..k])
+    let l = line_at(text, from);
+    let a = l.start;
+    let b = l.end;
+    let line = &text[a..b];
+    let lent = word_of(line) == LENT;
+    let memory = memory_of(low(trying::number(line, 1)));
+    let n = within(&memory, either(lent, trying::number(line, 0) as usize, 0));
+    run_over(text, either(lent, l.next, from), !lent, &memory[..n])
 }
 
 // The name behind the word `case`.
@@ -876,7 +632,7 @@ fn run_line(text: &[u8], at: usize) -> Done {
     let a = l.start;
     let b = l.end;
     let line = &text[a..b];
-    if !begins(line, b"case ") {
+    if word_of(line) != CASE {
         return Done {
             case: false,
             right: false,

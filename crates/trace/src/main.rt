@@ -1,8 +1,7 @@
 // Reads an event file on standard input, runs it over zero memory, and prints the text of each event. The file may have any length: it is read in pieces, and in
 // whatever pieces it comes the texts that `tracing::trace_piece` gives make the text of the file (`tracing::pieces_are_right`).
 use rows::Head;
-ghost use Rattle.rows.specs.Whole.{boardOf};
-ghost use Rattle.trace.specs.Results.{Turned};
+ghost use Rattle.trace.specs.Results.{Turns};
 
 // A piece of the file: longer than the longest record, so that a full buffer without a whole record begins with an unknown kind, which ends the file.
 const PIECE: usize = 65536;
@@ -31,7 +30,7 @@ fn turn(
     buffer: &mut [u8],
     out: &mut [u8],
 ) -> State
-    ensures { λ r. ⌜ Turned (boardOf (s .head) (now (threads .entry)) (now (regions .entry)) (now (owner .entry)) (now (lock .entry)) (now (cur .entry)) (now (med .entry)) (now (old .entry)) (now (car .entry))) (boardOf (r .head) (now (threads .exit)) (now (regions .exit)) (now (owner .exit)) (now (lock .exit)) (now (cur .exit)) (now (med .exit)) (now (old .exit)) (now (car .exit))) (now (buffer .entry)) (now (buffer .exit)) (now (out .entry)) (now (out .exit)) (s .held) (r .held) ⌝ }
+    ensures { λ r. ⌜ Turns (s .head) (r .head) threads regions owner lock cur med old car buffer out (s .held) (r .held) ⌝ }
 {
     let h = s.head;
     let n = pieces::refill(buffer, s.held);

@@ -192,7 +192,7 @@ module _ (last : Bool) (piece : List ℕ) (b₀ : Board) (d₀ : List ℕ) (at�
 
     module _ (b′ : Board) (d′ : List ℕ) (t : Traced) (e : TracedEvent (leb (p + longestText) (length d)) b b′ (drop i piece) d d′ p t) where
       -- it found no room
-      pub at-full : (r : TracedPiece) → isDue last (drop i piece) ≡ true → t .room ≡ false → r .at ≡ t .at → r .passed ≡ i → r .full ≡ true → RanPiece last b₀ b′ piece d₀ d′ at₀ K r
+      at-full : (r : TracedPiece) → isDue last (drop i piece) ≡ true → t .room ≡ false → r .at ≡ t .at → r .passed ≡ i → r .full ≡ true → RanPiece last b₀ b′ piece d₀ d′ at₀ K r
       unfolding isFull
       at-full r u f a l z =
           let q : leb (p + longestText) (length d) ≡ false = sym (e .told) ∙ f in
@@ -208,7 +208,7 @@ module _ (last : Bool) (piece : List ℕ) (b₀ : Board) (d₀ : List ℕ) (at�
         roomy = sym (e .told) ∙ f
 
         -- the length of its record
-        pub passes : t .passed ≡ recordLength (drop i piece)
+        passes : t .passed ≡ recordLength (drop i piece)
         passes = rw roomy at (e .passes)
 
         moved : (rs : List (List ℕ)) → dueIn last (drop i piece) ≡ drop i piece ∷ rs → runInto b′ d′ (t .at) rs ≡ runInto b₀ d₀ at₀ (dueIn last piece)
@@ -219,7 +219,7 @@ module _ (last : Bool) (piece : List ℕ) (b₀ : Board) (d₀ : List ℕ) (at�
             rw (x, y, w) (sym (into-on b d p (drop i piece) rs roomy) ∙ (ap (runInto b d p) (sym o) ∙ v .same))
 
         -- it ended the file
-        pub at-last : (r : TracedPiece) → isDue last (drop i piece) ≡ true → t .passed ≡ 0 → r .at ≡ t .at → r .passed ≡ length piece → r .full ≡ false → RanPiece last b₀ b′ piece d₀ d′ at₀ K r
+        at-last : (r : TracedPiece) → isDue last (drop i piece) ≡ true → t .passed ≡ 0 → r .at ≡ t .at → r .passed ≡ length piece → r .full ≡ false → RanPiece last b₀ b′ piece d₀ d′ at₀ K r
         unfolding isFull
         at-last r u g a l z =
             let n : recordLength (drop i piece) ≡ 0 = sym passes ∙ g in
@@ -229,7 +229,7 @@ module _ (last : Bool) (piece : List ℕ) (b₀ : Board) (d₀ : List ℕ) (at�
             answers b′ d′ (t .at) [] r s a (omega arith) (rw (l, k) (drop-length piece)) z
 
         -- it was whole, and the next one follows
-        pub goes : (t .passed ≡ 0 → ⊥) → Runs last piece b₀ d₀ at₀ b′ d′ (t .at) (i + t .passed)
+        goes : (t .passed ≡ 0 → ⊥) → Runs last piece b₀ d₀ at₀ b′ d′ (t .at) (i + t .passed)
         goes g =
             let n = t .passed in
             let h : 0 < n = pos n g in
@@ -242,3 +242,16 @@ module _ (last : Bool) (piece : List ℕ) (b₀ : Board) (d₀ : List ℕ) (at�
               same = moved (dueIn last (drop (i + n) piece)) o;
               behind = sym (length-more piece i n passes h) ∙ v .behind;
             }
+
+      -- a record that did not pass
+      pub at-stop : (r : TracedPiece) → isDue last (drop i piece) ≡ true → t .passed ≡ 0 → r .at ≡ t .at → r .passed ≡ cond (t .room) (length piece) i
+          → r .full ≡ not (t .room) → RanPiece last b₀ b′ piece d₀ d′ at₀ K r
+      at-stop r u g a l z = test (t .room) (λ f. at-last f r u g a (rw f at l) (rw f at z)) (λ f. at-full r u f a (rw f at l) (rw f at z))
+
+      -- one that did found room
+      passed-room : (t .passed ≡ 0 → ⊥) → t .room ≡ true
+      passed-room g =
+          test (t .room) (λ f. f) (λ f. let q : leb (p + longestText) (length d) ≡ false = sym (e .told) ∙ f in absurd (g (rw q at (e .passes))))
+
+      pub goes-on : (t .passed ≡ 0 → ⊥) → Runs last piece b₀ d₀ at₀ b′ d′ (t .at) (i + t .passed)
+      goes-on g = goes (passed-room g) g

@@ -1,9 +1,5 @@
-pub mod Digits
-pub mod Texts
-pub mod Finish
 pub mod Saved
+pub mod Texts
 pub mod Due
 pub mod Pieces
-pub mod Words
 pub mod P1
-pub mod Expected

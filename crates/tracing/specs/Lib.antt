@@ -1,4 +1,4 @@
+pub mod Lent
 pub mod Text
 pub mod Results
 pub mod Pieces
-pub mod Claim

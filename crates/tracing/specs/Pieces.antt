@@ -5,11 +5,13 @@ use mathlib.Core.Bool.{Bool, cond, true}
 use mathlib.Core.List.{List, [], _++_, _∷_}
 use lib.Dec.{leb, ltb}
 use lib.ListN.{drop, length, take}
+use Rattle.rows.specs.declared.Head.{Head}
 use Rattle.rules.specs.Record.{isWhole, readRecord, recordsOf}
 use Rattle.rules.specs.Run.{run}
 use Rattle.rules.specs.Step.{step}
 use Rattle.rules.specs.Tables.{Board}
 use Rattle.events.specs.Whole.{wholeLength}
+use Rattle.tracing.specs.Lent.{Loan, Rows, boardLeft, boardWas, left, was}
 use Rattle.tracing.specs.Results.{Put}
 use Rattle.tracing.specs.Text.{eventText, longestText, traceText}
 use Rattle.tracing.specs.declared.TracedPiece.{TracedPiece}
@@ -46,7 +48,17 @@ pub record RanPiece (last : Bool) (b b′ : Board) (piece d d′ : List ℕ) (at
 abbrev pub Ran : Bool → Board → Board → List ℕ → List ℕ → List ℕ → ℕ → TracedPiece → Type 0
 Ran last b b′ piece d d′ at r = RanPiece last b b′ piece d d′ at (fitting (length d) at b (dueIn last piece)) r
 
+-- the same of what is lent
+abbrev pub TracesPiece : Head → Loan Rows → Loan Rows → Loan (List ℕ) → Loan (List Bool) → Loan Rows → Loan Rows → Loan Rows → Loan Rows
+    → Loan (List ℕ) → Bool → Loan (List ℕ) → ℕ → TracedPiece → Type 0
+TracesPiece h threads regions owner lock cur med old car piece last dst at r =
+    Ran last (boardWas h threads regions owner lock cur med old car) (boardLeft (r .head) threads regions owner lock cur med old car)
+    (was piece) (was dst) (left dst) at r
+
 -- "reads an event file": whatever comes behind a piece, f, what is to be printed from it on is the text of those records, and then what is to be printed
 -- from what is left on
 abbrev pub GoesOn : Type 0
-GoesOn = (last : Bool) (b : Board) (piece f : List ℕ) (k : ℕ) → (last ≡ true → f ≡ []) → traceText b (recordsOf (piece ++ f)) ≡ traceText b (take k (dueIn last piece)) ++ traceText (run b (take k (dueIn last piece)) .board) (recordsOf (leftOf last piece k ++ f))
+GoesOn =
+    (last : Bool) (b : Board) (piece f : List ℕ) (k : ℕ) → (last ≡ true → f ≡ [])
+    → traceText b (recordsOf (piece ++ f))
+    ≡ traceText b (take k (dueIn last piece)) ++ traceText (run b (take k (dueIn last piece)) .board) (recordsOf (leftOf last piece k ++ f))

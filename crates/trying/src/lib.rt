@@ -123,7 +123,7 @@ fn row_with_byte(r: Row, b: u8) -> Row
 }
 
 // The numbers of a line, before its '=' and behind it.
-pub fn row_of(line: &[u8]) -> Row
+fn row_of(line: &[u8]) -> Row
     ensures { λ r. ⌜ r ≡ rowOf (now (line .entry)) ⌝ }
 {
     let mut r = Row {
@@ -141,7 +141,7 @@ pub fn row_of(line: &[u8]) -> Row
 }
 
 // The number at i, 0 if there is none.
-pub fn number_at(numbers: [u64; 20], i: usize) -> u64
+fn number_at(numbers: [u64; 20], i: usize) -> u64
     ensures { λ r. ⌜ r ≡ getD numbers i 0 ⌝ }
 {
     if i < 20 {
@@ -150,14 +150,21 @@ pub fn number_at(numbers: [u64; 20], i: usize) -> u64
     0
 }
 
-// The number behind the one at i.
-fn number_behind(numbers: [u64; 20], i: usize) -> u64
-    ensures { λ r. ⌜ r ≡ getD numbers (i + 1) 0 ⌝ }
+// Number i of a line, 0 if there is none.
+pub fn number(line: &[u8], i: usize) -> u64
+    ensures { λ r. ⌜ r ≡ getD (rowOf (now (line .entry)) .numbers) i 0 ⌝ }
 {
-    if i < 19 {
-        return numbers[i + 1];
-    }
-    0
+    let row = row_of(line);
+    let numbers = row.numbers;
+    number_at(numbers, i)
+}
+
+// How many numbers a line has.
+pub fn number_count(line: &[u8]) -> usize
+    ensures { λ r. ⌜ r ≡ rowOf (now (line .entry)) .n ⌝ }
+{
+    let row = row_of(line);
+    row.n
 }
 
 // ---- an answer
@@ -181,17 +188,18 @@ fn has_two(n: usize, split: usize) -> bool
     false
 }
 
-// What the numbers behind the '=' ask for: a refusal and a value; one number alone is a value.
-pub fn due_of(r: Row) -> Due
-    ensures { λ d. ⌜ d ≡ dueIn r ⌝ }
+// What the numbers behind the '=' of a line ask for: a refusal and a value; one number alone is a value.
+pub fn due_of(line: &[u8]) -> Due
+    ensures { λ d. ⌜ d ≡ dueIn (rowOf (now (line .entry))) ⌝ }
 {
+    let r = row_of(line);
     let numbers = r.numbers;
     let split = r.split;
     let first = number_at(numbers, split);
     if has_two(r.n, split) {
         return Due {
             refusal: first,
-            value: number_behind(numbers, split),
+            value: number_at(numbers, split + 1),
         };
     }
     Due {

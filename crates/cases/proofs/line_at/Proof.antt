@@ -17,8 +17,8 @@ slice-aggregate-find c = simp length-take (omega (arith, c .before .find .ensure
 find-requires-2 : tie.Need-find-requires-2
 find-requires-2 c κs = search needs
 
-behind-requires : tie.Need-behind-requires
-behind-requires c κs = let f = c .before .before in f .find .ensures .inside (f .before .within .ensures)
+sum-requires : tie.Need-sum-requires
+sum-requires c κs = search needs
 
 returns : tie.Need-returns
 returns c = let f = c .before .before .before in (c .before .find2 .ensures .behind, part-inside (f .before .before .before .args .text .now) (f .find .result) (f .before .within .result) (c .before .find2 .result) (f .find .ensures .inside (f .before .within .ensures)) (f .find .ensures .behind) (c .before .find2 .ensures .inside))
@@ -31,5 +31,5 @@ line-at-spec =
     find-requires
     slice-aggregate-find
     find-requires-2
-    behind-requires
+    sum-requires
     returns)

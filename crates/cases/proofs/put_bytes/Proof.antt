@@ -1,4 +1,4 @@
-use Prim.Native.Nat.{_-_, _≤_}
+use Prim.Native.Nat.{_-_}
 use mathlib.Core.Path.{_≡_}
 use lib.ListN.{length}
 use borrow.Author.Needs.{needs}
@@ -6,28 +6,28 @@ use Rattle.cases.proofs.put_bytes.Statement.{statement}
 use Rattle.cases.proofs.put_bytes.Tie as tie
 
 abbrev Inv-loop : tie.InvT-loop
-Inv-loop out₀ at numbers k e i₀ p₀ out i p = (p ≤ i) × (length out ≡ length out₀)
+Inv-loop out₀ at line k e i₀ p₀ out i p = length out ≡ length out₀
 
 abbrev μ-loop : tie.MeasureT-loop
-μ-loop out₀ at numbers k e i₀ p₀ out i p = e - i
+μ-loop out₀ at line k e i₀ p₀ out i p = e - i
 
 loop-holds : tie.Need-loop-holds Inv-loop μ-loop
 loop-holds c = search needs
 
-number-at-requires : tie.Need-number-at-requires Inv-loop μ-loop
-number-at-requires c κs = search needs
+number-requires : tie.Need-number-requires Inv-loop μ-loop
+number-requires c κs = search needs
 
 low-requires : tie.Need-low-requires Inv-loop μ-loop
 low-requires c κs = search needs
 
-put-byte-requires : tie.Need-put-byte-requires Inv-loop μ-loop
-put-byte-requires c κs = search needs
+set-byte-requires : tie.Need-set-byte-requires Inv-loop μ-loop
+set-byte-requires c κs = search needs
+
+sum-requires : tie.Need-sum-requires Inv-loop μ-loop
+sum-requires c κs = search needs
 
 add-i : tie.Need-add-i Inv-loop μ-loop
 add-i c = search needs
-
-add-p : tie.Need-add-p Inv-loop μ-loop
-add-p c = search needs
 
 loop-less : tie.Need-loop-less Inv-loop μ-loop
 loop-less c = search needs
@@ -48,11 +48,11 @@ put-bytes-spec =
     Inv-loop
     μ-loop
     loop-holds
-    number-at-requires
+    number-requires
     low-requires
-    put-byte-requires
+    set-byte-requires
+    sum-requires
     add-i
-    add-p
     loop-less
     loop-again
     same-length

@@ -1,6 +1,7 @@
+use mathlib.Core.Path.{_∙_, ap}
+use Rattle.output.specs.Room.{puts, room}
 use Rattle.rows.specs.Whole.{boardOf}
 use Rattle.tracing.proofs.Saved.{cut-said}
-use Rattle.tracing.proofs.Texts.{put-as}
 use borrow.Author.Needs.{needs}
 use Rattle.tracing.proofs.cut_words.Statement.{statement}
 use Rattle.tracing.proofs.cut_words.Tie as tie
@@ -18,9 +19,13 @@ same-length : tie.Need-same-length
 same-length c = search needs
 
 returns : tie.Need-returns
-returns c = let a = c .before .before .before .before .before .before .before .before .args in λ owner lock cur car. put-as (a .dst .now) (a .at)
-    (cut-said (boardOf (a .h) (a .threads .now) (a .regions .now) owner lock cur (a .med .now) (a .old .now) car) (c .before .before .before .before .before .before .image-buffer .result) (c .before .before .before .before .before .before .image-buffer .ensures))
-    (c .before .before .before .saved-words .ensures owner lock cur car)
+returns c =
+    let i = c .before .before .before .before .before .before .image-buffer in
+    let a = c .before .before .before .before .before .before .before .before .args in
+    λ owner lock cur car.
+    c .before .before .before .saved-words .ensures owner lock cur car
+    ∙ ap (puts (room (a .dst .now) (a .c)))
+    (cut-said (boardOf (a .h) (a .threads .now) (a .regions .now) owner lock cur (a .med .now) (a .old .now) car) (i .result) (i .ensures))
 
 pub cut-words-spec : {M : Type 1} → statement M
 cut-words-spec =

@@ -1,5 +1,5 @@
 use mathlib.Core.Path.{refl}
-use Rattle.tracing.specs.Text.{imageBuffer}
+use Rattle.wording.specs.Text.{imageBuffer}
 use borrow.Author.Needs.{needs}
 use Rattle.tracing.proofs.image_buffer.Statement.{statement}
 use Rattle.tracing.proofs.image_buffer.Tie as tie

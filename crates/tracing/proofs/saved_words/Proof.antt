@@ -1,13 +1,14 @@
 use Prim.Native.Nat.{_≤_, ℕ}
-use mathlib.Core.Path.{_≡_, sym}
+use mathlib.Core.Path.{_∙_, _≡_, ap, sym}
 use mathlib.Core.Bool.{Bool}
 use mathlib.Core.List.{List, []}
 use lib.ListN.{length}
 use native.Mathlib.Omega.{arith}
+use Rattle.output.specs.Room.{puts, room}
 use Rattle.rows.specs.Whole.{boardOf}
 use Rattle.rules.specs.Tables.{Board}
-use Rattle.tracing.proofs.Saved.{none-saved, saved-fits, saved-lines, some-saved, taken}
-use Rattle.tracing.proofs.Texts.{nothing, put-as}
+use Rattle.tracing.proofs.Saved.{none-saved, saved-fits, some-saved, taken}
+use Rattle.tracing.proofs.Texts.{nothing}
 use borrow.Author.Needs.{needs}
 use Rattle.tracing.proofs.saved_words.Statement.{statement}
 use Rattle.tracing.proofs.saved_words.Tie as tie
@@ -25,9 +26,6 @@ from s owner lock cur car =
 -- the buffer behind it
 abbrev saved : tie.After-save → List ℕ
 saved s = s .save .last .1 .1 .1 .1 .1 .0
-
-few-lines : (s : tie.After-save) → s .save .result .refusal ≡ 0 → entry s .args .h .size .lines ≤ 256
-few-lines s h = saved-lines (from s [] [] [] []) (entry s .args .image .now) (saved s) (s .save .result) (s .save .ensures [] [] [] []) h
 
 fits : (s : tie.After-save) → s .save .result .refusal ≡ 0 → s .save .result .value ≤ length (saved s)
 fits s h =
@@ -50,7 +48,7 @@ returns c =
     let s = c .before .before .before .before in
     let a = entry s .args in
     λ owner lock cur car.
-    nothing (a .dst .now) (a .at)
+    nothing _
     (none-saved (from s owner lock cur car) (a .image .now) (saved s) (s .save .result) (s .save .ensures owner lock cur car) (a .h .size .lines) (c .if1 .taken))
 
 slice-relend-prefix-image-words : tie.Need-slice-relend-prefix-image-words
@@ -61,14 +59,8 @@ slice-aggregate-image-words c =
     let s = c .before .before .before .before .before .before .before in
     taken (s .save .result .value) (saved s) (fits s (c .before .before .before .if1 .left))
 
-cast-image-words : tie.Need-cast-image-words
-cast-image-words c = search needs
-
 image-words-requires : tie.Need-image-words-requires
-image-words-requires c κs =
-    let s = c .before .before .before .before .before .before .before .before in
-    let l = few-lines s (c .before .before .before .before .if1 .left) in
-    (l, omega (arith, l, entry s .pre))
+image-words-requires c κs = search needs
 
 same-length-2 : tie.Need-same-length-2
 same-length-2 c = search needs
@@ -78,13 +70,12 @@ same-length-3 c = search needs
 
 returns-2 : tie.Need-returns-2
 returns-2 c =
-    let s = c .before .before .before .before .before .before .before .before .before .before .before .before .before in
+    let s = c .before .before .before .before .before .before .before .before .before .before .before .before in
     let a = entry s .args in
-    let h = c .before .before .before .before .before .before .before .before .before .if1 .left in
     λ owner lock cur car.
-    put-as (a .dst .now) (a .at)
-    (sym (some-saved (from s owner lock cur car) (a .image .now) (saved s) (s .save .result) (s .save .ensures owner lock cur car) (a .h .size .lines) h))
-    (c .before .before .before .before .image-words .ensures)
+    c .before .before .before .before .image-words .ensures .1
+    ∙ ap (puts (room (a .dst .now) (a .c)))
+    (sym (some-saved (from s owner lock cur car) (a .image .now) (saved s) (s .save .result) (s .save .ensures owner lock cur car) (a .h .size .lines) (c .before .before .before .before .before .before .before .before .if1 .left)))
 
 pub saved-words-spec : {M : Type 1} → statement M
 saved-words-spec =
@@ -95,7 +86,6 @@ saved-words-spec =
     returns
     slice-relend-prefix-image-words
     slice-aggregate-image-words
-    cast-image-words
     image-words-requires
     same-length-2
     same-length-3

@@ -1,13 +1,12 @@
 use Prim.Native.Nat.{_+_, _-_, _<_}
 use mathlib.Core.Path.{_∙_, _≡_, refl, sym}
 use mathlib.Core.Bool.{true}
-use lib.Dec.{leb}
 use lib.ListN.{drop, length}
 use native.Mathlib.Omega.{arith}
 use Rattle.lines.proofs.Paste.{rest}
 use Rattle.rows.specs.Whole.{boardOf}
 use Rattle.events.proofs.Records.{pos}
-use Rattle.tracing.proofs.Due.{Runs, at-end, at-full, at-last, goes, is-false, is-true, isDue, starts}
+use Rattle.tracing.proofs.Due.{Runs, at-end, at-stop, goes-on, is-false, is-true, isDue, starts}
 use borrow.Author.Needs.{needs}
 use Rattle.tracing.proofs.trace_piece.Statement.{statement}
 use Rattle.tracing.proofs.trace_piece.Tie as tie
@@ -30,7 +29,9 @@ entry e = turn e .before .before .before
 
 -- its record was due
 due : (e : tie.After-trace-event Inv-loop μ-loop) → isDue (entry e .args .last) (drop (turn e .loop .i) (entry e .args .piece .now)) ≡ true
-due e = sym (rw (rest (entry e .args .piece .now) (turn e .loop .i)) at (e .before .before .before .before .before .before .before .before .before .before .before .before .is-due .ensures)) ∙ is-true _ (e .before .before .before .before .before .before .before .before .before .before .before .if1 .left)
+due e =
+    let d = e .before .before .before .before .before .before .before .before .before .before .before in
+    sym (rw (rest (entry e .args .piece .now) (turn e .loop .i)) at (d .before .is-due .ensures)) ∙ is-true _ (d .if1 .left)
 
 -- the output is as long as before
 same-out : (e : tie.After-trace-event Inv-loop μ-loop) → length (e .trace-event .last .1 .1 .1 .1 .1 .1 .1 .1 .1 .1 .0) ≡ length (entry e .args .dst .now)
@@ -57,7 +58,10 @@ same-length : tie.Need-same-length Inv-loop μ-loop
 same-length c = c .before .before .before .loop .inv .sized
 
 returns : tie.Need-returns Inv-loop μ-loop
-returns c = let q = c .before .before .before in let x = q .before .before .before .args .piece .now in at-end _ _ _ _ _ _ _ _ _ (q .loop .inv) _ (sym (rw (rest x (q .loop .i)) at (c .before .is-due .ensures)) ∙ is-false _ (c .if1 .taken)) refl refl refl
+returns c =
+    let q = c .before .before .before in
+    let x = q .before .before .before .args .piece .now in
+    at-end _ _ _ _ _ _ _ _ _ (q .loop .inv) _ (sym (rw (rest x (q .loop .i)) at (c .before .is-due .ensures)) ∙ is-false _ (c .if1 .taken)) refl refl refl
 
 sub-trace-event : tie.Need-sub-trace-event Inv-loop μ-loop
 sub-trace-event c = search needs
@@ -71,26 +75,34 @@ part-trace-event-end c = search needs
 trace-event-requires : tie.Need-trace-event-requires Inv-loop μ-loop
 trace-event-requires c κs = search needs
 
+run-at-requires : tie.Need-run-at-requires Inv-loop μ-loop
+run-at-requires c κs = search needs
+
 same-length-2 : tie.Need-same-length-2 Inv-loop μ-loop
-same-length-2 c = same-out (c .before .before .before .before .before)
+same-length-2 c = same-out (c .before .before .before .before .before .before .before)
 
 returns-2 : tie.Need-returns-2 Inv-loop μ-loop
-returns-2 c = let e = c .before .before .before .before .before in at-full _ _ _ _ _ _ _ _ _ (turn e .loop .inv) _ _ _ (rw (rest (entry e .args .piece .now) (turn e .loop .i)) at (e .trace-event .ensures)) _ (due e) (is-false _ (c .if2 .taken)) refl refl refl
-
-same-length-3 : tie.Need-same-length-3 Inv-loop μ-loop
-same-length-3 c = same-out (c .before .before .before .before .before .before .before)
-
-returns-3 : tie.Need-returns-3 Inv-loop μ-loop
-returns-3 c = let e = c .before .before .before .before .before .before .before in at-last _ _ _ _ _ _ _ _ _ (turn e .loop .inv) _ _ _ (rw (rest (entry e .args .piece .now) (turn e .loop .i)) at (e .trace-event .ensures)) (is-true _ (c .before .before .if2 .left)) _ (due e) (c .if3 .taken) refl refl refl
+returns-2 c =
+    let e = c .before .before .before .before .before .before .before in
+    at-stop _ _ _ _ _ _ _ _ _ (turn e .loop .inv) _ _ _ (rw (rest (entry e .args .piece .now) (turn e .loop .i)) at (e .trace-event .ensures)) _ (due e)
+    (c .before .before .if2 .taken) refl (c .before .run-at .ensures) refl
 
 add-i : tie.Need-add-i Inv-loop μ-loop
-add-i c = let e = c .before .before .before .before .before .before .before .before in let v = goes _ _ _ _ _ _ _ _ _ (turn e .loop .inv) _ _ _ (rw (rest (entry e .args .piece .now) (turn e .loop .i)) at (e .trace-event .ensures)) (is-true _ (c .before .before .before .if2 .left)) (c .before .if3 .left) in omega (arith, v .inside, turn e .before .before .before .good)
+add-i c =
+    let e = c .before .before .before .before .before .before in
+    let v = goes-on _ _ _ _ _ _ _ _ _ (turn e .loop .inv) _ _ _ (rw (rest (entry e .args .piece .now) (turn e .loop .i)) at (e .trace-event .ensures)) (c .before .if2 .left) in
+    omega (arith, v .inside, turn e .before .before .before .good)
 
 loop-less : tie.Need-loop-less Inv-loop μ-loop
-loop-less c = let e = c .before .before .before .before .before .before .before .before in let v = goes _ _ _ _ _ _ _ _ _ (turn e .loop .inv) _ _ _ (rw (rest (entry e .args .piece .now) (turn e .loop .i)) at (e .trace-event .ensures)) (is-true _ (c .before .before .before .if2 .left)) (c .before .if3 .left) in omega (arith, v .inside, pos (e .trace-event .result .passed) (c .before .if3 .left))
+loop-less c =
+    let e = c .before .before .before .before .before .before in
+    let v = goes-on _ _ _ _ _ _ _ _ _ (turn e .loop .inv) _ _ _ (rw (rest (entry e .args .piece .now) (turn e .loop .i)) at (e .trace-event .ensures)) (c .before .if2 .left) in
+    omega (arith, v .inside, pos (e .trace-event .result .passed) (c .before .if2 .left))
 
 loop-again : tie.Need-loop-again Inv-loop μ-loop
-loop-again c = let e = c .before .before .before .before .before .before .before .before in goes _ _ _ _ _ _ _ _ _ (turn e .loop .inv) _ _ _ (rw (rest (entry e .args .piece .now) (turn e .loop .i)) at (e .trace-event .ensures)) (is-true _ (c .before .before .before .if2 .left)) (c .before .if3 .left)
+loop-again c =
+    let e = c .before .before .before .before .before .before in
+    goes-on _ _ _ _ _ _ _ _ _ (turn e .loop .inv) _ _ _ (rw (rest (entry e .args .piece .now) (turn e .loop .i)) at (e .trace-event .ensures)) (c .before .if2 .left)
 
 pub trace-piece-spec : {M : Type 1} → statement M
 trace-piece-spec =
@@ -109,10 +121,9 @@ trace-piece-spec =
     part-trace-event-start
     part-trace-event-end
     trace-event-requires
+    run-at-requires
     same-length-2
     returns-2
-    same-length-3
-    returns-3
     add-i
     loop-less
     loop-again)

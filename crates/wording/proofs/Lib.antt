@@ -1,0 +1,4 @@
+pub mod Texts
+pub mod Finish
+pub mod Words
+pub mod Expected
