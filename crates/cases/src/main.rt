@@ -539,13 +539,13 @@ fn with_image(c: Called, image: usize) -> Called {
 // The answers of the file, into the first n bytes.
 fn call_answers(file: &[u8], memory: &[u8], out: &mut [u8], n: usize) -> Answer {
     let k = within(out, n);
-    engine::run_file(file, memory, &mut out[..k])
+    files::run_file(file, memory, &mut out[..k])
 }
 
 // The image, into the first n bytes.
 fn call_image(file: &[u8], memory: &[u8], out: &mut [u8], n: usize) -> Answer {
     let k = within(out, n);
-    engine::run_image(file, memory, &mut out[..k])
+    files::run_image(file, memory, &mut out[..k])
 }
 
 // A step over an image of n bytes with a place of m bytes.
