@@ -1,10 +1,15 @@
 // The calls for benches in C; include/board.h declares them. A slice is a pointer and a length. No call keeps state.
+use measures::MOST_LINES;
+use measures::MOST_THREADS;
 use rules::Answer;
 use rules::Size;
 ghost use mathlib.Core.Path.{_≡_};
+ghost use Rattle.measures.specs.Loan.{left, was};
 ghost use Rattle.rules.specs.Image.{imageCall};
-ghost use Rattle.rules.specs.Recovery.{RecoveryCall, recoveryCall};
-ghost use Rattle.rules.specs.Run.{Wrote, eventsCall, startCall};
+ghost use Rattle.rules.specs.Recovery.{recoveryCall};
+ghost use Rattle.rules.specs.Run.{eventsCall, startCall};
+ghost use Rattle.files.specs.Parts.{wrote};
+ghost use Rattle.board.specs.Recovered.{recovered};
 
 fn answer(refusal: u8) -> Answer
     ensures { λ r. ⌜ r ≡ record { refusal = refusal; value = 0 } ⌝ }
@@ -18,12 +23,12 @@ fn answer(refusal: u8) -> Answer
 // The answer that setup with these numbers gets over the lent memory.
 #[no_mangle]
 pub extern "C" fn board_start(threads: u64, lines: u64, memory: &[u8]) -> Answer
-    ensures { λ r. ⌜ r ≡ startCall threads lines (now (memory .entry)) ⌝ }
+    ensures { λ r. ⌜ r ≡ startCall threads lines (was memory) ⌝ }
 {
-    if 8 < threads {
+    if (MOST_THREADS as u64) < threads {
         return answer(6);
     }
-    if 256 < lines {
+    if (MOST_LINES as u64) < lines {
         return answer(6);
     }
     let z = Size {
@@ -38,23 +43,23 @@ pub extern "C" fn board_start(threads: u64, lines: u64, memory: &[u8]) -> Answer
 // Runs an event file over lent starting memory and writes nine bytes for each answer; the value is the number of answers.
 #[no_mangle]
 pub extern "C" fn board_events(file: &[u8], memory: &[u8], answers: &mut [u8]) -> Answer
-    ensures { λ r. ⌜ _≡_ {A = Wrote} (record { answer = r; buffer = now (answers .exit) }) (eventsCall (now (file .entry)) (now (memory .entry)) (now (answers .entry))) ⌝ }
+    ensures { λ r. ⌜ wrote r (left answers) ≡ eventsCall (was file) (was memory) (was answers) ⌝ }
 {
-    engine::run_file(file, memory, answers)
+    files::run_file(file, memory, answers)
 }
 
 // Runs an event file in the same way and saves the image that its cut left; the value is the image's length.
 #[no_mangle]
 pub extern "C" fn board_image(file: &[u8], memory: &[u8], image: &mut [u8]) -> Answer
-    ensures { λ r. ⌜ _≡_ {A = Wrote} (record { answer = r; buffer = now (image .exit) }) (imageCall (now (file .entry)) (now (memory .entry)) (now (image .entry))) ⌝ }
+    ensures { λ r. ⌜ wrote r (left image) ≡ imageCall (was file) (was memory) (was image) ⌝ }
 {
-    engine::run_image(file, memory, image)
+    files::run_image(file, memory, image)
 }
 
 // One recovery step inside the image, at the place in eight bytes, little-endian: 'more' is the value 1, 'finished' the value 0.
 #[no_mangle]
 pub extern "C" fn board_recovery_step(image: &mut [u8], place: &mut [u8]) -> Answer
-    ensures { λ r. ⌜ _≡_ {A = RecoveryCall} (record { answer = r; image = now (image .exit); place = now (place .exit) }) (recoveryCall (now (image .entry)) (now (place .entry))) ⌝ }
+    ensures { λ r. ⌜ recovered r (left image) (left place) ≡ recoveryCall (was image) (was place) ⌝ }
 {
     recovery::recovery_call(image, place)
 }

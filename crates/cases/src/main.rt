@@ -341,9 +341,9 @@ fn with_event(t: Tried, r: EventRead, o: Outcome, line: &[u8]) -> Tried {
 fn run_call(word: usize, n: usize, file: &[u8], memory: &[u8], out: &mut [u8]) -> Answer {
     let k = within(out, n);
     if word == ANSWERS {
-        return engine::run_file(file, memory, &mut out[..k]);
+        return files::run_file(file, memory, &mut out[..k]);
     }
-    engine::run_image(file, memory, &mut out[..k])
+    files::run_image(file, memory, &mut out[..k])
 }
 
 // A step over an image of n bytes with a place of m bytes.

@@ -16,7 +16,7 @@ use Rattle.rules.specs.Slots.{hasSlot, isEmpty}
 use Rattle.rules.specs.Tables.{noRegion}
 use Rattle.rules.specs.declared.Region.{Region}
 use Rattle.rules.specs.declared.Slot.{Slot}
-use Rattle.slots.proofs.Walk.{map-end, map-more, mapped}
+use Rattle.lookup.proofs.Map.{map-end, map-more, mapped}
 use Rattle.rows.proofs.Laws.{got, map-set, or-false}
 use Rattle.rows.specs.Row.{regionOf, regionsOf, slotOf, word}
 use Rattle.commits.specs.Ripe.{ripe}

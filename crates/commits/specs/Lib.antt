@@ -1,1 +1,2 @@
 pub mod Ripe
+pub mod Settles

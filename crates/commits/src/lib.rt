@@ -1,25 +1,30 @@
 // What is done, and what commits, in place over the lent rows: the last part of a step. A row is judged by its numbers, and no region is taken out of it.
-use rows::Head;
-ghost use Prim.Native.Nat.{ℕ};
+use measures::MOST_REGIONS;
+use measures::MOST_THREADS;
+use measures::NUMBERS;
+use measures::RegionRow;
+use measures::Regions;
+use measures::Threads;
 ghost use mathlib.Core.Path.{_≡_};
-ghost use mathlib.Core.Bool.{Bool, _&&_};
-ghost use mathlib.Core.List.{List, map};
-ghost use lib.ListN.{getD, length};
+ghost use mathlib.Core.Bool.{_&&_};
+ghost use mathlib.Core.List.{map};
 ghost use lib.Dec.{eqb};
+ghost use Rattle.measures.specs.Loan.{left, was};
 ghost use Rattle.undo.specs.Table.{any};
 ghost use Rattle.rules.specs.Lists.{all};
-ghost use Rattle.rules.specs.Tables.{noRegion};
 ghost use Rattle.rules.specs.Slots.{hasSlot};
-ghost use Rattle.rules.specs.Commit.{afterCommit, commit, commits, doneRegion, earlier, earliest, settled, withoutDep};
+ghost use Rattle.rules.specs.Commit.{afterCommit, commit, commits, doneRegion, earlier, earliest, withoutDep};
 ghost use Rattle.rows.specs.Row.{regionOf, regionsOf};
-ghost use Rattle.rows.specs.Whole.{tablesOf};
+ghost use Rattle.rows.specs.Whole.{OnTables};
+ghost use Rattle.tables.specs.Held.{regionHeld};
 ghost use Rattle.commits.specs.Ripe.{ripe};
+ghost use Rattle.commits.specs.Settles.{Settles};
 
 // ---- one row
 
 // Whether there is a slot: a number below 256 is an empty one.
-fn has_slot(row: &[u32; 16]) -> bool
-    ensures { λ r. ⌜ r ≡ hasSlot (regionOf (now (row .entry))) ⌝ }
+fn has_slot(row: &RegionRow) -> bool
+    ensures { λ r. ⌜ r ≡ hasSlot (regionOf (was row)) ⌝ }
 {
     rows::one_of(
         row[8] > 255,
@@ -40,22 +45,22 @@ fn and4(a: bool, b: bool, c: bool, d: bool) -> bool
 }
 
 // Whether there is no dependence.
-fn no_dependence(row: &[u32; 16]) -> bool
-    ensures { λ r. ⌜ r ≡ all (eqb 0) (regionOf (now (row .entry)) .deps) ⌝ }
+fn no_dependence(row: &RegionRow) -> bool
+    ensures { λ r. ⌜ r ≡ all (eqb 0) (regionOf (was row) .deps) ⌝ }
 {
     and4(row[4] == 0, row[5] == 0, row[6] == 0, row[7] == 0)
 }
 
 // Whether the region can commit: it is done and has no dependence.
-fn can_commit(row: &[u32; 16]) -> bool
-    ensures { λ r. ⌜ r ≡ commits (regionOf (now (row .entry))) ⌝ }
+fn can_commit(row: &RegionRow) -> bool
+    ensures { λ r. ⌜ r ≡ commits (regionOf (was row)) ⌝ }
 {
     row[0] != 0 && (row[2] == 1 && no_dependence(row))
 }
 
 // Whether the region can commit, or has yet to become done and can: it has ended and has no slot.
-fn is_ripe(row: &[u32; 16]) -> bool
-    ensures { λ r. ⌜ r ≡ ripe (regionOf (now (row .entry))) ⌝ }
+fn is_ripe(row: &RegionRow) -> bool
+    ensures { λ r. ⌜ r ≡ ripe (regionOf (was row)) ⌝ }
 {
     if row[2] == 1 {
         return can_commit(row);
@@ -64,8 +69,8 @@ fn is_ripe(row: &[u32; 16]) -> bool
 }
 
 // The region is done if it has ended and has no slot.
-fn become_done(row: &mut [u32; 16])
-    ensures { λ _. ⌜ regionOf (now (row .exit)) ≡ doneRegion (regionOf (now (row .entry))) ⌝ }
+fn become_done(row: &mut RegionRow)
+    ensures { λ _. ⌜ regionOf (left row) ≡ doneRegion (regionOf (was row)) ⌝ }
 {
     rows::words16(row);
     if row[1] == 1 {
@@ -83,8 +88,8 @@ fn without_dep(key: u32, d: u32) -> u32
 }
 
 // Of the committed region nothing is left, of another all but its dependence on that one.
-fn after_commit(row: &mut [u32; 16], key: u32)
-    ensures { λ _. ⌜ regionOf (now (row .exit)) ≡ afterCommit key (regionOf (now (row .entry))) ⌝ }
+fn after_commit(row: &mut RegionRow, key: u32)
+    ensures { λ _. ⌜ regionOf (left row) ≡ afterCommit key (regionOf (was row)) ⌝ }
 {
     rows::words16(row);
     if row[0] == key {
@@ -100,12 +105,12 @@ fn after_commit(row: &mut [u32; 16], key: u32)
 // ---- all rows
 
 // Whether there is anything to settle. Most rows are left after two numbers.
-fn has_ripe(regions: &[[u32; 16]; 32]) -> bool
-    ensures { λ r. ⌜ r ≡ any ripe (regionsOf (now (regions .entry))) ⌝ }
+fn has_ripe(regions: &Regions) -> bool
+    ensures { λ r. ⌜ r ≡ any ripe (regionsOf (was regions)) ⌝ }
 {
     rows::rows32(regions);
     let mut i: usize = 0;
-    while i < 32 {
+    while i < MOST_REGIONS {
         if is_ripe(&regions[i]) {
             return true;
         }
@@ -115,24 +120,24 @@ fn has_ripe(regions: &[[u32; 16]; 32]) -> bool
 }
 
 // Every region is done that has ended and has no slot.
-fn done_all(regions: &mut [[u32; 16]; 32])
-    ensures { λ _. ⌜ regionsOf (now (regions .exit)) ≡ map doneRegion (regionsOf (now (regions .entry))) ⌝ }
+fn done_all(regions: &mut Regions)
+    ensures { λ _. ⌜ regionsOf (left regions) ≡ map doneRegion (regionsOf (was regions)) ⌝ }
 {
     rows::rows32(regions);
     let mut i: usize = 0;
-    while i < 32 {
+    while i < MOST_REGIONS {
         become_done(&mut regions[i]);
         i += 1;
     }
 }
 
 // Region `key` vanishes from the list and from the dependences of the others.
-fn without_region(regions: &mut [[u32; 16]; 32], key: u32)
-    ensures { λ _. ⌜ regionsOf (now (regions .exit)) ≡ map (afterCommit key) (regionsOf (now (regions .entry))) ⌝ }
+fn without_region(regions: &mut Regions, key: u32)
+    ensures { λ _. ⌜ regionsOf (left regions) ≡ map (afterCommit key) (regionsOf (was regions)) ⌝ }
 {
     rows::rows32(regions);
     let mut i: usize = 0;
-    while i < 32 {
+    while i < MOST_REGIONS {
         after_commit(&mut regions[i], key);
         i += 1;
     }
@@ -141,11 +146,11 @@ fn without_region(regions: &mut [[u32; 16]; 32], key: u32)
 // ---- the next commit
 
 // Whether the region at place i can commit.
-fn commits_at(regions: &[[u32; 16]; 32], i: usize) -> bool
-    ensures { λ r. ⌜ r ≡ commits (getD (regionsOf (now (regions .entry))) i noRegion) ⌝ }
+fn commits_at(regions: &Regions, i: usize) -> bool
+    ensures { λ r. ⌜ r ≡ commits (regionHeld (was regions) i) ⌝ }
 {
     rows::rows32(regions);
-    if i < 32 {
+    if i < MOST_REGIONS {
         can_commit(&regions[i])
     } else {
         false
@@ -153,16 +158,16 @@ fn commits_at(regions: &[[u32; 16]; 32], i: usize) -> bool
 }
 
 // The stamp at place i.
-fn stamp_at(regions: &[[u32; 16]; 32], i: usize) -> u32
-    ensures { λ r. ⌜ r ≡ getD (regionsOf (now (regions .entry))) i noRegion .stamp ⌝ }
+fn stamp_at(regions: &Regions, i: usize) -> u32
+    ensures { λ r. ⌜ r ≡ regionHeld (was regions) i .stamp ⌝ }
 {
     rows::rows32(regions);
-    if i < 32 { regions[i][3] } else { 0 }
+    if i < MOST_REGIONS { regions[i][3] } else { 0 }
 }
 
 // The better of two places: the one whose region commits, of two the one whose region ended earlier.
-fn earlier_of(regions: &[[u32; 16]; 32], best: usize, i: usize) -> usize
-    ensures { λ r. ⌜ getD (regionsOf (now (regions .entry))) r noRegion ≡ earlier (getD (regionsOf (now (regions .entry))) best noRegion) (getD (regionsOf (now (regions .entry))) i noRegion) ⌝ }
+fn earlier_of(regions: &Regions, best: usize, i: usize) -> usize
+    ensures { λ r. ⌜ regionHeld (was regions) r ≡ earlier (regionHeld (was regions) best) (regionHeld (was regions) i) ⌝ }
 {
     if !commits_at(regions, i) {
         return best;
@@ -178,13 +183,13 @@ fn earlier_of(regions: &[[u32; 16]; 32], best: usize, i: usize) -> usize
 }
 
 // The place of the region that commits next; where none can commit, a place behind the list.
-fn next_commit(regions: &[[u32; 16]; 32]) -> usize
-    ensures { λ r. ⌜ getD (regionsOf (now (regions .entry))) r noRegion ≡ earliest (regionsOf (now (regions .entry))) ⌝ }
+fn next_commit(regions: &Regions) -> usize
+    ensures { λ r. ⌜ regionHeld (was regions) r ≡ earliest (regionsOf (was regions)) ⌝ }
 {
     rows::rows32(regions);
-    let mut best: usize = 32;
+    let mut best: usize = MOST_REGIONS;
     let mut i: usize = 0;
-    while i < 32 {
+    while i < MOST_REGIONS {
         best = earlier_of(regions, best, i);
         i += 1;
     }
@@ -192,21 +197,21 @@ fn next_commit(regions: &[[u32; 16]; 32]) -> usize
 }
 
 // Region `key` commits. A key of no thread has no log entries.
-fn commit_region(threads: &mut [[u64; 34]; 8], regions: &mut [[u32; 16]; 32], key: u32)
-    ensures { λ _. ⌜ ((h : Head) (owner : List ℕ) (lock : List Bool) → tablesOf h (now (threads .exit)) (now (regions .exit)) owner lock ≡ commit key (tablesOf h (now (threads .entry)) (now (regions .entry)) owner lock)) ⌝ }
+fn commit_region(threads: &mut Threads, regions: &mut Regions, key: u32)
+    ensures { λ _. ⌜ OnTables (commit key) threads regions ⌝ }
 {
     rows::threads8(threads);
     without_region(regions, key);
-    let i = (key / 65536) as usize;
-    if i < 8 {
+    let i = (key / NUMBERS) as usize;
+    if i < MOST_THREADS {
         rows::free_entries(&mut threads[i], key);
     }
 }
 
 // Regions become done, then commit, the earliest ended first, until none can commit; the answer is how many did. Each commit frees a place of the list,
 // so there are at most 32. Mostly there is nothing to settle, and one look at the rows tells.
-pub fn settle(threads: &mut [[u64; 34]; 8], regions: &mut [[u32; 16]; 32]) -> u64
-    ensures { λ r. ⌜ ((h : Head) (owner : List ℕ) (lock : List Bool) → (tablesOf h (now (threads .exit)) (now (regions .exit)) owner lock ≡ settled (tablesOf h (now (threads .entry)) (now (regions .entry)) owner lock) .tables) × (r ≡ length (settled (tablesOf h (now (threads .entry)) (now (regions .entry)) owner lock) .keys))) ⌝ }
+pub fn settle(threads: &mut Threads, regions: &mut Regions) -> u64
+    ensures { λ r. ⌜ Settles r threads regions ⌝ }
 {
     if !has_ripe(regions) {
         return 0;
@@ -214,12 +219,12 @@ pub fn settle(threads: &mut [[u64; 34]; 8], regions: &mut [[u32; 16]; 32]) -> u6
     rows::rows32(regions);
     done_all(regions);
     let mut n: u64 = 0;
-    while n < 32 {
+    while n < MOST_REGIONS as u64 {
         let i = next_commit(regions);
         if !commits_at(regions, i) {
             break;
         }
-        let key = rows::key_at(regions, i);
+        let key = tables::key_at(regions, i);
         commit_region(threads, regions, key);
         n += 1;
     }

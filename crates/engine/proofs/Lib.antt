@@ -1,3 +1,2 @@
-pub mod Call
-pub mod Records
-pub mod Walked
+pub mod Accepted
+pub mod Laws

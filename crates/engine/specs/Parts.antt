@@ -1,23 +1,40 @@
--- The first records of a file, and how far the record at the front reaches.
-use Prim.Native.Nat.{suc, zero, ℕ}
-use mathlib.Core.Bool.{cond}
-use mathlib.Core.List.{List, [], _∷_}
-use lib.ListN.{drop, getD, length}
-use Rattle.rules.specs.Record.{bodyLength, isWhole, readRecord}
-use Rattle.rules.specs.Run.{Ran}
-use Rattle.rules.specs.Step.{step}
+-- What is lent to the functions of an event: a rule on it, whatever the rest of the board is.
+-- Of the board that is left, g tells what f tells of the board that was lent: g is the board and an answer.
+use Prim.Native.Nat.{_<_, ℕ}
+use mathlib.Core.Path.{_≡_}
+use mathlib.Core.Bool.{Bool, _&&_, false}
+use mathlib.Core.List.{List}
+use lib.Dec.{eqb, leb}
+use Rattle.measures.specs.Loan.{Loan, Rows, left, was}
 use Rattle.rules.specs.Tables.{Board}
+use Rattle.rules.specs.declared.Thread.{Thread}
+use Rattle.rows.specs.Whole.{boardLeft, boardOf, boardWas}
+use Rattle.rows.specs.declared.Head.{Head}
 
--- the bytes of the record at the front; one that ends its file takes the rest of it
-unfoldable pub sizeOf : List ℕ → ℕ
-sizeOf bs = cond (isWhole (readRecord bs)) (suc (bodyLength (getD bs 0 0))) (length bs)
+module _ {X : Type 0} (g f : Board → X) where
+  -- the whole board, from the numbers h to the numbers r
+  abbrev pub OnBoard : Head → Head → Loan Rows → Loan Rows → Loan (List ℕ) → Loan (List Bool) → Loan Rows → Loan Rows → Loan Rows → Loan Rows → Type 0
+  OnBoard r h threads regions owner lock cur med old car =
+      g (boardLeft r threads regions owner lock cur med old car) ≡ f (boardWas h threads regions owner lock cur med old car)
 
--- ---- the first n records of a file, each on what the last one left
+  -- the numbers alone
+  abbrev pub OnNumbers : Head → Head → Type 0
+  OnNumbers r h =
+      (threads regions : Rows) (owner : List ℕ) (lock : List Bool) (cur med old car : Rows)
+      → g (boardOf r threads regions owner lock cur med old car) ≡ f (boardOf h threads regions owner lock cur med old car)
 
-unfoldable pub walked : ℕ → Board → List ℕ → Ran
-walked zero b bs = record { board = b; answers = [] }
-walked (suc n) b bs =
-    record {
-      board = walked n (step b bs .board) (drop (sizeOf bs) bs) .board;
-      answers = step b bs .answer ∷ walked n (step b bs .board) (drop (sizeOf bs) bs) .answers;
-    }
+  abbrev pub OnReadWord : Loan Rows → Loan Rows → Loan (List ℕ) → Loan Rows → Type 0
+  OnReadWord threads regions owner cur =
+      (h : Head) (lock : List Bool) (med old car : Rows)
+      → g (boardOf h (left threads) (left regions) (left owner) lock (left cur) med old car)
+      ≡ f (boardOf h (was threads) (was regions) (was owner) lock (was cur) med old car)
+
+  abbrev pub OnDataAcked : Loan Rows → Loan Rows → Loan Rows → Loan Rows → Type 0
+  OnDataAcked threads regions med car =
+      (h : Head) (owner : List ℕ) (lock : List Bool) (cur old : Rows)
+      → g (boardOf h (left threads) (left regions) owner lock cur (left med) old (left car))
+      ≡ f (boardOf h (was threads) (was regions) owner lock cur (was med) old (was car))
+
+-- what an accepted begin has passed: a depth is left, and at depth 0 a number
+abbrev pub Deepens : Thread → Type 0
+Deepens th = (th .depth < 15) × (eqb (th .depth) 0 && leb 65535 (th .last) ≡ false)

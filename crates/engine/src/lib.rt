@@ -1,62 +1,312 @@
-// One event call, and the run of an event file, over lent rows. A refusal changes nothing.
+// One event of any content, in place: its refusal, or what it changes. A refusal changes nothing.
+use measures::Lines;
+use measures::Locks;
+use measures::MOST_SLOTS;
+use measures::NUMBERS;
+use measures::Owners;
+use measures::Regions;
+use measures::Threads;
 use rows::Head;
 use rules::Answer;
+use rules::Event;
 use rules::Reading;
-use steps::Outcome;
-ghost use Prim.Native.Nat.{_*_, _+_, _≤_};
+use rules::Region;
+ghost use Prim.Native.Nat.{_<_};
 ghost use mathlib.Core.Path.{_≡_};
-ghost use lib.ListN.{length};
-ghost use lib.Seq.{sets};
-ghost use Rattle.rules.specs.Record.{recordsOf};
-ghost use Rattle.rules.specs.Step.{step};
-ghost use Rattle.rules.specs.Run.{Wrote, answerBytes, answersBytes, eventsCall};
-ghost use Rattle.rules.specs.Image.{imageCall};
-ghost use Rattle.rows.specs.Whole.{boardOf, stepped};
-ghost use Rattle.engine.specs.Parts.{sizeOf, walked};
+ghost use mathlib.Core.Bool.{cond, false, true};
+ghost use mathlib.Core.List.{_∷_};
+ghost use lib.ListN.{replicate};
+ghost use Rattle.measures.specs.Loan.{was};
+ghost use Rattle.undo.specs.Table.{any};
+ghost use Rattle.rules.specs.Tables.{noSlot};
+ghost use Rattle.rules.specs.Begin.{begin, opened};
+ghost use Rattle.rules.specs.Refusal.{isOfThread, refusal};
+ghost use Rattle.rules.specs.Step.{apply, did, step, stepEvent};
+ghost use Rattle.rules.specs.declared.Event.the-variants.{DataAck, End, LogAck, Read, Setup};
+ghost use Rattle.rows.specs.Row.{regionsOf};
+ghost use Rattle.rows.specs.Whole.{OnTables, stepped, tablesOf};
+ghost use Rattle.tables.specs.Held.{threadHeld};
+ghost use Rattle.ends.specs.Parts.{OnEnd, OnLogAck};
+ghost use Rattle.engine.specs.Parts.{Deepens, OnBoard, OnDataAcked, OnNumbers, OnReadWord};
 
-// ---- an event file
+// ---- begin
 
-// The bytes of the record at the front; one that ends its file takes the rest of it.
-fn record_size(bytes: &[u8]) -> usize
-    ensures { λ r. ⌜ r ≡ sizeOf (now (bytes .entry)) ⌝ }
+// Region k as it begins, with the dependence d on its predecessor.
+fn begun(k: u32, d: u32) -> Region
+    ensures { λ r. ⌜ _≡_ {A = Region} r (record { key = k; ended = false; done = false; stamp = 0; deps = d ∷ replicate 3 0; slots = replicate 8 noSlot }) ⌝ }
 {
-    let reading = events::read_record(bytes);
-    let Reading::Whole(_) = reading else {
-        return bytes.len();
-    };
-    1 + events::body_length(bytes[0])
-}
-
-// The number of records, and so of answers, of a file.
-fn record_count(file: &[u8]) -> usize
-    ensures { λ r. ⌜ r ≡ length (recordsOf (now (file .entry))) ⌝ }
-{
-    let mut n: usize = 0;
-    let mut at: usize = 0;
-    while at < file.len() {
-        let k = record_size(&file[at..]);
-        at += k;
-        n += 1;
+    let s = lookup::no_slot();
+    Region {
+        key: k,
+        ended: false,
+        done: false,
+        stamp: 0,
+        deps: [d, 0, 0, 0],
+        slots: [s; MOST_SLOTS],
     }
-    n
 }
 
-// ---- one event
+// Thread t opens its next region. Numbers are left: refusal 14.
+fn open(threads: &mut Threads, regions: &mut Regions, t: u8)
+    requires { ⌜ threadHeld (now threads) t .last < 65535 ⌝ }
+    ensures { λ _. ⌜ OnTables (opened t) threads regions ⌝ }
+{
+    let n = tables::last_of(threads, t);
+    let p = tables::current(threads, t);
+    let d = tables::uncommitted(regions, p);
+    let i = tables::place_of(regions, 0);
+    let r = begun(NUMBERS * (t as u32) + (n as u32 + 1), d);
+    tables::put(regions, i, r);
+    tables::set_thread(threads, t, 1, n + 1);
+}
+
+// The depth rises: refusal 13.
+fn begin(threads: &mut Threads, regions: &mut Regions, t: u8)
+    requires { ⌜ Deepens (threadHeld (now threads) t) ⌝ }
+    ensures { λ _. ⌜ OnTables (begin t) threads regions ⌝ }
+{
+    let d = tables::depth_of(threads, t);
+    if d == 0 {
+        open(threads, regions, t);
+        return;
+    }
+    let n = tables::last_of(threads, t);
+    tables::set_thread(threads, t, d + 1, n);
+}
+
+// ---- each event
+
+// What an accepted event leaves beside the lists: the numbers, and the value of its answer.
+struct Effect {
+    head: Head,
+    value: u64,
+}
+
+// At depth 1 the region ends, and regions may become done and commit; at any other only the depth falls.
+fn end(
+    h: Head,
+    threads: &mut Threads,
+    regions: &mut Regions,
+    lock: &Locks,
+    cur: &Lines,
+    car: &mut Lines,
+    t: u8,
+) -> Effect
+    ensures { λ r. ⌜ OnEnd (did (r .value)) (λ b. apply b (End t)) (r .head) h threads regions lock cur car ⌝ }
+{
+    if tables::depth_of(threads, t) != 1 {
+        ends::shallower(threads, t);
+        return Effect { head: h, value: 0 };
+    }
+    let head = ends::end_region(h, threads, regions, lock, cur, car, t);
+    let value = commits::settle(threads, regions);
+    Effect {
+        head: head,
+        value: value,
+    }
+}
+
+// The value of a read is the word.
+fn read_word(
+    threads: &Threads,
+    regions: &mut Regions,
+    owner: &Owners,
+    cur: &Lines,
+    t: u8,
+    l: u8,
+    w: u8,
+) -> u64
+    requires { ⌜ w < 8 ⌝ }
+    ensures { λ r. ⌜ OnReadWord (did r) (λ b. apply b (Read t l w)) threads regions owner cur ⌝ }
+{
+    let k = tables::current(threads, t);
+    access::read(regions, owner, k, l);
+    let x = cur[l as usize];
+    x[w as usize]
+}
+
+// A log acknowledgement, and what becomes done and commits after it.
+fn log_acked(
+    threads: &mut Threads,
+    regions: &mut Regions,
+    owner: &Owners,
+    lock: &mut Locks,
+    cur: &Lines,
+    car: &mut Lines,
+    l: u8,
+) -> u64
+    ensures { λ r. ⌜ OnLogAck (did r) (λ b. apply b (LogAck l)) threads regions owner lock cur car ⌝ }
+{
+    ends::log_ack(threads, regions, owner, lock, cur, car, l);
+    commits::settle(threads, regions)
+}
+
+// A data acknowledgement, and what becomes done and commits after it.
+fn data_acked(
+    threads: &mut Threads,
+    regions: &mut Regions,
+    med: &mut Lines,
+    car: &Lines,
+    l: u8,
+) -> u64
+    ensures { λ r. ⌜ OnDataAcked (did r) (λ b. apply b (DataAck l)) threads regions med car ⌝ }
+{
+    ends::data_ack(regions, med, car, l);
+    commits::settle(threads, regions)
+}
+
+// T and L stand.
+fn set_up(h: Head, n: u8, l: u16) -> Effect
+    ensures { λ r. ⌜ OnNumbers (did (r .value)) (λ b. apply b (Setup n l)) (r .head) h ⌝ }
+{
+    let mut size = h.size;
+    size.threads = n;
+    size.lines = l;
+    Effect {
+        head: Head {
+            size: size,
+            cut: h.cut,
+            clock: h.clock,
+        },
+        value: 0,
+    }
+}
+
+// The value tells whether every region of the thread has committed.
+fn fence(regions: &Regions, t: u8) -> u64
+    ensures { λ r. ⌜ r ≡ cond (any (isOfThread t) (regionsOf (was regions))) 0 1 ⌝ }
+{
+    if tables::has_thread(regions, t) { 0 } else { 1 }
+}
+
+fn cut(h: Head) -> Head
+    ensures { λ r. ⌜ _≡_ {A = Head} r (record { size = h .size; cut = true; clock = h .clock }) ⌝ }
+{
+    let size = h.size;
+    Head {
+        size: size,
+        cut: true,
+        clock: h.clock,
+    }
+}
+
+// What an accepted event does.
+fn apply(
+    h: Head,
+    threads: &mut Threads,
+    regions: &mut Regions,
+    owner: &mut Owners,
+    lock: &mut Locks,
+    cur: &mut Lines,
+    med: &mut Lines,
+    old: &mut Lines,
+    car: &mut Lines,
+    e: Event,
+) -> Effect
+    requires { ⌜ refusal (tablesOf h (now threads) (now regions) (now owner) (now lock)) e ≡ 0 ⌝ }
+    ensures { λ r. ⌜ OnBoard (did (r .value)) (λ b. apply b e) (r .head) h threads regions owner lock cur med old car ⌝ }
+{
+    match e {
+        Event::Setup(n, l) => set_up(h, n, l),
+        Event::Begin(t) => {
+            begin(threads, regions, t);
+            Effect { head: h, value: 0 }
+        }
+        Event::End(t) => end(h, threads, regions, lock, cur, car, t),
+        Event::Read(t, l, w) => {
+            let value = read_word(threads, regions, owner, cur, t, l, w);
+            Effect {
+                head: h,
+                value: value,
+            }
+        }
+        Event::Write(t, l, w, v) => {
+            access::write(threads, regions, owner, lock, cur, old, car, t, l, w, v);
+            Effect { head: h, value: 0 }
+        }
+        Event::LogAck(l) => {
+            let value = log_acked(threads, regions, owner, lock, cur, car, l);
+            Effect {
+                head: h,
+                value: value,
+            }
+        }
+        Event::DataAck(l) => {
+            let value = data_acked(threads, regions, med, car, l);
+            Effect {
+                head: h,
+                value: value,
+            }
+        }
+        Event::Fence(t) => Effect {
+            head: h,
+            value: fence(regions, t),
+        },
+        Event::Cut => Effect {
+            head: cut(h),
+            value: tables::count_held(regions) as u64,
+        },
+    }
+}
+
+// ---- an event
+
+// What an event leaves beside the lists: the numbers, and its answer.
+pub struct Outcome {
+    pub head: Head,
+    pub answer: Answer,
+}
+
+// One event of any content. A refusal changes nothing, and its value is 0.
+fn step(
+    h: Head,
+    threads: &mut Threads,
+    regions: &mut Regions,
+    owner: &mut Owners,
+    lock: &mut Locks,
+    cur: &mut Lines,
+    med: &mut Lines,
+    old: &mut Lines,
+    car: &mut Lines,
+    e: Event,
+) -> Outcome
+    ensures { λ r. ⌜ OnBoard (stepped (r .answer)) (λ b. stepEvent b e) (r .head) h threads regions owner lock cur med old car ⌝ }
+{
+    let n = refusals::refusal(h, threads, regions, owner, lock, e);
+    if n != 0 {
+        return Outcome {
+            head: h,
+            answer: Answer {
+                refusal: n,
+                value: 0,
+            },
+        };
+    }
+    let done = apply(h, threads, regions, owner, lock, cur, med, old, car, e);
+    let head = done.head;
+    Outcome {
+        head: head,
+        answer: Answer {
+            refusal: 0,
+            value: done.value,
+        },
+    }
+}
 
 // One event call: a record of any content. A refusal changes nothing; bytes behind a whole record are not looked at.
 pub fn event(
     h: Head,
-    threads: &mut [[u64; 34]; 8],
-    regions: &mut [[u32; 16]; 32],
-    owner: &mut [u32; 256],
-    lock: &mut [bool; 256],
-    cur: &mut [[u64; 8]; 256],
-    med: &mut [[u64; 8]; 256],
-    old: &mut [[u64; 8]; 256],
-    car: &mut [[u64; 8]; 256],
+    threads: &mut Threads,
+    regions: &mut Regions,
+    owner: &mut Owners,
+    lock: &mut Locks,
+    cur: &mut Lines,
+    med: &mut Lines,
+    old: &mut Lines,
+    car: &mut Lines,
     bytes: &[u8],
 ) -> Outcome
-    ensures { λ r. ⌜ stepped (r .answer) (boardOf (r .head) (now (threads .exit)) (now (regions .exit)) (now (owner .exit)) (now (lock .exit)) (now (cur .exit)) (now (med .exit)) (now (old .exit)) (now (car .exit))) ≡ step (boardOf h (now (threads .entry)) (now (regions .entry)) (now (owner .entry)) (now (lock .entry)) (now (cur .entry)) (now (med .entry)) (now (old .entry)) (now (car .entry))) (now (bytes .entry)) ⌝ }
+    ensures { λ r. ⌜ OnBoard (stepped (r .answer)) (λ b. step b (was bytes)) (r .head) h threads regions owner lock cur med old car ⌝ }
 {
     let reading = events::read_record(bytes);
     let Reading::Whole(e) = reading else {
@@ -68,140 +318,5 @@ pub fn event(
             },
         };
     };
-    steps::step(h, threads, regions, owner, lock, cur, med, old, car, e)
-}
-
-// The nine bytes of an answer, if there is room for them, and the place behind.
-fn put_next(answers: &mut [u8], p: usize, refusal: u8, value: u64) -> usize
-    ensures { λ r. ⌜ (length (now (answers .exit)) ≡ length (now (answers .entry))) × (p + 9 ≤ length (now (answers .entry)) → (r ≡ p + 9) × (now (answers .exit) ≡ sets (now (answers .entry)) p (answerBytes (record { refusal = refusal; value = value })))) ⌝ }
-{
-    if answers.len() < 9 {
-        return p;
-    }
-    if answers.len() - 9 < p {
-        return p;
-    }
-    lines::put_answer(answers, p, refusal, value);
-    p + 9
-}
-
-// The first n records of a file, each on what the last one left. The answers are written if there is room for all.
-fn run_records(
-    h: Head,
-    threads: &mut [[u64; 34]; 8],
-    regions: &mut [[u32; 16]; 32],
-    owner: &mut [u32; 256],
-    lock: &mut [bool; 256],
-    cur: &mut [[u64; 8]; 256],
-    med: &mut [[u64; 8]; 256],
-    old: &mut [[u64; 8]; 256],
-    car: &mut [[u64; 8]; 256],
-    file: &[u8],
-    n: usize,
-    answers: &mut [u8],
-) -> Head
-    ensures { λ r. ⌜ (boardOf r (now (threads .exit)) (now (regions .exit)) (now (owner .exit)) (now (lock .exit)) (now (cur .exit)) (now (med .exit)) (now (old .exit)) (now (car .exit)) ≡ walked n (boardOf h (now (threads .entry)) (now (regions .entry)) (now (owner .entry)) (now (lock .entry)) (now (cur .entry)) (now (med .entry)) (now (old .entry)) (now (car .entry))) (now (file .entry)) .board) × (9 * n ≤ length (now (answers .entry)) → now (answers .exit) ≡ sets (now (answers .entry)) 0 (answersBytes (walked n (boardOf h (now (threads .entry)) (now (regions .entry)) (now (owner .entry)) (now (lock .entry)) (now (cur .entry)) (now (med .entry)) (now (old .entry)) (now (car .entry))) (now (file .entry)) .answers))) ⌝ }
-{
-    let mut head = h;
-    let mut left = n;
-    let mut at: usize = 0;
-    let mut p: usize = 0;
-    while 0 < left {
-        let o = event(
-            head,
-            threads,
-            regions,
-            owner,
-            lock,
-            cur,
-            med,
-            old,
-            car,
-            &file[at..],
-        );
-        let a = o.answer;
-        p = put_next(answers, p, a.refusal, a.value);
-        let after = o.head;
-        head = after;
-        let k = record_size(&file[at..]);
-        at += k;
-        left -= 1;
-    }
-    head
-}
-
-// An event file over lent starting memory: the answers' bytes, and their number as the value; 6 and nothing written if the buffer is too short.
-pub fn run_file(file: &[u8], memory: &[u8], answers: &mut [u8]) -> Answer
-    ensures { λ r. ⌜ _≡_ {A = Wrote} (record { answer = r; buffer = now (answers .exit) }) (eventsCall (now (file .entry)) (now (memory .entry)) (now (answers .entry))) ⌝ }
-{
-    let n = record_count(file);
-    if answers.len() / 9 < n {
-        return Answer {
-            refusal: 6,
-            value: 0,
-        };
-    }
-    let head = starting::fresh_head(false, memory.len() as u64);
-    let mut threads = [[0u64; 34]; 8];
-    let mut regions = [[0u32; 16]; 32];
-    let mut owner = [0u32; 256];
-    let mut lock = [false; 256];
-    let mut cur = [[0u64; 8]; 256];
-    let mut med = [[0u64; 8]; 256];
-    let mut old = [[0u64; 8]; 256];
-    let mut car = [[0u64; 8]; 256];
-    starting::load(memory, &mut cur);
-    starting::load(memory, &mut med);
-    run_records(
-        head,
-        &mut threads,
-        &mut regions,
-        &mut owner,
-        &mut lock,
-        &mut cur,
-        &mut med,
-        &mut old,
-        &mut car,
-        file,
-        n,
-        answers,
-    );
-    Answer {
-        refusal: 0,
-        value: n as u64,
-    }
-}
-
-// An event file over lent starting memory, and the image that its cut left: 6 if no cut was accepted or the buffer is shorter than the image.
-pub fn run_image(file: &[u8], memory: &[u8], image: &mut [u8]) -> Answer
-    ensures { λ r. ⌜ _≡_ {A = Wrote} (record { answer = r; buffer = now (image .exit) }) (imageCall (now (file .entry)) (now (memory .entry)) (now (image .entry))) ⌝ }
-{
-    let head = starting::fresh_head(false, memory.len() as u64);
-    let mut threads = [[0u64; 34]; 8];
-    let mut regions = [[0u32; 16]; 32];
-    let mut owner = [0u32; 256];
-    let mut lock = [false; 256];
-    let mut cur = [[0u64; 8]; 256];
-    let mut med = [[0u64; 8]; 256];
-    let mut old = [[0u64; 8]; 256];
-    let mut car = [[0u64; 8]; 256];
-    starting::load(memory, &mut cur);
-    starting::load(memory, &mut med);
-    let n = record_count(file);
-    let mut none = [0u8; 1];
-    let after = run_records(
-        head,
-        &mut threads,
-        &mut regions,
-        &mut owner,
-        &mut lock,
-        &mut cur,
-        &mut med,
-        &mut old,
-        &mut car,
-        file,
-        n,
-        &mut none,
-    );
-    saving::save(after, &threads, &regions, &med, &old, image)
+    step(h, threads, regions, owner, lock, cur, med, old, car, e)
 }

@@ -1,5 +1,7 @@
 // Searches in a region, by value. Each function's contract is one term of the definitions of `rules`, on every value; where a search finds nothing, its
 // place is the length of the list. The bounds that callers need are laws about these terms, in proofs/.
+use measures::MOST_DEPS;
+use measures::MOST_SLOTS;
 use rules::Found;
 use rules::Region;
 use rules::Slot;
@@ -31,20 +33,20 @@ pub fn no_region() -> Region
         ended: false,
         done: false,
         stamp: 0,
-        deps: [0; 4],
-        slots: [s; 8],
+        deps: [0; MOST_DEPS],
+        slots: [s; MOST_SLOTS],
     }
 }
 
 // ---- dependences
 
 // The place of the dependence d; of 0, the first free place.
-fn dep_place(deps: [u32; 4], d: u32) -> usize
+fn dep_place(deps: [u32; MOST_DEPS], d: u32) -> usize
     ensures { λ r. ⌜ r ≡ place (eqb d) deps ⌝ }
 {
     let mut i: usize = 0;
     let at = loop {
-        if 4 <= i {
+        if MOST_DEPS <= i {
             break i;
         }
         if d == deps[i] {
@@ -56,24 +58,24 @@ fn dep_place(deps: [u32; 4], d: u32) -> usize
 }
 
 // Whether d is no dependence, or one of those held.
-fn is_had(deps: [u32; 4], d: u32) -> bool
+fn is_had(deps: [u32; MOST_DEPS], d: u32) -> bool
     ensures { λ r. ⌜ r ≡ isHad d deps ⌝ }
 {
     if d == 0 {
         return true;
     }
-    dep_place(deps, d) < 4
+    dep_place(deps, d) < MOST_DEPS
 }
 
 // The dependences with d among them; as they were where no place is free.
-pub fn join(deps: [u32; 4], d: u32) -> [u32; 4]
+pub fn join(deps: [u32; MOST_DEPS], d: u32) -> [u32; MOST_DEPS]
     ensures { λ r. ⌜ r ≡ joined d deps ⌝ }
 {
     if is_had(deps, d) {
         return deps;
     }
     let i = dep_place(deps, 0);
-    if 4 <= i {
+    if MOST_DEPS <= i {
         return deps;
     }
     let mut q = deps;
@@ -125,13 +127,13 @@ fn or_empty(free: Found, s: Slot, i: usize) -> Found
 }
 
 // The slot that names the line, else the first empty one.
-pub fn slot_for(slots: [Slot; 8], l: u8) -> Found
+pub fn slot_for(slots: [Slot; MOST_SLOTS], l: u8) -> Found
     ensures { λ r. ⌜ r ≡ slotFor l slots ⌝ }
 {
     let mut free = Found::Full;
     let mut k: usize = 0;
     let at = loop {
-        if 8 <= k {
+        if MOST_SLOTS <= k {
             break free;
         }
         let s = slots[k];

@@ -1,24 +1,38 @@
-// The reading half of an event: its tests on the lent rows, in the order of document 01. The number of the first test that refuses is the refusal; 0 is accepted.
+// The reading half of an event: its tests on the lent rows, in the order of document 01. The refusal is the number of the first test that fails, or 0.
 // Nothing here changes a row, and every function has its answer for every content of the rows. A function takes the rows that its tests look at;
 // its contract says that the others make no difference.
+use measures::LINE_BYTES;
+use measures::LINE_WORDS;
+use measures::Locks;
+use measures::MOST_DEPTH;
+use measures::MOST_ENTRIES;
+use measures::MOST_MODIFIED;
+use measures::MOST_NUMBER;
+use measures::MOST_REGIONS;
+use measures::MOST_THREADS;
+use measures::NUMBERS;
+use measures::Owners;
+use measures::Regions;
+use measures::ThreadRow;
+use measures::Threads;
 use rows::Head;
 use rules::Event;
 use rules::Size;
 ghost use Prim.Native.Nat.{_/_, ℕ};
 ghost use mathlib.Core.Path.{_≡_};
-ghost use mathlib.Core.Bool.{Bool, _&&_, not};
-ghost use mathlib.Core.List.{List};
+ghost use mathlib.Core.Bool.{_&&_, not};
 ghost use lib.Dec.{eqb, leb};
-ghost use lib.ListN.{getD};
+ghost use Rattle.measures.specs.Loan.{was};
 ghost use Rattle.undo.specs.Table.{any};
 ghost use Rattle.rules.specs.Access.{isOf};
-ghost use Rattle.rules.specs.Tables.{noThread};
 ghost use Rattle.rules.specs.Refusal.{firstBad, fits, inRange, refusal, testsOf};
 ghost use Rattle.rules.specs.declared.Tables.{Tables};
 ghost use Rattle.rules.specs.declared.Event.the-variants.{Begin, Cut, DataAck, End, Fence, LogAck, Read, Setup, Write};
-ghost use Rattle.rows.specs.Row.{regionsOf, threadOf, threadsOf};
+ghost use Rattle.rows.specs.Row.{regionsOf, threadOf};
 ghost use Rattle.rows.specs.Whole.{tablesOf};
+ghost use Rattle.tables.specs.Held.{threadHeld};
 ghost use Rattle.refusals.specs.Order.{before};
+ghost use Rattle.refusals.specs.Told.{ByHead, ByLocks, ByOwners, ByRegions, ByRows, ByThreads};
 ghost use Rattle.refusals.specs.Writer.{writerOf};
 
 // Another uncommitted region that wrote a line last: its key, 0 if there is none, and whether it has ended or there is none.
@@ -36,7 +50,7 @@ fn memory_fits(z: Size, l: u16) -> bool
     if z.zero {
         return true;
     }
-    z.lent == 64 * (l as u64)
+    z.lent == (LINE_BYTES as u64) * (l as u64)
 }
 
 fn is_set_up(h: Head) -> bool
@@ -61,8 +75,8 @@ fn no_such_line(h: Head, l: u8) -> bool
 }
 
 // Of a line that region o wrote last, for an access by region k: no search where o is k or no region.
-fn last_writer(regions: &[[u32; 16]; 32], o: u32, k: u32) -> Writer
-    ensures { λ r. ⌜ r ≡ writerOf o k (regionsOf (now (regions .entry))) ⌝ }
+fn last_writer(regions: &Regions, o: u32, k: u32) -> Writer
+    ensures { λ r. ⌜ r ≡ writerOf o k (regionsOf (was regions)) ⌝ }
 {
     rows::rows32(regions);
     let none = Writer {
@@ -75,13 +89,13 @@ fn last_writer(regions: &[[u32; 16]; 32], o: u32, k: u32) -> Writer
     if o == k {
         return none;
     }
-    let i = rows::place_of(regions, o);
-    if 32 <= i {
+    let i = tables::place_of(regions, o);
+    if MOST_REGIONS <= i {
         return none;
     }
     Writer {
         key: o,
-        ended: rows::ended_at(regions, i),
+        ended: tables::ended_at(regions, i),
     }
 }
 
@@ -89,7 +103,7 @@ fn last_writer(regions: &[[u32; 16]; 32], o: u32, k: u32) -> Writer
 fn is_foreign(x: Writer, t: u8) -> bool
     ensures { λ r. ⌜ r ≡ (not (x .ended) && not (eqb (x .key / 65536) t)) ⌝ }
 {
-    let other = x.key / 65536 != t as u32;
+    let other = x.key / NUMBERS != t as u32;
     if x.ended { false } else { other }
 }
 
@@ -101,30 +115,34 @@ fn waits(logs: bool, locked: bool) -> bool
 }
 
 // A thread's log has a free place.
-fn has_free(row: &[u64; 34]) -> bool
-    ensures { λ r. ⌜ r ≡ any (isOf 0) (threadOf (now (row .entry)) .log) ⌝ }
+fn has_free(row: &ThreadRow) -> bool
+    ensures { λ r. ⌜ r ≡ any (isOf 0) (threadOf (was row) .log) ⌝ }
 {
     rows::words34(row);
-    rows::free_entry(row) < 32
+    rows::free_entry(row) < MOST_ENTRIES
 }
 
 // A write of thread t that needs a log entry, and no place for it.
-fn lacks_entry(threads: &[[u64; 34]; 8], t: u8, logs: bool) -> bool
-    ensures { λ r. ⌜ r ≡ (logs && not (any (isOf 0) (getD (threadsOf (now (threads .entry))) t noThread .log))) ⌝ }
+fn lacks_entry(threads: &Threads, t: u8, logs: bool) -> bool
+    ensures { λ r. ⌜ r ≡ (logs && not (any (isOf 0) (threadHeld (was threads) t .log))) ⌝ }
 {
     rows::threads8(threads);
     if !logs {
         return false;
     }
     let i = t as usize;
-    if i < 8 { !has_free(&threads[i]) } else { false }
+    if i < MOST_THREADS {
+        !has_free(&threads[i])
+    } else {
+        false
+    }
 }
 
 // ---- tests that several events share: those of one event before a number
 
 // Setup, thread and cut: begin, end and fence.
 fn thread_refusal(h: Head, t: u8) -> u8
-    ensures { λ r. ⌜ ((threads regions : List (List ℕ)) (owner : List ℕ) (lock : List Bool) → r ≡ firstBad (before 12 (testsOf (tablesOf h threads regions owner lock) (End t)))) ⌝ }
+    ensures { λ r. ⌜ ByHead (λ ts. firstBad (before 12 (testsOf ts (End t)))) h r ⌝ }
 {
     if !is_set_up(h) {
         return 6;
@@ -137,7 +155,7 @@ fn thread_refusal(h: Head, t: u8) -> u8
 
 // Setup, line and cut: the acknowledgements.
 fn ack_refusal(h: Head, l: u8) -> u8
-    ensures { λ r. ⌜ ((threads regions : List (List ℕ)) (owner : List ℕ) (lock : List Bool) → r ≡ firstBad (before 22 (testsOf (tablesOf h threads regions owner lock) (LogAck l)))) ⌝ }
+    ensures { λ r. ⌜ ByHead (λ ts. firstBad (before 22 (testsOf ts (LogAck l)))) h r ⌝ }
 {
     if !is_set_up(h) {
         return 6;
@@ -149,8 +167,8 @@ fn ack_refusal(h: Head, l: u8) -> u8
 }
 
 // The numbers of the record, cut and an open region: read and write.
-fn access_refusal(h: Head, threads: &[[u64; 34]; 8], t: u8, l: u8, w: u8) -> u8
-    ensures { λ r. ⌜ ((regions : List (List ℕ)) (owner : List ℕ) (lock : List Bool) → r ≡ firstBad (before 17 (testsOf (tablesOf h (now (threads .entry)) regions owner lock) (Read t l w)))) ⌝ }
+fn access_refusal(h: Head, threads: &Threads, t: u8, l: u8, w: u8) -> u8
+    ensures { λ r. ⌜ ByThreads (λ ts. firstBad (before 17 (testsOf ts (Read t l w)))) h threads r ⌝ }
 {
     if !is_set_up(h) {
         return 6;
@@ -161,13 +179,13 @@ fn access_refusal(h: Head, threads: &[[u64; 34]; 8], t: u8, l: u8, w: u8) -> u8
     if no_such_line(h, l) {
         return 4;
     }
-    if 7 < w {
+    if LINE_WORDS <= w as usize {
         return 5;
     }
     if h.cut {
         return 11;
     }
-    let depth = rows::depth_of(threads, t);
+    let depth = tables::depth_of(threads, t);
     if depth == 0 { 12 } else { 0 }
 }
 
@@ -190,58 +208,58 @@ pub fn setup_refusal(z: Size, n: u8, l: u16) -> u8
     }
 }
 
-fn begin_refusal(h: Head, threads: &[[u64; 34]; 8], regions: &[[u32; 16]; 32], t: u8) -> u8
-    ensures { λ r. ⌜ ((owner : List ℕ) (lock : List Bool) → r ≡ refusal (tablesOf h (now (threads .entry)) (now (regions .entry)) owner lock) (Begin t)) ⌝ }
+fn begin_refusal(h: Head, threads: &Threads, regions: &Regions, t: u8) -> u8
+    ensures { λ r. ⌜ ByRows (λ ts. refusal ts (Begin t)) h threads regions r ⌝ }
 {
     let c = thread_refusal(h, t);
     if c != 0 {
         return c;
     }
-    let depth = rows::depth_of(threads, t);
-    if 15 <= depth {
+    let depth = tables::depth_of(threads, t);
+    if MOST_DEPTH <= depth {
         return 13;
     }
     if depth != 0 {
         return 0;
     }
-    if 65535 <= rows::last_of(threads, t) {
+    if MOST_NUMBER <= tables::last_of(threads, t) {
         return 14;
     }
-    let modified = rows::count_modified(regions, t);
-    let held = rows::count_held(regions);
-    if 4 <= modified {
+    let modified = tables::count_modified(regions, t);
+    let held = tables::count_held(regions);
+    if MOST_MODIFIED <= modified {
         return 15;
     }
-    if 32 <= held { 16 } else { 0 }
+    if MOST_REGIONS <= held as usize { 16 } else { 0 }
 }
 
-fn end_refusal(h: Head, threads: &[[u64; 34]; 8], t: u8) -> u8
-    ensures { λ r. ⌜ ((regions : List (List ℕ)) (owner : List ℕ) (lock : List Bool) → r ≡ refusal (tablesOf h (now (threads .entry)) regions owner lock) (End t)) ⌝ }
+fn end_refusal(h: Head, threads: &Threads, t: u8) -> u8
+    ensures { λ r. ⌜ ByThreads (λ ts. refusal ts (End t)) h threads r ⌝ }
 {
     let c = thread_refusal(h, t);
     if c != 0 {
         return c;
     }
-    let depth = rows::depth_of(threads, t);
+    let depth = tables::depth_of(threads, t);
     if depth == 0 { 12 } else { 0 }
 }
 
 fn read_refusal(
     h: Head,
-    threads: &[[u64; 34]; 8],
-    regions: &[[u32; 16]; 32],
-    owner: &[u32; 256],
+    threads: &Threads,
+    regions: &Regions,
+    owner: &Owners,
     t: u8,
     l: u8,
     w: u8,
 ) -> u8
-    ensures { λ r. ⌜ ((lock : List Bool) → r ≡ refusal (tablesOf h (now (threads .entry)) (now (regions .entry)) (now (owner .entry)) lock) (Read t l w)) ⌝ }
+    ensures { λ r. ⌜ ByOwners (λ ts. refusal ts (Read t l w)) h threads regions owner r ⌝ }
 {
     let c = access_refusal(h, threads, t, l, w);
     if c != 0 {
         return c;
     }
-    let k = rows::current(threads, t);
+    let k = tables::current(threads, t);
     let x = last_writer(regions, owner[l as usize], k);
     if is_foreign(x, t) {
         return 17;
@@ -249,8 +267,8 @@ fn read_refusal(
     if x.key == 0 {
         return 0;
     }
-    let i = rows::place_of(regions, k);
-    if rows::lacks_dep(regions, i, x.key) {
+    let i = tables::place_of(regions, k);
+    if tables::lacks_dep(regions, i, x.key) {
         19
     } else {
         0
@@ -259,21 +277,21 @@ fn read_refusal(
 
 fn write_refusal(
     h: Head,
-    threads: &[[u64; 34]; 8],
-    regions: &[[u32; 16]; 32],
-    owner: &[u32; 256],
-    lock: &[bool; 256],
+    threads: &Threads,
+    regions: &Regions,
+    owner: &Owners,
+    lock: &Locks,
     t: u8,
     l: u8,
     w: u8,
 ) -> u8
-    ensures { λ r. ⌜ ((v : ℕ) → r ≡ refusal (tablesOf h (now (threads .entry)) (now (regions .entry)) (now (owner .entry)) (now (lock .entry))) (Write t l w v)) ⌝ }
+    ensures { λ r. ⌜ ((v : ℕ) → r ≡ refusal (tablesOf h (was threads) (was regions) (was owner) (was lock)) (Write t l w v)) ⌝ }
 {
     let c = access_refusal(h, threads, t, l, w);
     if c != 0 {
         return c;
     }
-    let k = rows::current(threads, t);
+    let k = tables::current(threads, t);
     let o = owner[l as usize];
     let x = last_writer(regions, o, k);
     if is_foreign(x, t) {
@@ -283,18 +301,18 @@ fn write_refusal(
     if waits(logs, lock[l as usize]) {
         return 18;
     }
-    let i = rows::place_of(regions, k);
-    if rows::lacks_dep(regions, i, x.key) {
+    let i = tables::place_of(regions, k);
+    if tables::lacks_dep(regions, i, x.key) {
         return 19;
     }
-    if rows::lacks_slot(regions, i, l) {
+    if tables::lacks_slot(regions, i, l) {
         return 20;
     }
     if lacks_entry(threads, t, logs) { 21 } else { 0 }
 }
 
-fn log_ack_refusal(h: Head, lock: &[bool; 256], l: u8) -> u8
-    ensures { λ r. ⌜ ((threads regions : List (List ℕ)) (owner : List ℕ) → r ≡ refusal (tablesOf h threads regions owner (now (lock .entry))) (LogAck l)) ⌝ }
+fn log_ack_refusal(h: Head, lock: &Locks, l: u8) -> u8
+    ensures { λ r. ⌜ ByLocks (λ ts. refusal ts (LogAck l)) h lock r ⌝ }
 {
     let c = ack_refusal(h, l);
     if c != 0 {
@@ -303,31 +321,31 @@ fn log_ack_refusal(h: Head, lock: &[bool; 256], l: u8) -> u8
     if lock[l as usize] { 0 } else { 22 }
 }
 
-fn data_ack_refusal(h: Head, regions: &[[u32; 16]; 32], l: u8) -> u8
-    ensures { λ r. ⌜ ((threads : List (List ℕ)) (owner : List ℕ) (lock : List Bool) → r ≡ refusal (tablesOf h threads (now (regions .entry)) owner lock) (DataAck l)) ⌝ }
+fn data_ack_refusal(h: Head, regions: &Regions, l: u8) -> u8
+    ensures { λ r. ⌜ ByRegions (λ ts. refusal ts (DataAck l)) h regions r ⌝ }
 {
     let c = ack_refusal(h, l);
     if c != 0 {
         return c;
     }
     rows::rows32(regions);
-    let place = rows::flight_place(regions, l);
-    if place < 32 { 0 } else { 22 }
+    let place = tables::flight_place(regions, l);
+    if place < MOST_REGIONS { 0 } else { 22 }
 }
 
-fn fence_refusal(h: Head, threads: &[[u64; 34]; 8], t: u8) -> u8
-    ensures { λ r. ⌜ ((regions : List (List ℕ)) (owner : List ℕ) (lock : List Bool) → r ≡ refusal (tablesOf h (now (threads .entry)) regions owner lock) (Fence t)) ⌝ }
+fn fence_refusal(h: Head, threads: &Threads, t: u8) -> u8
+    ensures { λ r. ⌜ ByThreads (λ ts. refusal ts (Fence t)) h threads r ⌝ }
 {
     let c = thread_refusal(h, t);
     if c != 0 {
         return c;
     }
-    let depth = rows::depth_of(threads, t);
+    let depth = tables::depth_of(threads, t);
     if depth == 0 { 0 } else { 23 }
 }
 
 fn cut_refusal(h: Head) -> u8
-    ensures { λ r. ⌜ ((threads regions : List (List ℕ)) (owner : List ℕ) (lock : List Bool) → r ≡ refusal (tablesOf h threads regions owner lock) Cut) ⌝ }
+    ensures { λ r. ⌜ ByHead (λ ts. refusal ts Cut) h r ⌝ }
 {
     if !is_set_up(h) {
         return 6;
@@ -338,13 +356,13 @@ fn cut_refusal(h: Head) -> u8
 // The refusal of an event; 0 for accepted.
 pub fn refusal(
     h: Head,
-    threads: &[[u64; 34]; 8],
-    regions: &[[u32; 16]; 32],
-    owner: &[u32; 256],
-    lock: &[bool; 256],
+    threads: &Threads,
+    regions: &Regions,
+    owner: &Owners,
+    lock: &Locks,
     e: Event,
 ) -> u8
-    ensures { λ r. ⌜ r ≡ refusal (tablesOf h (now (threads .entry)) (now (regions .entry)) (now (owner .entry)) (now (lock .entry))) e ⌝ }
+    ensures { λ r. ⌜ r ≡ refusal (tablesOf h (was threads) (was regions) (was owner) (was lock)) e ⌝ }
 {
     match e {
         Event::Setup(n, l) => {

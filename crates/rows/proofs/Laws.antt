@@ -15,7 +15,7 @@ use Rattle.rules.proofs.Lists.{place-lt}
 use Rattle.rules.specs.Access.{isHad, isOf}
 use Rattle.rules.specs.Lists.{place}
 use Rattle.undo.specs.Table.{any}
-use Rattle.slots.proofs.Walk.{map-end, map-more, mapped}
+use Rattle.lookup.proofs.Map.{map-end, map-more, mapped}
 use Rattle.rules.specs.Refusal.{noRoomForDep}
 use Rattle.rules.specs.Slots.{carries, isEmpty, isFull, names, orAt, slotFor, slotFrom}
 use Rattle.rules.specs.Tables.{noEntry, noRegion, noSlot, noThread, withSlots}

@@ -1,24 +1,37 @@
-// The tables as lent rows of numbers, and one region, thread or log entry at a time taken out of them and put back.
+// One region, thread or log entry as a row of numbers: taken out and put back, judged and changed on its numbers.
+use measures::DEPTH_AT;
+use measures::LAST_AT;
+use measures::LINE_WORDS;
+use measures::Lines;
+use measures::MOST_ENTRIES;
+use measures::MOST_LINES;
+use measures::MOST_SLOTS;
+use measures::MOST_THREADS;
+use measures::RegionRow;
+use measures::Regions;
+use measures::SLOTS_AT;
+use measures::ThreadRow;
+use measures::Threads;
 use rules::Entry;
 use rules::Region;
 use rules::Size;
 use rules::Slot;
 use rules::SlotState;
-ghost use Prim.Native.Nat.{_/_, _<_};
+ghost use Prim.Native.Nat.{_<_};
 ghost use mathlib.Core.Path.{_≡_};
 ghost use mathlib.Core.Bool.{_||_, cond, false};
 ghost use lib.Dec.{eqb};
-ghost use lib.ListN.{getD, length, set};
+ghost use lib.ListN.{length, set};
 ghost use Rattle.undo.specs.Table.{any};
 ghost use Rattle.rules.specs.Lists.{count, place};
-ghost use Rattle.rules.specs.Tables.{isHeld, keyOf, listed, noRegion, noThread, placeOf};
 ghost use Rattle.rules.specs.Slots.{carries, isFull, slotFor};
 ghost use Rattle.rules.specs.Access.{isOf};
-ghost use Rattle.rules.specs.Acknowledge.{flightPlace, kept, keptEntry, landed};
+ghost use Rattle.rules.specs.Acknowledge.{kept, keptEntry, landed};
 ghost use Rattle.rules.specs.Commit.{freed, freedEntry};
-ghost use Rattle.rules.specs.Refusal.{inRange, isModified, isOfThread, noRoomForDep};
+ghost use Rattle.rules.specs.Refusal.{inRange, noRoomForDep};
 ghost use Rattle.rules.specs.declared.Thread.{Thread};
-ghost use Rattle.rows.specs.Row.{entryOf, regionOf, regionsOf, slotOf, stateOf, suits, threadOf, threadsOf, withLog};
+ghost use Rattle.measures.specs.Loan.{left, was};
+ghost use Rattle.rows.specs.Row.{entryOf, regionOf, slotOf, stateOf, suits, threadOf, withLog};
 
 // The few numbers beside the lists.
 pub struct Head {
@@ -34,13 +47,80 @@ pub fn in_range(n: u8, l: u16) -> bool
     if n < 1 {
         return false;
     }
-    if 8 < n {
+    if MOST_THREADS < n as usize {
         return false;
     }
     if l < 1 {
         return false;
     }
-    l <= 256
+    l as usize <= MOST_LINES
+}
+
+// ---- lengths of what is lent: no code, and the fact for the callers
+
+fn count_rows(s: &[RegionRow]) -> usize
+    ensures { λ n. ⌜ n ≡ length (was s) ⌝ }
+{
+    s.len()
+}
+
+// There are 32 regions.
+pub fn rows32(regions: &Regions)
+    ensures { λ _. ⌜ length (was regions) ≡ 32 ⌝ }
+{
+    count_rows(regions);
+}
+
+fn count_row(s: &[u32]) -> usize
+    ensures { λ n. ⌜ n ≡ length (was s) ⌝ }
+{
+    s.len()
+}
+
+// A region has 16 numbers.
+pub fn words16(row: &RegionRow)
+    ensures { λ _. ⌜ length (was row) ≡ 16 ⌝ }
+{
+    count_row(row);
+}
+
+fn count_threads(s: &[ThreadRow]) -> usize
+    ensures { λ n. ⌜ n ≡ length (was s) ⌝ }
+{
+    s.len()
+}
+
+// There are eight threads.
+pub fn threads8(threads: &Threads)
+    ensures { λ _. ⌜ length (was threads) ≡ 8 ⌝ }
+{
+    count_threads(threads);
+}
+
+fn count_words(s: &[u64]) -> usize
+    ensures { λ n. ⌜ n ≡ length (was s) ⌝ }
+{
+    s.len()
+}
+
+// A thread has 34 numbers.
+pub fn words34(row: &ThreadRow)
+    ensures { λ _. ⌜ length (was row) ≡ 34 ⌝ }
+{
+    count_words(row);
+}
+
+fn count_lines(s: &[[u64; LINE_WORDS]]) -> usize
+    ensures { λ n. ⌜ n ≡ length (was s) ⌝ }
+{
+    s.len()
+}
+
+// A memory has 256 lines.
+pub fn lines256(m: &Lines)
+    ensures { λ _. ⌜ length (was m) ≡ 256 ⌝ }
+{
+    count_lines(m);
 }
 
 // ---- a slot
@@ -88,7 +168,7 @@ fn slot_word(s: Slot) -> u32
 // ---- a region
 
 // The region that a row holds.
-fn region_of(w: [u32; 16]) -> Region
+pub fn region_of(w: RegionRow) -> Region
     ensures { λ r. ⌜ r ≡ regionOf w ⌝ }
 {
     let s0 = slot_of(w[8]);
@@ -115,7 +195,7 @@ fn flag(b: bool) -> u32
     if b { 1 } else { 0 }
 }
 
-fn eight(s: [Slot; 8])
+fn eight(s: [Slot; MOST_SLOTS])
     ensures { λ _. ⌜ length s ≡ 8 ⌝ }
 {}
 
@@ -128,7 +208,7 @@ fn lengths(r: Region)
 }
 
 // A row that holds the region.
-fn row_of(r: Region) -> [u32; 16]
+pub fn row_of(r: Region) -> RegionRow
     ensures { λ w. ⌜ regionOf w ≡ r ⌝ }
 {
     lengths(r);
@@ -162,195 +242,7 @@ fn row_of(r: Region) -> [u32; 16]
     ]
 }
 
-// ---- one region of the lent rows
-
-fn count_rows(s: &[[u32; 16]]) -> usize
-    ensures { λ n. ⌜ n ≡ length (now (s .entry)) ⌝ }
-{
-    s.len()
-}
-
-// There are 32 rows: no code, and the fact for the callers.
-pub fn rows32(regions: &[[u32; 16]; 32])
-    ensures { λ _. ⌜ length (now (regions .entry)) ≡ 32 ⌝ }
-{
-    count_rows(regions);
-}
-
-fn count_row(s: &[u32]) -> usize
-    ensures { λ n. ⌜ n ≡ length (now (s .entry)) ⌝ }
-{
-    s.len()
-}
-
-// A row has 16 numbers: no code, and the fact for the callers.
-pub fn words16(row: &[u32; 16])
-    ensures { λ _. ⌜ length (now (row .entry)) ≡ 16 ⌝ }
-{
-    count_row(row);
-}
-
-// The region at place i, or a free one behind the list.
-pub fn get(regions: &[[u32; 16]; 32], i: usize) -> Region
-    ensures { λ r. ⌜ r ≡ getD (regionsOf (now (regions .entry))) i noRegion ⌝ }
-{
-    rows32(regions);
-    if i < 32 {
-        let w = regions[i];
-        region_of(w)
-    } else {
-        lookup::no_region()
-    }
-}
-
-// The region at place i becomes r; behind the list nothing changes.
-pub fn put(regions: &mut [[u32; 16]; 32], i: usize, r: Region)
-    ensures { λ _. ⌜ regionsOf (now (regions .exit)) ≡ set (regionsOf (now (regions .entry))) i r ⌝ }
-{
-    rows32(regions);
-    if i < 32 {
-        let w = row_of(r);
-        regions[i] = w;
-    }
-}
-
-// The key at place i, one number read.
-pub fn key_at(regions: &[[u32; 16]; 32], i: usize) -> u32
-    ensures { λ k. ⌜ k ≡ getD (regionsOf (now (regions .entry))) i noRegion .key ⌝ }
-{
-    rows32(regions);
-    if i < 32 { regions[i][0] } else { 0 }
-}
-
-// Whether the region at place i has ended.
-pub fn ended_at(regions: &[[u32; 16]; 32], i: usize) -> bool
-    ensures { λ b. ⌜ b ≡ getD (regionsOf (now (regions .entry))) i noRegion .ended ⌝ }
-{
-    rows32(regions);
-    if i < 32 { regions[i][1] == 1 } else { false }
-}
-
-// Whether the region at place i is done.
-fn done_at(regions: &[[u32; 16]; 32], i: usize) -> bool
-    ensures { λ b. ⌜ b ≡ getD (regionsOf (now (regions .entry))) i noRegion .done ⌝ }
-{
-    rows32(regions);
-    if i < 32 { regions[i][2] == 1 } else { false }
-}
-
-// ---- searches
-
-// The place of region `key`; of key 0, the first free place.
-pub fn place_of(regions: &[[u32; 16]; 32], key: u32) -> usize
-    ensures { λ r. ⌜ r ≡ placeOf key (regionsOf (now (regions .entry))) ⌝ }
-{
-    rows32(regions);
-    let mut i: usize = 0;
-    let at = loop {
-        if 32 <= i {
-            break i;
-        }
-        if key_at(regions, i) == key {
-            break i;
-        }
-        i += 1;
-    };
-    at
-}
-
-// Whether region `key` is uncommitted.
-fn is_listed(regions: &[[u32; 16]; 32], key: u32) -> bool
-    ensures { λ r. ⌜ r ≡ listed key (regionsOf (now (regions .entry))) ⌝ }
-{
-    rows32(regions);
-    if key == 0 {
-        return false;
-    }
-    place_of(regions, key) < 32
-}
-
-// The region `key` if it is uncommitted, else 0.
-pub fn uncommitted(regions: &[[u32; 16]; 32], key: u32) -> u32
-    ensures { λ r. ⌜ r ≡ cond (listed key (regionsOf (now (regions .entry)))) key 0 ⌝ }
-{
-    if is_listed(regions, key) { key } else { 0 }
-}
-
-// Whether the place holds a region of thread t.
-fn is_of_thread(regions: &[[u32; 16]; 32], i: usize, t: u8) -> bool
-    ensures { λ b. ⌜ b ≡ isOfThread t (getD (regionsOf (now (regions .entry))) i noRegion) ⌝ }
-{
-    let key = key_at(regions, i);
-    if key == 0 {
-        return false;
-    }
-    key / 65536 == t as u32
-}
-
-// Whether thread t has an uncommitted region.
-pub fn has_thread(regions: &[[u32; 16]; 32], t: u8) -> bool
-    ensures { λ r. ⌜ r ≡ any (isOfThread t) (regionsOf (now (regions .entry))) ⌝ }
-{
-    rows32(regions);
-    let mut i: usize = 0;
-    while i < 32 {
-        if is_of_thread(regions, i, t) {
-            return true;
-        }
-        i += 1;
-    }
-    false
-}
-
-fn one(hit: bool) -> u8
-    ensures { λ r. ⌜ r ≡ cond hit 1 0 ⌝ }
-{
-    if hit { 1 } else { 0 }
-}
-
-fn is_held(regions: &[[u32; 16]; 32], i: usize) -> bool
-    ensures { λ b. ⌜ b ≡ isHeld (getD (regionsOf (now (regions .entry))) i noRegion) ⌝ }
-{
-    key_at(regions, i) != 0
-}
-
-// How many places of the dependence list are taken.
-pub fn count_held(regions: &[[u32; 16]; 32]) -> u8
-    ensures { λ r. ⌜ r ≡ count isHeld (regionsOf (now (regions .entry))) ⌝ }
-{
-    rows32(regions);
-    let mut c: u8 = 0;
-    let mut i: usize = 0;
-    while i < 32 {
-        c += one(is_held(regions, i));
-        i += 1;
-    }
-    c
-}
-
-fn is_modified(regions: &[[u32; 16]; 32], i: usize, t: u8) -> bool
-    ensures { λ b. ⌜ b ≡ isModified t (getD (regionsOf (now (regions .entry))) i noRegion) ⌝ }
-{
-    if is_of_thread(regions, i, t) {
-        !done_at(regions, i)
-    } else {
-        false
-    }
-}
-
-// How many regions thread t has in the modified list.
-pub fn count_modified(regions: &[[u32; 16]; 32], t: u8) -> u8
-    ensures { λ r. ⌜ r ≡ count (isModified t) (regionsOf (now (regions .entry))) ⌝ }
-{
-    rows32(regions);
-    let mut c: u8 = 0;
-    let mut i: usize = 0;
-    while i < 32 {
-        c += one(is_modified(regions, i, t));
-        i += 1;
-    }
-    c
-}
+// ---- a region by the numbers of its row
 
 // Whether one of eight holds: all are looked at, without a branch, so that eight numbers are compared at once.
 pub fn one_of(a: bool, b: bool, c: bool, d: bool, e: bool, f: bool, g: bool, h: bool) -> bool
@@ -367,8 +259,8 @@ fn carries_word(n: u32, l: u8) -> bool
 }
 
 // Whether a slot of a row is in flight with the line l.
-fn row_carries(w: &[u32; 16], l: u8) -> bool
-    ensures { λ r. ⌜ r ≡ any (carries l) (regionOf (now (w .entry)) .slots) ⌝ }
+pub fn row_carries(w: &RegionRow, l: u8) -> bool
+    ensures { λ r. ⌜ r ≡ any (carries l) (regionOf (was w) .slots) ⌝ }
 {
     one_of(
         carries_word(w[8], l),
@@ -382,48 +274,17 @@ fn row_carries(w: &[u32; 16], l: u8) -> bool
     )
 }
 
-// Whether a slot of the region at place i is in flight with the line l.
-pub fn carries_at(regions: &[[u32; 16]; 32], i: usize, l: u8) -> bool
-    ensures { λ r. ⌜ r ≡ any (carries l) (getD (regionsOf (now (regions .entry))) i noRegion .slots) ⌝ }
-{
-    rows32(regions);
-    if 32 <= i {
-        return false;
-    }
-    row_carries(&regions[i], l)
-}
-
-// The place of the region whose slot is in flight with the line l.
-pub fn flight_place(regions: &[[u32; 16]; 32], l: u8) -> usize
-    ensures { λ r. ⌜ r ≡ flightPlace l (regionsOf (now (regions .entry))) ⌝ }
-{
-    rows32(regions);
-    let mut i: usize = 0;
-    let at = loop {
-        if 32 <= i {
-            break i;
-        }
-        if carries_at(regions, i, l) {
-            break i;
-        }
-        i += 1;
-    };
-    at
-}
-
-// ---- on the numbers of a row
-
 // Which slot of a row is in flight with the line l; 8 if none is.
-fn flight_slot(row: &[u32; 16], l: u8) -> usize
-    ensures { λ r. ⌜ r ≡ place (carries l) (regionOf (now (row .entry)) .slots) ⌝ }
+fn flight_slot(row: &RegionRow, l: u8) -> usize
+    ensures { λ r. ⌜ r ≡ place (carries l) (regionOf (was row) .slots) ⌝ }
 {
     words16(row);
     let mut i: usize = 0;
     let at = loop {
-        if 8 <= i {
+        if MOST_SLOTS <= i {
             break i;
         }
-        if carries_word(row[8 + i], l) {
+        if carries_word(row[SLOTS_AT + i], l) {
             break i;
         }
         i += 1;
@@ -432,23 +293,13 @@ fn flight_slot(row: &[u32; 16], l: u8) -> usize
 }
 
 // The slot in flight with the line l is emptied: one number.
-fn land(row: &mut [u32; 16], l: u8)
-    ensures { λ _. ⌜ regionOf (now (row .exit)) ≡ landed l (regionOf (now (row .entry))) ⌝ }
+pub fn land(row: &mut RegionRow, l: u8)
+    ensures { λ _. ⌜ regionOf (left row) ≡ landed l (regionOf (was row)) ⌝ }
 {
     words16(row);
     let i = flight_slot(row, l);
-    if i < 8 {
-        row[8 + i] = 0;
-    }
-}
-
-// The slot in flight with the line l is emptied in the region at place i; behind the list nothing changes.
-pub fn land_at(regions: &mut [[u32; 16]; 32], i: usize, l: u8)
-    ensures { λ _. ⌜ regionsOf (now (regions .exit)) ≡ set (regionsOf (now (regions .entry))) i (landed l (getD (regionsOf (now (regions .entry))) i noRegion)) ⌝ }
-{
-    rows32(regions);
-    if i < 32 {
-        land(&mut regions[i], l);
+    if i < MOST_SLOTS {
+        row[SLOTS_AT + i] = 0;
     }
 }
 
@@ -460,8 +311,8 @@ fn suits_word(n: u32, l: u8) -> bool
 }
 
 // Whether no slot of a row names the line l, and none is empty.
-fn row_lacks_slot(w: &[u32; 16], l: u8) -> bool
-    ensures { λ r. ⌜ r ≡ isFull (slotFor l (regionOf (now (w .entry)) .slots)) ⌝ }
+pub fn row_lacks_slot(w: &RegionRow, l: u8) -> bool
+    ensures { λ r. ⌜ r ≡ isFull (slotFor l (regionOf (was w) .slots)) ⌝ }
 {
     !one_of(
         suits_word(w[8], l),
@@ -475,20 +326,9 @@ fn row_lacks_slot(w: &[u32; 16], l: u8) -> bool
     )
 }
 
-// Whether the region at place i has no slot for the line l.
-pub fn lacks_slot(regions: &[[u32; 16]; 32], i: usize, l: u8) -> bool
-    ensures { λ r. ⌜ r ≡ isFull (slotFor l (getD (regionsOf (now (regions .entry))) i noRegion .slots)) ⌝ }
-{
-    rows32(regions);
-    if 32 <= i {
-        return false;
-    }
-    row_lacks_slot(&regions[i], l)
-}
-
 // Whether the dependence d is new in a row and has no place there.
-fn row_lacks_dep(w: &[u32; 16], d: u32) -> bool
-    ensures { λ r. ⌜ r ≡ noRoomForDep d (regionOf (now (w .entry)) .deps) ⌝ }
+pub fn row_lacks_dep(w: &RegionRow, d: u32) -> bool
+    ensures { λ r. ⌜ r ≡ noRoomForDep d (regionOf (was w) .deps) ⌝ }
 {
     if d == 0 {
         return false;
@@ -503,17 +343,6 @@ fn row_lacks_dep(w: &[u32; 16], d: u32) -> bool
         0 == w[6],
         0 == w[7],
     )
-}
-
-// Whether the region at place i has no place for the dependence d.
-pub fn lacks_dep(regions: &[[u32; 16]; 32], i: usize, d: u32) -> bool
-    ensures { λ r. ⌜ r ≡ noRoomForDep d (getD (regionsOf (now (regions .entry))) i noRegion .deps) ⌝ }
-{
-    rows32(regions);
-    if 32 <= i {
-        return false;
-    }
-    row_lacks_dep(&regions[i], d)
 }
 
 // ---- a log entry
@@ -550,50 +379,43 @@ fn entry_word(e: Entry) -> u64
     high * 4294967296 + (e.key as u64)
 }
 
-// ---- the row of one thread
+// ---- a thread
 
-fn count_words(s: &[u64]) -> usize
-    ensures { λ n. ⌜ n ≡ length (now (s .entry)) ⌝ }
+pub fn depth_in(row: &ThreadRow) -> u8
+    ensures { λ r. ⌜ r ≡ threadOf (was row) .depth ⌝ }
 {
-    s.len()
+    (row[DEPTH_AT] % 256) as u8
 }
 
-// There are 34 numbers: no code, and the fact for the callers.
-pub fn words34(row: &[u64; 34])
-    ensures { λ _. ⌜ length (now (row .entry)) ≡ 34 ⌝ }
+pub fn last_in(row: &ThreadRow) -> u16
+    ensures { λ r. ⌜ r ≡ threadOf (was row) .last ⌝ }
 {
-    count_words(row);
-}
-
-fn depth_in(row: &[u64; 34]) -> u8
-    ensures { λ r. ⌜ r ≡ threadOf (now (row .entry)) .depth ⌝ }
-{
-    (row[32] % 256) as u8
-}
-
-fn last_in(row: &[u64; 34]) -> u16
-    ensures { λ r. ⌜ r ≡ threadOf (now (row .entry)) .last ⌝ }
-{
-    (row[33] % 65536) as u16
+    (row[LAST_AT] % 65536) as u16
 }
 
 // The depth becomes d, and the last number n.
-fn set_place(row: &mut [u64; 34], d: u8, n: u16)
-    ensures { λ _. ⌜ _≡_ {A = Thread} (threadOf (now (row .exit))) (record { depth = d; last = n; log = threadOf (now (row .entry)) .log }) ⌝ }
+pub fn set_place(row: &mut ThreadRow, d: u8, n: u16)
+    ensures { λ _. ⌜ _≡_ {A = Thread} (threadOf (left row)) (record { depth = d; last = n; log = threadOf (was row) .log }) ⌝ }
 {
     words34(row);
-    row[32] = d as u64;
-    row[33] = n as u64;
+    row[DEPTH_AT] = d as u64;
+    row[LAST_AT] = n as u64;
+}
+
+pub fn one(hit: bool) -> u8
+    ensures { λ r. ⌜ r ≡ cond hit 1 0 ⌝ }
+{
+    if hit { 1 } else { 0 }
 }
 
 // The first free place of the log.
-pub fn free_entry(row: &[u64; 34]) -> usize
-    ensures { λ r. ⌜ r ≡ place (isOf 0) (threadOf (now (row .entry)) .log) ⌝ }
+pub fn free_entry(row: &ThreadRow) -> usize
+    ensures { λ r. ⌜ r ≡ place (isOf 0) (threadOf (was row) .log) ⌝ }
 {
     words34(row);
     let mut i: usize = 0;
     let at = loop {
-        if 32 <= i {
+        if MOST_ENTRIES <= i {
             break i;
         }
         if key_in(row[i]) == 0 {
@@ -605,13 +427,13 @@ pub fn free_entry(row: &[u64; 34]) -> usize
 }
 
 // How many entries region `key` has in the log.
-pub fn entry_count(row: &[u64; 34], key: u32) -> u8
-    ensures { λ r. ⌜ r ≡ count (isOf key) (threadOf (now (row .entry)) .log) ⌝ }
+pub fn entry_count(row: &ThreadRow, key: u32) -> u8
+    ensures { λ r. ⌜ r ≡ count (isOf key) (threadOf (was row) .log) ⌝ }
 {
     words34(row);
     let mut c: u8 = 0;
     let mut i: usize = 0;
-    while i < 32 {
+    while i < MOST_ENTRIES {
         c += one(key_in(row[i]) == key);
         i += 1;
     }
@@ -619,11 +441,11 @@ pub fn entry_count(row: &[u64; 34], key: u32) -> u8
 }
 
 // The entry at place i becomes e; behind the log nothing changes.
-pub fn put_entry(row: &mut [u64; 34], i: usize, e: Entry)
-    ensures { λ _. ⌜ threadOf (now (row .exit)) ≡ withLog (set (threadOf (now (row .entry)) .log) i e) (threadOf (now (row .entry))) ⌝ }
+pub fn put_entry(row: &mut ThreadRow, i: usize, e: Entry)
+    ensures { λ _. ⌜ threadOf (left row) ≡ withLog (set (threadOf (was row) .log) i e) (threadOf (was row)) ⌝ }
 {
     words34(row);
-    if i < 32 {
+    if i < MOST_ENTRIES {
         row[i] = entry_word(e);
     }
 }
@@ -643,12 +465,12 @@ fn kept_word(n: u64, k: u32, l: u8) -> u64
 }
 
 // The entry of region k for line l is persistent.
-fn keep_entry(row: &mut [u64; 34], k: u32, l: u8)
-    ensures { λ _. ⌜ threadOf (now (row .exit)) ≡ kept k l (threadOf (now (row .entry))) ⌝ }
+pub fn keep_entry(row: &mut ThreadRow, k: u32, l: u8)
+    ensures { λ _. ⌜ threadOf (left row) ≡ kept k l (threadOf (was row)) ⌝ }
 {
     words34(row);
     let mut i: usize = 0;
-    while i < 32 {
+    while i < MOST_ENTRIES {
         row[i] = kept_word(row[i], k, l);
         i += 1;
     }
@@ -661,86 +483,13 @@ fn freed_word(n: u64, k: u32) -> u64
 }
 
 // The entries of region k are free.
-pub fn free_entries(row: &mut [u64; 34], k: u32)
-    ensures { λ _. ⌜ threadOf (now (row .exit)) ≡ freed k (threadOf (now (row .entry))) ⌝ }
+pub fn free_entries(row: &mut ThreadRow, k: u32)
+    ensures { λ _. ⌜ threadOf (left row) ≡ freed k (threadOf (was row)) ⌝ }
 {
     words34(row);
     let mut i: usize = 0;
-    while i < 32 {
+    while i < MOST_ENTRIES {
         row[i] = freed_word(row[i], k);
         i += 1;
-    }
-}
-
-// ---- one thread of the lent rows
-
-fn count_threads(s: &[[u64; 34]]) -> usize
-    ensures { λ n. ⌜ n ≡ length (now (s .entry)) ⌝ }
-{
-    s.len()
-}
-
-// There are eight rows: no code, and the fact for the callers.
-pub fn threads8(threads: &[[u64; 34]; 8])
-    ensures { λ _. ⌜ length (now (threads .entry)) ≡ 8 ⌝ }
-{
-    count_threads(threads);
-}
-
-// The depth of thread t; 0 behind the list.
-pub fn depth_of(threads: &[[u64; 34]; 8], t: u8) -> u8
-    ensures { λ r. ⌜ r ≡ getD (threadsOf (now (threads .entry))) t noThread .depth ⌝ }
-{
-    threads8(threads);
-    let i = t as usize;
-    if i < 8 { depth_in(&threads[i]) } else { 0 }
-}
-
-// The number of thread t's last region; 0 behind the list.
-pub fn last_of(threads: &[[u64; 34]; 8], t: u8) -> u16
-    ensures { λ r. ⌜ r ≡ getD (threadsOf (now (threads .entry))) t noThread .last ⌝ }
-{
-    threads8(threads);
-    let i = t as usize;
-    if i < 8 { last_in(&threads[i]) } else { 0 }
-}
-
-// The key of thread t's last region, which is the open one at any depth but 0.
-pub fn current(threads: &[[u64; 34]; 8], t: u8) -> u32
-    ensures { λ r. ⌜ r ≡ keyOf t (getD (threadsOf (now (threads .entry))) t noThread .last) ⌝ }
-{
-    65536 * (t as u32) + (last_of(threads, t) as u32)
-}
-
-// The dependence that an access by region k of a line brings whose last writer is o; 0 if none.
-pub fn dependence(regions: &[[u32; 16]; 32], o: u32, k: u32) -> u32
-    ensures { λ r. ⌜ r ≡ cond (eqb (cond (listed o (regionsOf (now (regions .entry)))) o 0) k) 0 (cond (listed o (regionsOf (now (regions .entry)))) o 0) ⌝ }
-{
-    if o == k {
-        return 0;
-    }
-    let d = uncommitted(regions, o);
-    if d == k { 0 } else { d }
-}
-
-// Thread t gets the depth d and the last number n; behind the list nothing changes.
-pub fn set_thread(threads: &mut [[u64; 34]; 8], t: u8, d: u8, n: u16)
-    ensures { λ _. ⌜ threadsOf (now (threads .exit)) ≡ set (threadsOf (now (threads .entry))) t (record { depth = d; last = n; log = getD (threadsOf (now (threads .entry))) t noThread .log }) ⌝ }
-{
-    threads8(threads);
-    let i = t as usize;
-    if i < 8 {
-        set_place(&mut threads[i], d, n);
-    }
-}
-
-// The log entry of region k for line l is persistent; a key of no thread has none.
-pub fn keep_of(threads: &mut [[u64; 34]; 8], k: u32, l: u8)
-    ensures { λ _. ⌜ threadsOf (now (threads .exit)) ≡ set (threadsOf (now (threads .entry))) (k / 65536) (kept k l (getD (threadsOf (now (threads .entry))) (k / 65536) noThread)) ⌝ }
-{
-    threads8(threads);
-    let i = (k / 65536) as usize;
-    if i < 8 {
-        keep_entry(&mut threads[i], k, l);
     }
 }

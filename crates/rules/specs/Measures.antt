@@ -1,4 +1,4 @@
--- "Measures (all numbers decimal)." The lengths of the arrays in src/lib.rt are these numbers.
+-- "Measures (all numbers decimal)." Crate measures has the same numbers for programs.
 use Prim.Native.Nat.{ℕ}
 
 -- "Threads T: 1 to 8. Lines L: 1 to 256. A line is eight words of 8 bytes"

@@ -3,30 +3,6 @@
 // A region's key is 65536 * thread + number; 0 is no region. A place of a list that holds the key 0 is free.
 ghost use Rattle.rules.specs.Claim.{Demand3, OnlyImage, ReadsBack};
 
-// The measures of document 01; specs/Measures.antt names them for the definitions.
-pub const THREADS: usize = 8;
-
-pub const LINES: usize = 256;
-
-pub const WORDS: usize = 8;
-
-pub const ENTRIES: usize = 32;
-
-pub const REGIONS: usize = 32;
-
-pub const SLOTS: usize = 8;
-
-pub const DEPS: usize = 4;
-
-// A thread's most regions in the modified list, its deepest nesting and last number, and the count at which a waiting slot flies.
-pub const MODIFIED: u8 = 4;
-
-pub const DEPTH: u8 = 15;
-
-pub const NUMBER: u16 = 65535;
-
-pub const RIPE: u8 = 4;
-
 // A slot is empty, waits with its count, or is in flight.
 pub enum SlotState {
     Empty,
@@ -47,8 +23,8 @@ pub struct Region {
     pub ended: bool,
     pub done: bool,
     pub stamp: u32,
-    pub deps: [u32; DEPS],
-    pub slots: [Slot; SLOTS],
+    pub deps: [u32; measures::MOST_DEPS],
+    pub slots: [Slot; measures::MOST_SLOTS],
 }
 
 // A log entry: region `key` logged the old line. It is in flight until it is persistent. `rank` is the number of entries that its region wrote before it.
@@ -64,7 +40,7 @@ pub struct Entry {
 pub struct Thread {
     pub depth: u8,
     pub last: u16,
-    pub log: [Entry; ENTRIES],
+    pub log: [Entry; measures::MOST_ENTRIES],
 }
 
 // The numbers T and L of the setup, 0 before it; and the starting memory, which is zero or lent with a length in bytes.
@@ -80,10 +56,10 @@ pub struct Tables {
     pub size: Size,
     pub cut: bool,
     pub clock: u32,
-    pub threads: [Thread; THREADS],
-    pub regions: [Region; REGIONS],
-    pub owner: [u32; LINES],
-    pub lock: [bool; LINES],
+    pub threads: [Thread; measures::MOST_THREADS],
+    pub regions: [Region; measures::MOST_REGIONS],
+    pub owner: [u32; measures::MOST_LINES],
+    pub lock: [bool; measures::MOST_LINES],
 }
 
 // An event: thread, line, word and value as far as its kind has them, in the order of its record.
@@ -122,7 +98,7 @@ pub enum Found {
 pub struct Listed {
     pub key: u32,
     pub state: u8,
-    pub deps: [u32; DEPS],
+    pub deps: [u32; measures::MOST_DEPS],
 }
 
 // A log entry of an image by its region and line; its old line stays in the image, at the place `at`.

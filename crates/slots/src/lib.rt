@@ -1,4 +1,8 @@
 // A region's slots, by value: the counts, the drop and the flight.
+use measures::Lines;
+use measures::Locks;
+use measures::MOST_SLOTS;
+use measures::RIPE_COUNT;
 use rules::Found;
 use rules::Region;
 use rules::Slot;
@@ -7,6 +11,7 @@ ghost use mathlib.Core.Path.{_≡_};
 ghost use mathlib.Core.Bool.{_&&_, cond, not};
 ghost use mathlib.Core.List.{map};
 ghost use lib.ListN.{set};
+ghost use Rattle.measures.specs.Loan.{left, was};
 ghost use Rattle.rules.specs.Tables.{lineOf};
 ghost use Rattle.rules.specs.Slots.{carried, carries, countedSlot, flownSlots, isRipe, written};
 ghost use Rattle.rules.specs.Acknowledge.{dropped, droppedSlot};
@@ -14,9 +19,6 @@ ghost use Rattle.rules.specs.declared.SlotState.the-variants.{InFlight};
 ghost use Rattle.rules.specs.declared.Slot.{Slot};
 
 // ---- "Every other waiting slot of the region counts one more, to at most 4"
-
-// The highest count, with which a slot may fly.
-const FULL: u8 = 4;
 
 // A waiting slot counts one more, to at most 4.
 fn counted_slot(s: Slot) -> Slot
@@ -30,7 +32,7 @@ fn counted_slot(s: Slot) -> Slot
             state: SlotState::Empty,
         },
         SlotState::Waiting(c) => {
-            if c < FULL {
+            if c < RIPE_COUNT {
                 Slot {
                     line: l,
                     state: SlotState::Waiting(c + 1),
@@ -38,7 +40,7 @@ fn counted_slot(s: Slot) -> Slot
             } else {
                 Slot {
                     line: l,
-                    state: SlotState::Waiting(FULL),
+                    state: SlotState::Waiting(RIPE_COUNT),
                 }
             }
         }
@@ -50,12 +52,12 @@ fn counted_slot(s: Slot) -> Slot
 }
 
 // Every waiting slot counts one more.
-fn counted_slots(slots: [Slot; 8]) -> [Slot; 8]
+fn counted_slots(slots: [Slot; MOST_SLOTS]) -> [Slot; MOST_SLOTS]
     ensures { λ r. ⌜ r ≡ map countedSlot slots ⌝ }
 {
     let mut q = slots;
     let mut i: usize = 0;
-    while i < 8 {
+    while i < MOST_SLOTS {
         let s = q[i];
         q[i] = counted_slot(s);
         i += 1;
@@ -64,7 +66,7 @@ fn counted_slots(slots: [Slot; 8]) -> [Slot; 8]
 }
 
 // The slots after a write of line l: its slot waits with count 0, every other waiting slot counts.
-pub fn written(slots: [Slot; 8], l: u8) -> [Slot; 8]
+pub fn written(slots: [Slot; MOST_SLOTS], l: u8) -> [Slot; MOST_SLOTS]
     ensures { λ r. ⌜ r ≡ written l slots ⌝ }
 {
     match lookup::slot_for(slots, l) {
@@ -93,12 +95,12 @@ fn dropped_slot(s: Slot, l: u8) -> Slot
     }
 }
 
-fn dropped_slots(slots: [Slot; 8], l: u8) -> [Slot; 8]
+fn dropped_slots(slots: [Slot; MOST_SLOTS], l: u8) -> [Slot; MOST_SLOTS]
     ensures { λ r. ⌜ r ≡ map (droppedSlot l) slots ⌝ }
 {
     let mut q = slots;
     let mut i: usize = 0;
-    while i < 8 {
+    while i < MOST_SLOTS {
         let s = q[i];
         q[i] = dropped_slot(s, l);
         i += 1;
@@ -128,7 +130,7 @@ fn is_ripe(st: SlotState, ended: bool) -> bool
 {
     match st {
         SlotState::Empty => false,
-        SlotState::Waiting(c) => c == FULL || ended,
+        SlotState::Waiting(c) => c == RIPE_COUNT || ended,
         SlotState::InFlight => false,
     }
 }
@@ -157,8 +159,8 @@ fn flown_slot(s: Slot, f: bool) -> Slot
 }
 
 // "It carries the line as it then stands"
-fn carry(l: u8, f: bool, cur: &[[u64; 8]; 256], car: &mut [[u64; 8]; 256])
-    ensures { λ _. ⌜ now (car .exit) ≡ cond f (set (now (car .entry)) l (lineOf l (now (cur .entry)))) (now (car .entry)) ⌝ }
+fn carry(l: u8, f: bool, cur: &Lines, car: &mut Lines)
+    ensures { λ _. ⌜ left car ≡ cond f (set (was car) l (lineOf l (was cur))) (was car) ⌝ }
 {
     if f {
         let x = lines::line_of(cur, l);
@@ -168,17 +170,17 @@ fn carry(l: u8, f: bool, cur: &[[u64; 8]; 256], car: &mut [[u64; 8]; 256])
 
 // The slots fly where they can.
 pub fn fly(
-    slots: [Slot; 8],
+    slots: [Slot; MOST_SLOTS],
     ended: bool,
-    lock: &[bool; 256],
-    cur: &[[u64; 8]; 256],
-    car: &mut [[u64; 8]; 256],
-) -> [Slot; 8]
-    ensures { λ r. ⌜ (r ≡ flownSlots (now (lock .entry)) ended slots) × (now (car .exit) ≡ carried (now (lock .entry)) ended slots (now (cur .entry)) (now (car .entry))) ⌝ }
+    lock: &Locks,
+    cur: &Lines,
+    car: &mut Lines,
+) -> [Slot; MOST_SLOTS]
+    ensures { λ r. ⌜ (r ≡ flownSlots (was lock) ended slots) × (left car ≡ carried (was lock) ended slots (was cur) (was car)) ⌝ }
 {
     let mut q = slots;
     let mut i: usize = 0;
-    while i < 8 {
+    while i < MOST_SLOTS {
         let s = q[i];
         let li = s.line as usize;
         let f = flies(s, ended, lock[li]);

@@ -7,7 +7,8 @@ use lib.Dec.{leb}
 use lib.ListN.{drop, length, take}
 use Rattle.rows.specs.declared.Head.{Head}
 use Rattle.rules.specs.Tables.{Board}
-use Rattle.tracing.specs.Lent.{Loan, Rows, boardLeft, boardWas, left, was}
+use Rattle.measures.specs.Loan.{Loan, Rows, left, was}
+use Rattle.rows.specs.Whole.{boardLeft, boardWas}
 use Rattle.tracing.specs.Pieces.{Ran}
 use Rattle.tracing.specs.declared.TracedPiece.{TracedPiece}
 

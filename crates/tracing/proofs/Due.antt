@@ -2,15 +2,15 @@
 use Prim.Native.Nat.{_+_, _<_, _≤_, suc, zero, ℕ}
 use mathlib.Core.Path.{_∙_, _≡_, ap, refl, sym}
 use mathlib.Core.Bool.{Bool, cond, false, not, true}
-use mathlib.Core.List.{List, [], _++_, _∷_}
+use mathlib.Core.List.{List, [], _∷_}
 use lib.Dec.{leb, ltb}
-use lib.ListN.{drop, drop-of-length-le, getD, length, length-append, length-drop, take}
+use lib.ListN.{drop, drop-of-length-le, length, length-append, take}
 use native.Mathlib.Omega.{arith}
 use borrow.Author.Tests.{ltb-false, ltb-true}
 use lib.Seq.{drop-cons, drop-drop, drop-length, length-sets, sets}
 use native.Mathlib.Nat.{add-assoc, add-zero}
 use Rattle.lines.proofs.Paste.{sets-join}
-use Rattle.rules.specs.Record.{bodyLength, isWhole, readRecord, recordsFrom, recordsOf}
+use Rattle.rules.specs.Record.{bodyLength, recordsFrom, recordsOf}
 use Rattle.rules.specs.Run.{run}
 use Rattle.rules.specs.Step.{step}
 use Rattle.rules.specs.Tables.{Board}
@@ -22,7 +22,6 @@ use Rattle.tracing.specs.Text.{eventText, longestText, traceText}
 use Rattle.tracing.specs.declared.Traced.{Traced}
 use Rattle.tracing.specs.declared.TracedPiece.{TracedPiece}
 use Rattle.undo.proofs.Laws.{test}
-use Rattle.undo.specs.Table.{keep}
 
 -- ---- the record that is due
 

@@ -1,11 +1,11 @@
 -- In whatever pieces a file comes, the texts of its pieces make the text of the file.
 use Prim.Native.Nat.{_≤_, suc, zero, ℕ}
 use mathlib.Core.Path.{_≡_, refl}
-use mathlib.Core.Bool.{Bool, false, true}
+use mathlib.Core.Bool.{false, true}
 use mathlib.Core.List.{List, [], _++_, _∷_, append-assoc, append-nil}
 use lib.ListN.{drop, length, take}
 use native.Mathlib.Omega.{arith}
-use lib.Seq.{drop-nil, take-nil}
+use lib.Seq.{drop-nil}
 use Rattle.rules.specs.Record.{bodyLength, isWhole, readRecord, recordsFrom, recordsOf}
 use Rattle.rules.specs.Run.{run}
 use Rattle.rules.specs.Step.{step}

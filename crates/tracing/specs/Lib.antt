@@ -1,4 +1,3 @@
-pub mod Lent
 pub mod Text
 pub mod Results
 pub mod Pieces

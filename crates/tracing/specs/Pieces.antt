@@ -11,7 +11,8 @@ use Rattle.rules.specs.Run.{run}
 use Rattle.rules.specs.Step.{step}
 use Rattle.rules.specs.Tables.{Board}
 use Rattle.events.specs.Whole.{wholeLength}
-use Rattle.tracing.specs.Lent.{Loan, Rows, boardLeft, boardWas, left, was}
+use Rattle.measures.specs.Loan.{Loan, Rows, left, was}
+use Rattle.rows.specs.Whole.{boardLeft, boardWas}
 use Rattle.tracing.specs.Results.{Put}
 use Rattle.tracing.specs.Text.{eventText, longestText, traceText}
 use Rattle.tracing.specs.declared.TracedPiece.{TracedPiece}

@@ -13,11 +13,17 @@ use Rattle.rules.specs.Step.{step}
 use Rattle.rules.specs.Tables.{Board}
 use Rattle.rules.specs.declared.Answer.{Answer}
 use Rattle.events.specs.Whole.{recordLength}
-use Rattle.tracing.specs.Lent.{Loan, OfBoard, Rows, boardLeft, boardWas, left, was}
+use Rattle.measures.specs.Loan.{Loan, Rows, left, was}
+use Rattle.rows.specs.Whole.{boardLeft, boardOf, boardWas}
 use Rattle.tracing.specs.Text.{behindText, eventText, longestText}
 use Rattle.tracing.specs.declared.Traced.{Traced}
 use Rattle.wording.specs.Results.{Adds}
 use Rattle.wording.specs.Text.{cutText, recoveredText}
+
+-- where a part of a board is lent: what holds of the board, whatever the rest is
+abbrev pub OfBoard : (Board → Type 0) → Head → Loan Rows → Loan Rows → Loan Rows → Loan Rows → Type 0
+OfBoard P h threads regions med old =
+    (owner : List ℕ) (lock : List Bool) (cur car : Rows) → P (boardOf h (was threads) (was regions) owner lock cur (was med) (was old) car)
 
 -- the text of the words that recovery makes of the image that is saved into the buffer im
 abbrev pub SavedWords : Loan (List ℕ) → Cursor → Cursor → Head → Loan Rows → Loan Rows → Loan Rows → Loan Rows → Loan (List ℕ) → Type 0

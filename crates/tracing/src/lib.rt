@@ -9,7 +9,7 @@ ghost use lib.Dec.{leb, ltb};
 ghost use lib.ListN.{getD, length};
 ghost use Rattle.events.specs.Whole.{recordLength};
 ghost use Rattle.wording.specs.Text.{imageBuffer};
-ghost use Rattle.tracing.specs.Lent.{was};
+ghost use Rattle.measures.specs.Loan.{was};
 ghost use Rattle.tracing.specs.Text.{longestText};
 ghost use Rattle.tracing.specs.Results.{BehindWords, CutWords, SavedWords, Traces};
 ghost use Rattle.tracing.specs.Pieces.{GoesOn, TracesPiece};

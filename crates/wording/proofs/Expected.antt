@@ -4,128 +4,42 @@ use Rattle.undo.specs.History as v
 use Rattle.undo.specs.Claim.{Reach}
 use Prim.Native.Nat.{_*_, _+_, _<_, _≤_, suc, zero, ℕ}
 use mathlib.Core.Path.{_∙_, _≡_, ap, refl, sym}
-use mathlib.Core.Bool.{Bool, _&&_, false, true}
+use mathlib.Core.Bool.{_&&_, false, true}
 use mathlib.Core.List.{List, [], _++_, _∷_}
 use lib.Dec.{eqb}
-use lib.ListN.{drop, length, length-append, length-drop, length-replicate, length-set, set, take}
-use lib.Seq.{drop-append-add, drop-at, drop-drop, getD-set-other, getD-set-same, getD-take, length-take-le, take-append-seam}
+use lib.ListN.{drop, length, length-append, length-drop, length-replicate, take}
+use lib.Seq.{drop-append-add, drop-at, drop-drop, getD-take, length-take-le, take-append-seam}
 use native.Mathlib.Omega.{arith}
-use borrow.Author.Tests.{eqb-false, eqb-true, le-leb}
+use borrow.Author.Tests.{eqb-true, le-leb}
 use Rattle.recovery.proofs.Places.{flat-at, flat-length}
-use Rattle.rules.proofs.Codec.Bytes.{all-at, all-set, isLine, isWord, length-bytes, length-words, line-back}
+use Rattle.rules.proofs.Codec.Bytes.{all-at, isLine, length-bytes, length-words, line-back}
 use Rattle.rules.proofs.Codec.Store.{found, length-line, withMedium}
 use Rattle.rules.proofs.Codec.Turns.{length-entry, length-region, size-lines}
 use Rattle.rules.proofs.Codec.Valid.{Valid, fitsRegion}
 use Rattle.rules.proofs.Cuts.{cut-is}
-use Rattle.rules.proofs.Recover.Expected.{applied-length, effects-length, expected-length}
+use Rattle.rules.proofs.Recover.Expected.{expected-length}
 use Rattle.rules.proofs.Recover.Sound.{sound}
 use Rattle.rules.proofs.Recover.Steps.{Standing, stands, start-stands, step-stands}
 use Rattle.rules.proofs.Recover.Valid.{saved-valid}
-use Rattle.rules.proofs.Sim.State.{Sim, Simulated, by, isSound}
-use Rattle.rules.proofs.Sim.All.{every, isSoundReading, sound-record}
-use Rattle.rules.proofs.Start.{initially, start-length}
-use Rattle.rules.specs.Access.{storeWord}
+use Rattle.rules.proofs.Sim.State.{Sim, Simulated, by}
+use Rattle.rules.proofs.Sim.All.{every}
 use Rattle.rules.specs.Bytes.{lineBytes, wordsOf}
 use Rattle.rules.specs.Claim.{boardAfter, isByte, isByteMemory}
 use Rattle.rules.specs.Contradiction.{contradicts}
-use Rattle.rules.specs.History.{Change, acceptedFrom, acceptedIn, applied, committed, effects, endsIn, expected, expectedBytes, hasCut, linesIn, memoryFound, noted, writesIn}
+use Rattle.rules.specs.History.{Account, acceptedIn, expected, expectedBytes, hasCut, linesIn, memoryFound}
 use Rattle.rules.specs.Image.{Logged, Persistent, encode, entryRecord, headRecord, image, lineRecord, regionRecord, save, saved}
 use Rattle.rules.specs.Lists.{all, flat}
 use Rattle.rules.specs.Reader.{isKnownThread}
-use Rattle.rules.specs.Record.{readRecord}
 use Rattle.rules.specs.Recovery.{Recovering, lineStart, restore}
 use Rattle.rules.specs.Refusal.{isSetUp}
 use Rattle.rules.specs.Run.{wroteInto}
-use Rattle.rules.specs.Step.{step}
-use Rattle.rules.specs.Tables.{Board, Memory, fresh, lineOf, startLines}
-use Rattle.rules.specs.declared.Event.{Event}
-use Rattle.rules.specs.declared.Event.the-variants.{Begin, Cut, DataAck, End, Fence, LogAck, Read, Setup, Write}
+use Rattle.rules.specs.Tables.{Board, Memory, lineOf}
 use Rattle.rules.specs.declared.Listed.{Listed}
-use Rattle.rules.specs.declared.Reading.{Reading}
-use Rattle.rules.specs.declared.Reading.the-variants.{Refused, Whole}
 use Rattle.wording.proofs.Words.{expected-found, image-log}
 use Rattle.wording.specs.Claim.{WordsExpected}
 use Rattle.wording.specs.Text.{cutText, finish, flatTo, imageBuffer, imageLine, lineText, memoryText, recovered, recoveredText}
 use Rattle.undo.proofs.Laws.{and-true, test}
-
--- ---- the expected memory holds lines of eight 64-bit words
-
-set-line : (x : List ℕ) (w v : ℕ) → isLine x ≡ true → isWord v ≡ true → isLine (set x w v) ≡ true
-set-line x w v e f =
-    let b = and-true (eqb (length x) 8) (all isWord x) e in
-    rw (length-set x w v, b .0) (all-set isWord x w v (b .1) f)
-
-store-lines : (m : List (List ℕ)) (l w v : ℕ) → length m ≡ 256 → ((j : ℕ) → j < 256 → isLine (lineOf j m) ≡ true) → isWord v ≡ true
-    → (j : ℕ) → j < 256 → isLine (lineOf j (storeWord l w v m)) ≡ true
-store-lines m l w v n h f j k =
-    test (eqb j l)
-    (λ d. rw (← eqb-true j l d, getD-set-same m j (set (lineOf j m) w v) [] (omega arith)) (set-line (lineOf j m) w v (h j k) f))
-    (λ d. rw (getD-set-other m l j (set (lineOf l m) w v) [] (eqb-false j l d)) (h j k))
-
-abbrev isWordChange : Change → Bool
-isWordChange w = isWord (w .value)
-
-applied-lines : (k : ℕ) (ws : List Change) (m : List (List ℕ)) → all isWordChange ws ≡ true → length m ≡ 256
-    → ((j : ℕ) → j < 256 → isLine (lineOf j m) ≡ true) → (j : ℕ) → j < 256 → isLine (lineOf j (applied k ws m)) ≡ true
-unfolding applied
-applied-lines k [] m e n h j d = h j d
-applied-lines k (w ∷ ws) m e n h j d =
-    let b = and-true (isWordChange w) (all isWordChange ws) e in
-    let ih = applied-lines k ws m (b .1) n h in
-    test (eqb (w .region) k)
-    (λ a. rw a (store-lines (applied k ws m) (w .line) (w .word) (w .value) (applied-length k ws m ∙ n) ih (b .0) j d))
-    (λ a. rw a (ih j d))
-
-effects-lines : (done : ℕ → Bool) (ws : List Change) (m : List (List ℕ)) (ks : List ℕ) → all isWordChange ws ≡ true → length m ≡ 256
-    → ((j : ℕ) → j < 256 → isLine (lineOf j m) ≡ true) → (j : ℕ) → j < 256 → isLine (lineOf j (effects done ws m ks)) ≡ true
-unfolding effects
-effects-lines done ws m [] e n h j d = h j d
-effects-lines done ws m (k ∷ ks) e n h j d =
-    let ih = effects-lines done ws m ks e n h in
-    test (done k)
-    (λ a. rw a (applied-lines k ws (effects done ws m ks) e (effects-length done ws m ks ∙ n) ih j d))
-    (λ a. rw a (ih j d))
-
-writes-words : (es : List Event) → all isSound es ≡ true → all isWordChange (writesIn es) ≡ true
-unfolding writesIn
-writes-words [] e = refl
-writes-words (Setup n l ∷ es) e = writes-words es e
-writes-words (Begin t ∷ es) e = writes-words es e
-writes-words (End t ∷ es) e = writes-words es e
-writes-words (Read t l w ∷ es) e = writes-words es e
-writes-words (Write t l w x ∷ es) e = let b = and-true (isWord x) (all isSound es) e in rw (b .0) (writes-words es (b .1))
-writes-words (LogAck l ∷ es) e = writes-words es e
-writes-words (DataAck l ∷ es) e = writes-words es e
-writes-words (Fence t ∷ es) e = writes-words es e
-writes-words (Cut ∷ es) e = writes-words es e
-
-noted-sound : (n : ℕ) (x : Reading) (es : List Event) → isSoundReading x ≡ true → all isSound es ≡ true → all isSound (noted n x es) ≡ true
-noted-sound zero (Whole e) es q h = let s : isSound e ≡ true = q in rw s h
-noted-sound zero (Refused n) es q h = h
-noted-sound (suc n) x es q h = h
-
-accepted-sound : (rs : List (List ℕ)) (b : Board) (es : List Event) → all (all isByte) rs ≡ true → all isSound es ≡ true
-    → all isSound (acceptedFrom b rs es) ≡ true
-unfolding acceptedFrom
-accepted-sound [] b es e h = h
-accepted-sound (r ∷ rs) b es e h =
-    let z = and-true (all isByte r) (all (all isByte) rs) e in
-    accepted-sound rs (step b r .board) (noted (step b r .answer .refusal) (readRecord r) es) (z .1)
-    (noted-sound (step b r .answer .refusal) (readRecord r) es (sound-record r (z .0)) h)
-
-start-lines : (m : Memory) → isByteMemory m ≡ true → (j : ℕ) → j < 256 → isLine (lineOf j (startLines m)) ≡ true
-unfolding fresh
-start-lines m bm j d = go (initially m bm .simulated)
-  where
-    go : Simulated m (fresh m) [] → isLine (lineOf j (startLines m)) ≡ true
-    go (by s h rc i) = i .memories .med-lines j d
-
-expected-lines : (m : Memory) (rs : List (List ℕ)) → isByteMemory m ≡ true → all (all isByte) rs ≡ true
-    → (j : ℕ) → j < 256 → isLine (lineOf j (expected m rs)) ≡ true
-unfolding expected
-expected-lines m rs bm br j d =
-    effects-lines (committed m rs) (writesIn (acceptedIn m rs)) (startLines m) (endsIn (acceptedIn m rs))
-    (writes-words (acceptedIn m rs) (accepted-sound rs (fresh m) [] br refl)) (start-length m) (start-lines m bm) j d
+use Rattle.laws.proofs.Lines.{expected-lines}
 
 -- ---- lines with the same bytes are the same
 
@@ -236,7 +150,7 @@ buffer-long = length-replicate {A = ℕ} 34853 0
 data Recovers (b : Board) (bs : List ℕ) : Type 0 where
   recovers : (md : List (List ℕ)) → bs ≡ encode (withMedium md (saved b)) → Valid (withMedium md (saved b)) → Recovers b bs
 
-module _ {start : ℕ → List ℕ} {b : Board} {es : List Event} {s : u.State (List ℕ)} {h : v.History (List ℕ)} (rc : Reach start s h) (i : Sim b es s h)
+module _ {start : ℕ → List ℕ} {b : Board} {es : List Account} {s : u.State (List ℕ)} {h : v.History (List ℕ)} (rc : Reach start s h) (i : Sim b es s h)
     (up : isSetUp (b .tables) ≡ true) (quiet : contradicts (saved b) ≡ false) where
   step-recovers : {r : Recovering} → Standing rc i up quiet r → Recovers b (r .bytes)
   step-recovers (stands md a q z f pl) = recovers md q z

@@ -14,14 +14,13 @@ use Rattle.rules.proofs.Main.{recovery-is-right}
 use Rattle.rules.proofs.Sim.State.{Simulated, by}
 use Rattle.rules.proofs.Sim.All.{every}
 use Rattle.rules.specs.Claim.{boardAfter, isByte, isByteMemory, passLength, recovering, restores}
-use Rattle.rules.specs.History.{acceptedIn, expectedBytes, hasCut, memoryFound}
+use Rattle.rules.specs.History.{Account, acceptedIn, expectedBytes, hasCut, memoryFound}
 use Rattle.rules.specs.Image.{Logged, Persistent, image, orderOf, saved, savedEntry, savedLog, savedThread}
 use Rattle.rules.specs.Lists.{all, rising}
 use Rattle.rules.specs.Reader.{Reads, Refuses, Verdict, readImage}
 use Rattle.rules.specs.Recovery.{Act, PowerCut, Recovering, Restore, act, acts, restore, restoreBy, restoreRead}
 use Rattle.rules.specs.Walk.{walkEntries}
 use Rattle.rules.specs.Tables.{Board, Memory, threadAt}
-use Rattle.rules.specs.declared.Event.{Event}
 use Rattle.wording.specs.Text.{finish, recovered}
 use Rattle.undo.proofs.Laws.{and-true, test}
 
@@ -62,7 +61,7 @@ pub image-log : (b : Board) → ((t : ℕ) → length (threadAt t (b .tables) .l
 unfolding saved
 image-log b h = all-logs b h 8 0
 
-shaped : {m : Memory} {b : Board} {es : List Event} → Simulated m b es → (t : ℕ) → length (threadAt t (b .tables) .log) ≡ 32
+shaped : {m : Memory} {b : Board} {es : List Account} → Simulated m b es → (t : ℕ) → length (threadAt t (b .tables) .log) ≡ 32
 shaped (by s h rc i) = i .shape .threads .logs
 
 module _ (m : Memory) (rs : List (List ℕ)) (bm : isByteMemory m ≡ true) (br : all (all isByte) rs ≡ true) (cut : hasCut (acceptedIn m rs) ≡ true) where

@@ -6,43 +6,31 @@ use Rattle.board.proofs.Start.{many-lines, many-threads, start-answer, 
 use borrow.Author.Needs.{needs}
 use Rattle.board.proofs.board_start.Statement.{statement}
 use Rattle.board.proofs.board_start.Tie as tie
-use Rattle.board.proofs.board_start.Reads as reads
-use Rattle.board.proofs.board_start.Lts as lts
-use Rattle.board.proofs.answer.Reads as answer-reads
 
--- src/lib.rt:22:9
 answer-requires : tie.Need-answer-requires
 answer-requires c κs = search needs
 
--- src/lib.rt:22:9
 returns : tie.Need-returns
 returns c = let a = c .before .before .before .args in c .answer .ensures ∙ sym (start-far (a .threads) (a .lines) (a .memory .now) (many-threads (a .threads) (a .lines) (c .before .if1 .taken)))
 
--- src/lib.rt:25:9
 answer-requires-2 : tie.Need-answer-requires-2
 answer-requires-2 c κs = search needs
 
--- src/lib.rt:25:9
 returns-2 : tie.Need-returns-2
 returns-2 c = let a = c .before .before .before .before .args in c .answer2 .ensures ∙ sym (start-far (a .threads) (a .lines) (a .memory .now) (many-lines (a .threads) (a .lines) (c .before .if2 .taken)))
 
--- src/lib.rt:28:46
 cast-setup-refusal : tie.Need-cast-setup-refusal
 cast-setup-refusal c = search needs
 
--- src/lib.rt:28:61
 cast-setup-refusal-2 : tie.Need-cast-setup-refusal-2
 cast-setup-refusal-2 c = search needs
 
--- src/lib.rt:28:12
 setup-refusal-requires : tie.Need-setup-refusal-requires
 setup-refusal-requires c κs = search needs
 
--- src/lib.rt:28:5
 answer-requires-3 : tie.Need-answer-requires-3
 answer-requires-3 c κs = search needs
 
--- src/lib.rt:17:1
 returns-3 : tie.Need-returns-3
 returns-3 c =
     let a = c .before .before .before .before .before .args in

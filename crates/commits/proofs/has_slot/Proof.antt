@@ -3,47 +3,34 @@ use Rattle.commits.proofs.Row.{used-word}
 use borrow.Author.Needs.{needs}
 use Rattle.commits.proofs.has_slot.Statement.{statement}
 use Rattle.commits.proofs.has_slot.Tie as tie
-use Rattle.commits.proofs.has_slot.Reads as reads
-use Rattle.commits.proofs.has_slot.Lts as lts
-use Rattle.rows.proofs.one_of.Reads as one-of-reads
 
--- src/lib.rt:25:9
 element-copy-out-one-of : tie.Need-element-copy-out-one-of
 element-copy-out-one-of c = search needs
 
--- src/lib.rt:26:9
 element-copy-out-one-of-2 : tie.Need-element-copy-out-one-of-2
 element-copy-out-one-of-2 c = search needs
 
--- src/lib.rt:27:9
 element-copy-out-one-of-3 : tie.Need-element-copy-out-one-of-3
 element-copy-out-one-of-3 c = search needs
 
--- src/lib.rt:28:9
 element-copy-out-one-of-4 : tie.Need-element-copy-out-one-of-4
 element-copy-out-one-of-4 c = search needs
 
--- src/lib.rt:29:9
 element-copy-out-one-of-5 : tie.Need-element-copy-out-one-of-5
 element-copy-out-one-of-5 c = search needs
 
--- src/lib.rt:30:9
 element-copy-out-one-of-6 : tie.Need-element-copy-out-one-of-6
 element-copy-out-one-of-6 c = search needs
 
--- src/lib.rt:31:9
 element-copy-out-one-of-7 : tie.Need-element-copy-out-one-of-7
 element-copy-out-one-of-7 c = search needs
 
--- src/lib.rt:32:9
 element-copy-out-one-of-8 : tie.Need-element-copy-out-one-of-8
 element-copy-out-one-of-8 c = search needs
 
--- src/lib.rt:24:5
 one-of-requires : tie.Need-one-of-requires
 one-of-requires c κs = search needs
 
--- src/lib.rt:21:1
 returns : tie.Need-returns
 unfolding regionOf
 returns c = let w = c .before .before .before .before .before .before .before .before .before .args .row .now in rw (c .one-of .ensures, used-word (word w 8), used-word (word w 9), used-word (word w 10), used-word (word w 11), used-word (word w 12), used-word (word w 13), used-word (word w 14), used-word (word w 15))

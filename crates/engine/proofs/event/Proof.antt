@@ -1,39 +1,27 @@
-use Rattle.engine.proofs.Records.{record-refused, record-whole}
+use Rattle.engine.proofs.Laws.{record-refused, record-whole}
 use Rattle.rows.specs.Whole.{boardOf, stepped}
 use borrow.Author.Needs.{needs}
 use Rattle.engine.proofs.event.Statement.{statement}
 use Rattle.engine.proofs.event.Tie as tie
-use Rattle.engine.proofs.event.Reads as reads
-use Rattle.engine.proofs.event.Lts as lts
-use Rattle.events.proofs.number_of.Reads as number-of-reads
-use Rattle.events.proofs.read_record.Reads as read-record-reads
-use Rattle.steps.proofs.step.Reads as step-reads
 
--- src/lib.rt:61:9
 read-record-requires : tie.Need-read-record-requires
 read-record-requires c κs = search needs
 
--- src/lib.rt:62:24
 enum-known-reading : tie.Need-enum-known-reading
 enum-known-reading c = search needs
 
--- src/lib.rt:66:26
 enum-told : tie.Need-enum-told
 enum-told c = search needs
 
--- src/lib.rt:66:26
 number-of-requires : tie.Need-number-of-requires
 number-of-requires c κs = search needs
 
--- src/lib.rt:63:9
 returns : tie.Need-returns
 returns c = let s = c .before .before .before .before .before .args in record-refused (boardOf (s .h) (s .threads .now) (s .regions .now) (s .owner .now) (s .lock .now) (s .cur .now) (s .med .now) (s .old .now) (s .car .now)) (s .bytes .now) (c .before .before .before .read-record .result) _ _ (c .before .before .before .read-record .ensures) (c .before .enum-told .given .1) (c .number-of .ensures)
 
--- src/lib.rt:71:5
 step-requires : tie.Need-step-requires
 step-requires c κs = search needs
 
--- src/lib.rt:47:1
 returns-2 : tie.Need-returns-2
 returns-2 c = let s = c .before .before .before .before .before .before .before .before .before .before .before .before .before .before .args in record-whole (boardOf (s .h) (s .threads .now) (s .regions .now) (s .owner .now) (s .lock .now) (s .cur .now) (s .med .now) (s .old .now) (s .car .now)) (s .bytes .now) (c .before .before .before .before .before .before .before .before .before .before .before .before .read-record .result) _ _ (c .before .before .before .before .before .before .before .before .before .before .before .before .read-record .ensures) (c .before .before .before .before .before .before .before .before .before .before .reading .given .1) (c .step .ensures)
 

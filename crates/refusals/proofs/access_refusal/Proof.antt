@@ -2,6 +2,7 @@ use Prim.Native.Nat.{ℕ}
 use mathlib.Core.Bool.{Bool}
 use mathlib.Core.List.{List}
 use mathlib.Core.Path.{_∙_, sym}
+use native.Mathlib.Omega.{arith}
 use borrow.Author.Needs.{needs}
 use borrow.Author.Tests.{eq-eqb, le-ltb, lt-ltb, ne-eqb}
 use Rattle.rules.specs.Refusal.{Test, testsOf}
@@ -30,7 +31,7 @@ module _ (regions : List (List ℕ)) (owner : List ℕ) (lock : List Bool) where
 
   passed-11 : (c : tie.Else4) → Passed 11 (tests (c .before .before .before .before .before .before .before))
   unfolding testsOf
-  passed-11 c = passed-5 (c .before) ∙ rw (le-ltb 7 _ (c .if4 .left))
+  passed-11 c = passed-5 (c .before) ∙ rw (le-ltb 7 (c .before .before .before .before .before .before .before .args .w) (omega (arith, c .if4 .left)))
 
   passed-12 : (c : tie.Else5) → Passed 12 (tests (c .before .before .before .before .before .before .before .before))
   unfolding testsOf
@@ -59,7 +60,7 @@ returns-3 c = λ regions owner lock. sym (passed-4 regions owner lock (c .before
 
 returns-4 : tie.Need-returns-4
 unfolding testsOf
-returns-4 c = λ regions owner lock. sym (passed-5 regions owner lock (c .before) ∙ rw (lt-ltb 7 _ (c .if4 .taken)))
+returns-4 c = λ regions owner lock. sym (passed-5 regions owner lock (c .before) ∙ rw (lt-ltb 7 (c .before .before .before .before .before .before .before .args .w) (omega (arith, c .if4 .taken))))
 
 returns-5 : tie.Need-returns-5
 unfolding testsOf

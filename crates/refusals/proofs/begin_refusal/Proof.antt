@@ -88,6 +88,9 @@ returns-5 : tie.Need-returns-5
 unfolding refusal testsOf
 returns-5 c = λ owner lock. let e = c .before .before .before in sym (passed-15 owner lock e ∙ rw (outside owner lock (to-14 e), ← c .before .before .count-modified .ensures, le-leb 4 _ (c .if5 .taken)))
 
+cast-if6 : tie.Need-cast-if6
+cast-if6 c = search needs
+
 returns-6 : tie.Need-returns-6
 unfolding refusal testsOf
 returns-6 c = λ owner lock. let e = c .before in sym (passed-16 owner lock e ∙ rw (outside owner lock (to-14 (to-15 e)), ← e .before .count-held .ensures, le-leb 32 _ (c .if6 .taken)))
@@ -110,5 +113,6 @@ begin-refusal-spec =
     count-modified-requires
     count-held-requires
     returns-5
+    cast-if6
     returns-6
     returns-7)

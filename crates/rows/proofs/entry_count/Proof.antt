@@ -12,11 +12,6 @@ use Prim.Native.Nat.{_+_, _-_, _≤_}
 use borrow.Author.Needs.{needs}
 use Rattle.rows.proofs.entry_count.Statement.{statement}
 use Rattle.rows.proofs.entry_count.Tie as tie
-use Rattle.rows.proofs.entry_count.Reads as reads
-use Rattle.rows.proofs.entry_count.Lts as lts
-use Rattle.rows.proofs.key_in.Reads as key-in-reads
-use Rattle.rows.proofs.one.Reads as one-reads
-use Rattle.rows.proofs.words34.Reads as words34-reads
 
 abbrev Inv-loop : tie.InvT-loop
 Inv-loop row key c₀ i₀ c i = (i ≤ 32) × ((c ≤ i) × (c + count (isOf key) (drop i (logOf row)) ≡ count (isOf key) (logOf row)))
@@ -24,47 +19,36 @@ Inv-loop row key c₀ i₀ c i = (i ≤ 32) × ((c ≤ i) × (c + count (isOf ke
 abbrev μ-loop : tie.MeasureT-loop
 μ-loop row key c₀ i₀ c i = 32 - i
 
--- src/lib.rt:486:5
 words34-requires : tie.Need-words34-requires Inv-loop μ-loop
 words34-requires c κs = search needs
 
--- src/lib.rt:489:5
 loop-holds : tie.Need-loop-holds Inv-loop μ-loop
 loop-holds c = (search needs, (search needs, omega arith))
 
--- src/lib.rt:490:25
 mul-key-in : tie.Need-mul-key-in Inv-loop μ-loop
 mul-key-in c = search needs
 
--- src/lib.rt:490:25
 element-copy-out-key-in : tie.Need-element-copy-out-key-in Inv-loop μ-loop
 element-copy-out-key-in c = search needs
 
--- src/lib.rt:490:18
 key-in-requires : tie.Need-key-in-requires Inv-loop μ-loop
 key-in-requires c κs = search needs
 
--- src/lib.rt:490:14
 one-requires : tie.Need-one-requires Inv-loop μ-loop
 one-requires c κs = search needs
 
--- src/lib.rt:490:9
 add-c : tie.Need-add-c Inv-loop μ-loop
 add-c c = omega (arith, c .one .ensures, one-le (eqb (c .before .key-in .result) (c .before .before .before .before .before .before .args .key)))
 
--- src/lib.rt:491:9
 add-i : tie.Need-add-i Inv-loop μ-loop
 add-i c = search needs
 
--- src/lib.rt:489:5
 loop-less : tie.Need-loop-less Inv-loop μ-loop
 loop-less c = search needs
 
--- src/lib.rt:489:5
 loop-again : tie.Need-loop-again Inv-loop μ-loop
 loop-again c = let at = c .before .before .before .before in let s = at .before .before .args in let n = log-length (s .row .now) (at .before .words34 .ensures) in (search needs, (omega (arith, c .one .ensures, one-le (eqb (c .before .key-in .result) (s .key))), rw (c .one .ensures, c .before .key-in .ensures, ← log-at (s .row .now) (at .loop .i) (search needs)) (count-on (isOf (s .key)) (at .loop .i) (logOf (s .row .now)) noEntry (omega (arith, n)) (at .loop .c) ∙ at .loop .inv .1 .1)))
 
--- src/lib.rt:483:1
 returns : tie.Need-returns Inv-loop μ-loop
 unfolding threadOf
 returns c = let at = c .before in let s = at .before .before .args in let n = log-length (s .row .now) (at .before .words34 .ensures) in sym (count-end (isOf (s .key)) (at .loop .c) (at .loop .i) (logOf (s .row .now)) (omega (arith, n))) ∙ at .loop .inv .1 .1

@@ -4,55 +4,40 @@ use Rattle.rows.proofs.Laws.{entry-back}
 use borrow.Author.Needs.{needs}
 use Rattle.rows.proofs.entry_word.Statement.{statement}
 use Rattle.rows.proofs.entry_word.Tie as tie
-use Rattle.rows.proofs.entry_word.Reads as reads
-use Rattle.rows.proofs.entry_word.Lts as lts
-use Rattle.rows.proofs.flag.Reads as flag-reads
 
--- src/lib.rt:424:18
 flag-requires : tie.Need-flag-requires
 flag-requires c κs = search needs
 
--- src/lib.rt:424:18
 cast-high : tie.Need-cast-high
 cast-high c = search needs
 
--- src/lib.rt:424:17
 mul-high : tie.Need-mul-high
 mul-high c = search needs
 
--- src/lib.rt:424:54
 cast-high-2 : tie.Need-cast-high-2
 cast-high-2 c = search needs
 
--- src/lib.rt:424:17
 add-high : tie.Need-add-high
 add-high c = search needs
 
--- src/lib.rt:424:16
 mul-high-2 : tie.Need-mul-high-2
 mul-high-2 c = search needs
 
--- src/lib.rt:424:79
 cast-high-3 : tie.Need-cast-high-3
 cast-high-3 c = search needs
 
--- src/lib.rt:424:16
 add-high-2 : tie.Need-add-high-2
 add-high-2 c = search needs
 
--- src/lib.rt:425:5
 mul-result : tie.Need-mul-result
 mul-result c = omega (arith, c .before .before .flag .ensures .1)
 
--- src/lib.rt:425:26
 cast-result : tie.Need-cast-result
 cast-result c = search needs
 
--- src/lib.rt:425:5
 add-result : tie.Need-add-result
 add-result c = omega (arith, c .before .before .before .flag .ensures .1)
 
--- src/lib.rt:421:1
 returns : tie.Need-returns
 returns c = let e = c .before .before .before .before .args .e in rw (← c .before .before .before .flag .ensures .0) (entry-back (c .before .before .before .flag .result) (e .rank) (e .line) (e .key) (search needs) (search needs) (search needs))
 

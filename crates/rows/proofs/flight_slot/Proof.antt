@@ -11,10 +11,6 @@ use Rattle.lookup.proofs.Search.{place-end, place-hit, place-on}
 use borrow.Author.Needs.{needs}
 use Rattle.rows.proofs.flight_slot.Statement.{statement}
 use Rattle.rows.proofs.flight_slot.Tie as tie
-use Rattle.rows.proofs.flight_slot.Reads as reads
-use Rattle.rows.proofs.flight_slot.Lts as lts
-use Rattle.rows.proofs.carries_word.Reads as carries-word-reads
-use Rattle.rows.proofs.words16.Reads as words16-reads
 
 abbrev Inv-loop : tie.InvT-loop
 Inv-loop row l i₀ i = (i ≤ 8) × (i + place (carries l) (drop i (regionOf row .slots)) ≡ place (carries l) (regionOf row .slots))
@@ -22,47 +18,36 @@ Inv-loop row l i₀ i = (i ≤ 8) × (i + place (carries l) (drop i (regionOf ro
 abbrev μ-loop : tie.MeasureT-loop
 μ-loop row l i₀ i = 8 - i
 
--- src/lib.rt:405:5
 words16-requires : tie.Need-words16-requires Inv-loop μ-loop
 words16-requires c κs = search needs
 
--- src/lib.rt:407:9
 loop-holds : tie.Need-loop-holds Inv-loop μ-loop
 loop-holds c = (search needs, omega arith)
 
--- src/lib.rt:411:29
 add-carries-word : tie.Need-add-carries-word Inv-loop μ-loop
 add-carries-word c = search needs
 
--- src/lib.rt:411:25
 mul-carries-word : tie.Need-mul-carries-word Inv-loop μ-loop
 mul-carries-word c = search needs
 
--- src/lib.rt:411:25
 element-copy-out-carries-word : tie.Need-element-copy-out-carries-word Inv-loop μ-loop
 element-copy-out-carries-word c = search needs
 
--- src/lib.rt:411:12
 carries-word-requires : tie.Need-carries-word-requires Inv-loop μ-loop
 carries-word-requires c κs = search needs
 
--- src/lib.rt:414:9
 add-i : tie.Need-add-i Inv-loop μ-loop
 add-i c = search needs
 
--- src/lib.rt:407:9
 loop-less : tie.Need-loop-less Inv-loop μ-loop
 loop-less c = search needs
 
--- src/lib.rt:407:9
 loop-again : tie.Need-loop-again Inv-loop μ-loop
 loop-again c = let at = c .before .before .before .before in let s = at .before .before .args in let w = s .row .now in (search needs, place-on (carries (s .l)) (at .loop .i) (regionOf w .slots) noSlot (omega (arith, slots-length w)) (rw (slot-at w (at .loop .i) (at .before .words16 .ensures), ← c .before .carries-word .ensures) (c .if2 .left)) ∙ at .loop .inv .1)
 
--- src/lib.rt:402:1
 returns : tie.Need-returns Inv-loop μ-loop
 returns c = let at = c .before in let s = at .before .before .args in sym (place-end (carries (s .l)) (at .loop .i) (regionOf (s .row .now) .slots) (omega (arith, slots-length (s .row .now)))) ∙ at .loop .inv .1
 
--- src/lib.rt:402:1
 returns-2 : tie.Need-returns-2 Inv-loop μ-loop
 returns-2 c = let at = c .before .before .before .before in let s = at .before .before .args in let w = s .row .now in sym (place-hit (carries (s .l)) (at .loop .i) (regionOf w .slots) noSlot (omega (arith, slots-length w)) (rw (slot-at w (at .loop .i) (at .before .words16 .ensures), ← c .before .carries-word .ensures) (c .if2 .taken))) ∙ at .loop .inv .1
 

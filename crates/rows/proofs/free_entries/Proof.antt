@@ -9,10 +9,6 @@ use Prim.Native.Nat.{_+_, _-_, _≤_}
 use borrow.Author.Needs.{needs}
 use Rattle.rows.proofs.free_entries.Statement.{statement}
 use Rattle.rows.proofs.free_entries.Tie as tie
-use Rattle.rows.proofs.free_entries.Reads as reads
-use Rattle.rows.proofs.free_entries.Lts as lts
-use Rattle.rows.proofs.freed_word.Reads as freed-word-reads
-use Rattle.rows.proofs.words34.Reads as words34-reads
 
 abbrev Inv-loop : tie.InvT-loop
 Inv-loop row₀ k i₀ row i = (i ≤ 32) × ((length row ≡ 34) × (worked (freedEntry k) i row ≡ freed k (threadOf row₀)))
@@ -20,48 +16,37 @@ Inv-loop row₀ k i₀ row i = (i ≤ 32) × ((length row ≡ 34) × (worked (fr
 abbrev μ-loop : tie.MeasureT-loop
 μ-loop row₀ k i₀ row i = 32 - i
 
--- src/lib.rt:542:5
 words34-requires : tie.Need-words34-requires Inv-loop μ-loop
 words34-requires c κs = search needs
 
--- src/lib.rt:544:5
 loop-holds : tie.Need-loop-holds Inv-loop μ-loop
 unfolding freed
 loop-holds c = (search needs, (c .words34 .ensures, refl))
 
--- src/lib.rt:545:29
 mul-freed-word : tie.Need-mul-freed-word Inv-loop μ-loop
 mul-freed-word c = search needs
 
--- src/lib.rt:545:29
 element-copy-out-freed-word : tie.Need-element-copy-out-freed-word Inv-loop μ-loop
 element-copy-out-freed-word c = search needs
 
--- src/lib.rt:545:18
 freed-word-requires : tie.Need-freed-word-requires Inv-loop μ-loop
 freed-word-requires c κs = search needs
 
--- src/lib.rt:545:9
 mul-row : tie.Need-mul-row Inv-loop μ-loop
 mul-row c = search needs
 
--- src/lib.rt:545:9
 element-write-row : tie.Need-element-write-row Inv-loop μ-loop
 element-write-row c = search needs
 
--- src/lib.rt:546:9
 add-i : tie.Need-add-i Inv-loop μ-loop
 add-i c = search needs
 
--- src/lib.rt:544:5
 loop-less : tie.Need-loop-less Inv-loop μ-loop
 loop-less c = search needs
 
--- src/lib.rt:544:5
 loop-again : tie.Need-loop-again Inv-loop μ-loop
 loop-again c = let at = c .before .before .before in let s = at .before .before .before .args in (search needs, (simp length-set (at .loop .inv .1 .0), worked-more (freedEntry (s .k)) (at .loop .row) (at .loop .i) _ (search needs) (at .loop .inv .1 .0) (c .freed-word .ensures) ∙ at .loop .inv .1 .1))
 
--- src/lib.rt:539:1
 returns : tie.Need-returns Inv-loop μ-loop
 returns c = let at = c .before in let s = at .before .before .before .args in sym (worked-end (freedEntry (s .k)) (at .loop .row) (at .loop .i) (search needs) (at .loop .inv .1 .0)) ∙ at .loop .inv .1 .1
 

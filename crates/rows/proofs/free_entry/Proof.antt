@@ -12,10 +12,6 @@ use borrow.Author.Tests.{eq-eqb, ne-eqb}
 use borrow.Author.Needs.{needs}
 use Rattle.rows.proofs.free_entry.Statement.{statement}
 use Rattle.rows.proofs.free_entry.Tie as tie
-use Rattle.rows.proofs.free_entry.Reads as reads
-use Rattle.rows.proofs.free_entry.Lts as lts
-use Rattle.rows.proofs.key_in.Reads as key-in-reads
-use Rattle.rows.proofs.words34.Reads as words34-reads
 
 abbrev Inv-loop : tie.InvT-loop
 Inv-loop row i₀ i = (i ≤ 32) × (i + place (isOf 0) (drop i (logOf row)) ≡ place (isOf 0) (logOf row))
@@ -23,44 +19,34 @@ Inv-loop row i₀ i = (i ≤ 32) × (i + place (isOf 0) (drop i (logOf row)) ≡
 abbrev μ-loop : tie.MeasureT-loop
 μ-loop row i₀ i = 32 - i
 
--- src/lib.rt:468:5
 words34-requires : tie.Need-words34-requires Inv-loop μ-loop
 words34-requires c κs = search needs
 
--- src/lib.rt:470:9
 loop-holds : tie.Need-loop-holds Inv-loop μ-loop
 loop-holds c = (search needs, omega arith)
 
--- src/lib.rt:474:19
 mul-key-in : tie.Need-mul-key-in Inv-loop μ-loop
 mul-key-in c = search needs
 
--- src/lib.rt:474:19
 element-copy-out-key-in : tie.Need-element-copy-out-key-in Inv-loop μ-loop
 element-copy-out-key-in c = search needs
 
--- src/lib.rt:474:12
 key-in-requires : tie.Need-key-in-requires Inv-loop μ-loop
 key-in-requires c κs = search needs
 
--- src/lib.rt:477:9
 add-i : tie.Need-add-i Inv-loop μ-loop
 add-i c = search needs
 
--- src/lib.rt:470:9
 loop-less : tie.Need-loop-less Inv-loop μ-loop
 loop-less c = search needs
 
--- src/lib.rt:470:9
 loop-again : tie.Need-loop-again Inv-loop μ-loop
 loop-again c = let at = c .before .before .before .before in let s = at .before .before .args in let n = log-length (s .row .now) (at .before .words34 .ensures) in (search needs, place-on (isOf 0) (at .loop .i) (logOf (s .row .now)) noEntry (omega (arith, n)) (rw (log-at (s .row .now) (at .loop .i) (search needs), ← c .before .key-in .ensures) (ne-eqb _ _ (c .if2 .left))) ∙ at .loop .inv .1)
 
--- src/lib.rt:465:1
 returns : tie.Need-returns Inv-loop μ-loop
 unfolding threadOf
 returns c = let at = c .before in let s = at .before .before .args in let n = log-length (s .row .now) (at .before .words34 .ensures) in sym (place-end (isOf 0) (at .loop .i) (logOf (s .row .now)) (omega (arith, n))) ∙ at .loop .inv .1
 
--- src/lib.rt:465:1
 returns-2 : tie.Need-returns-2 Inv-loop μ-loop
 unfolding threadOf
 returns-2 c = let at = c .before .before .before .before in let s = at .before .before .args in let n = log-length (s .row .now) (at .before .words34 .ensures) in sym (place-hit (isOf 0) (at .loop .i) (logOf (s .row .now)) noEntry (omega (arith, n)) (rw (log-at (s .row .now) (at .loop .i) (search needs), ← c .before .key-in .ensures) (eq-eqb _ _ (c .if2 .taken)))) ∙ at .loop .inv .1

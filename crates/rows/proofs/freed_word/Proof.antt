@@ -3,19 +3,13 @@ use borrow.Author.Tests.{eq-eqb, ne-eqb}
 use borrow.Author.Needs.{needs}
 use Rattle.rows.proofs.freed_word.Statement.{statement}
 use Rattle.rows.proofs.freed_word.Tie as tie
-use Rattle.rows.proofs.freed_word.Reads as reads
-use Rattle.rows.proofs.freed_word.Lts as lts
-use Rattle.rows.proofs.key_in.Reads as key-in-reads
 
--- src/lib.rt:535:8
 key-in-requires : tie.Need-key-in-requires
 key-in-requires c κs = search needs
 
--- src/lib.rt:532:1
 returns : tie.Need-returns
 returns c = rw (← c .before .key-in .ensures, eq-eqb _ _ (c .if1 .taken), no-entry)
 
--- src/lib.rt:532:1
 returns-2 : tie.Need-returns-2
 returns-2 c = rw (← c .before .key-in .ensures, ne-eqb _ _ (c .if1 .left))
 

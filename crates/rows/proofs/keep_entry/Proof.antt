@@ -9,10 +9,6 @@ use Prim.Native.Nat.{_+_, _-_, _≤_}
 use borrow.Author.Needs.{needs}
 use Rattle.rows.proofs.keep_entry.Statement.{statement}
 use Rattle.rows.proofs.keep_entry.Tie as tie
-use Rattle.rows.proofs.keep_entry.Reads as reads
-use Rattle.rows.proofs.keep_entry.Lts as lts
-use Rattle.rows.proofs.kept_word.Reads as kept-word-reads
-use Rattle.rows.proofs.words34.Reads as words34-reads
 
 abbrev Inv-loop : tie.InvT-loop
 Inv-loop row₀ k l i₀ row i = (i ≤ 32) × ((length row ≡ 34) × (worked (keptEntry k l) i row ≡ kept k l (threadOf row₀)))
@@ -20,48 +16,37 @@ Inv-loop row₀ k l i₀ row i = (i ≤ 32) × ((length row ≡ 34) × (worked (
 abbrev μ-loop : tie.MeasureT-loop
 μ-loop row₀ k l i₀ row i = 32 - i
 
--- src/lib.rt:524:5
 words34-requires : tie.Need-words34-requires Inv-loop μ-loop
 words34-requires c κs = search needs
 
--- src/lib.rt:526:5
 loop-holds : tie.Need-loop-holds Inv-loop μ-loop
 unfolding kept
 loop-holds c = (search needs, (c .words34 .ensures, refl))
 
--- src/lib.rt:527:28
 mul-kept-word : tie.Need-mul-kept-word Inv-loop μ-loop
 mul-kept-word c = search needs
 
--- src/lib.rt:527:28
 element-copy-out-kept-word : tie.Need-element-copy-out-kept-word Inv-loop μ-loop
 element-copy-out-kept-word c = search needs
 
--- src/lib.rt:527:18
 kept-word-requires : tie.Need-kept-word-requires Inv-loop μ-loop
 kept-word-requires c κs = search needs
 
--- src/lib.rt:527:9
 mul-row : tie.Need-mul-row Inv-loop μ-loop
 mul-row c = search needs
 
--- src/lib.rt:527:9
 element-write-row : tie.Need-element-write-row Inv-loop μ-loop
 element-write-row c = search needs
 
--- src/lib.rt:528:9
 add-i : tie.Need-add-i Inv-loop μ-loop
 add-i c = search needs
 
--- src/lib.rt:526:5
 loop-less : tie.Need-loop-less Inv-loop μ-loop
 loop-less c = search needs
 
--- src/lib.rt:526:5
 loop-again : tie.Need-loop-again Inv-loop μ-loop
 loop-again c = let at = c .before .before .before in let s = at .before .before .before .args in (search needs, (simp length-set (at .loop .inv .1 .0), worked-more (keptEntry (s .k) (s .l)) (at .loop .row) (at .loop .i) _ (search needs) (at .loop .inv .1 .0) (c .kept-word .ensures) ∙ at .loop .inv .1 .1))
 
--- src/lib.rt:521:1
 returns : tie.Need-returns Inv-loop μ-loop
 returns c = let at = c .before in let s = at .before .before .before .args in sym (worked-end (keptEntry (s .k) (s .l)) (at .loop .row) (at .loop .i) (search needs) (at .loop .inv .1 .0)) ∙ at .loop .inv .1 .1
 

@@ -2,14 +2,10 @@ use Rattle.rows.specs.Row.{entryOf}
 use borrow.Author.Needs.{needs}
 use Rattle.rows.proofs.key_in.Statement.{statement}
 use Rattle.rows.proofs.key_in.Tie as tie
-use Rattle.rows.proofs.key_in.Reads as reads
-use Rattle.rows.proofs.key_in.Lts as lts
 
--- src/lib.rt:401:5
 cast-result : tie.Need-cast-result
 cast-result c = search needs
 
--- src/lib.rt:398:1
 returns : tie.Need-returns
 unfolding entryOf
 returns c = search needs

@@ -10,37 +10,26 @@ use Rattle.rows.proofs.Laws.{emptied, slots-length}
 use borrow.Author.Needs.{needs}
 use Rattle.rows.proofs.land.Statement.{statement}
 use Rattle.rows.proofs.land.Tie as tie
-use Rattle.rows.proofs.land.Reads as reads
-use Rattle.rows.proofs.land.Lts as lts
-use Rattle.rows.proofs.flight_slot.Reads as flight-slot-reads
-use Rattle.rows.proofs.words16.Reads as words16-reads
 
--- src/lib.rt:423:5
 words16-requires : tie.Need-words16-requires
 words16-requires c κs = search needs
 
--- src/lib.rt:424:9
 flight-slot-requires : tie.Need-flight-slot-requires
 flight-slot-requires c κs = search needs
 
--- src/lib.rt:426:13
 add-row : tie.Need-add-row
 add-row c = search needs
 
--- src/lib.rt:426:9
 mul-row : tie.Need-mul-row
 mul-row c = search needs
 
--- src/lib.rt:426:9
 element-write-row : tie.Need-element-write-row
 element-write-row c = search needs
 
--- src/lib.rt:420:1
 returns : tie.Need-returns
 unfolding landed
 returns c = let s = c .before .before .before .before .before .args in let w = s .row .now in let f = c .before .flight-slot in rw (← f .ensures) (emptied w (f .result) (c .before .before .before .words16 .ensures))
 
--- src/lib.rt:420:1
 returns-2 : tie.Need-returns-2
 unfolding landed
 returns-2 c = let s = c .before .before .before .before .before .args in let w = s .row .now in let f = c .before .flight-slot in sym (ap (λ ss. withSlots ss (regionOf w)) (set-out (regionOf w .slots) (place (carries (s .l)) (regionOf w .slots)) noSlot (omega (arith, f .ensures, c .if1 .left, slots-length w))))

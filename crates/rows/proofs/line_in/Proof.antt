@@ -2,14 +2,10 @@ use Rattle.rows.specs.Row.{entryOf}
 use borrow.Author.Needs.{needs}
 use Rattle.rows.proofs.line_in.Statement.{statement}
 use Rattle.rows.proofs.line_in.Tie as tie
-use Rattle.rows.proofs.line_in.Reads as reads
-use Rattle.rows.proofs.line_in.Lts as lts
 
--- src/lib.rt:407:5
 cast-result : tie.Need-cast-result
 cast-result c = search needs
 
--- src/lib.rt:404:1
 returns : tie.Need-returns
 unfolding entryOf
 returns c = search needs

@@ -2,10 +2,7 @@ use Rattle.rows.proofs.Laws.{or-false}
 use borrow.Author.Needs.{needs}
 use Rattle.rows.proofs.one_of.Statement.{statement}
 use Rattle.rows.proofs.one_of.Tie as tie
-use Rattle.rows.proofs.one_of.Reads as reads
-use Rattle.rows.proofs.one_of.Lts as lts
 
--- src/lib.rt:328:1
 returns : tie.Need-returns
 returns c = rw (or-false (c .args .h))
 

@@ -5,32 +5,22 @@ use Rattle.rows.specs.Row.{threadOf}
 use borrow.Author.Needs.{needs}
 use Rattle.rows.proofs.put_entry.Statement.{statement}
 use Rattle.rows.proofs.put_entry.Tie as tie
-use Rattle.rows.proofs.put_entry.Reads as reads
-use Rattle.rows.proofs.put_entry.Lts as lts
-use Rattle.rows.proofs.entry_word.Reads as entry-word-reads
-use Rattle.rows.proofs.words34.Reads as words34-reads
 
--- src/lib.rt:500:5
 words34-requires : tie.Need-words34-requires
 words34-requires c κs = search needs
 
--- src/lib.rt:502:18
 entry-word-requires : tie.Need-entry-word-requires
 entry-word-requires c κs = search needs
 
--- src/lib.rt:502:9
 mul-row : tie.Need-mul-row
 mul-row c = search needs
 
--- src/lib.rt:502:9
 element-write-row : tie.Need-element-write-row
 element-write-row c = search needs
 
--- src/lib.rt:497:1
 returns : tie.Need-returns
 returns c = let s = c .before .before .before .before .args in rw (entry-stored (s .row .now) (s .i) (c .entry-word .result) (search needs), c .entry-word .ensures)
 
--- src/lib.rt:497:1
 returns-2 : tie.Need-returns-2
 unfolding threadOf
 returns-2 c = let s = c .before .before .before .args in rw (set-out (threadOf (s .row .now) .log) (s .i) (s .e) (rw (log-length (s .row .now) (c .before .words34 .ensures)) (search needs)))

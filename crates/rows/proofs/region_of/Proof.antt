@@ -2,107 +2,79 @@ use Rattle.rows.specs.Row.{regionOf}
 use borrow.Author.Needs.{needs}
 use Rattle.rows.proofs.region_of.Statement.{statement}
 use Rattle.rows.proofs.region_of.Tie as tie
-use Rattle.rows.proofs.region_of.Reads as reads
-use Rattle.rows.proofs.region_of.Lts as lts
-use Rattle.rows.proofs.slot_of.Reads as slot-of-reads
 
--- src/lib.rt:76:22
 array-read-slot-of : tie.Need-array-read-slot-of
 array-read-slot-of c = search needs
 
--- src/lib.rt:76:9
 slot-of-requires : tie.Need-slot-of-requires
 slot-of-requires c κs = search needs
 
--- src/lib.rt:77:22
 array-read-slot-of-2 : tie.Need-array-read-slot-of-2
 array-read-slot-of-2 c = search needs
 
--- src/lib.rt:77:9
 slot-of-requires-2 : tie.Need-slot-of-requires-2
 slot-of-requires-2 c κs = search needs
 
--- src/lib.rt:78:22
 array-read-slot-of-3 : tie.Need-array-read-slot-of-3
 array-read-slot-of-3 c = search needs
 
--- src/lib.rt:78:9
 slot-of-requires-3 : tie.Need-slot-of-requires-3
 slot-of-requires-3 c κs = search needs
 
--- src/lib.rt:79:22
 array-read-slot-of-4 : tie.Need-array-read-slot-of-4
 array-read-slot-of-4 c = search needs
 
--- src/lib.rt:79:9
 slot-of-requires-4 : tie.Need-slot-of-requires-4
 slot-of-requires-4 c κs = search needs
 
--- src/lib.rt:80:22
 array-read-slot-of-5 : tie.Need-array-read-slot-of-5
 array-read-slot-of-5 c = search needs
 
--- src/lib.rt:80:9
 slot-of-requires-5 : tie.Need-slot-of-requires-5
 slot-of-requires-5 c κs = search needs
 
--- src/lib.rt:81:22
 array-read-slot-of-6 : tie.Need-array-read-slot-of-6
 array-read-slot-of-6 c = search needs
 
--- src/lib.rt:81:9
 slot-of-requires-6 : tie.Need-slot-of-requires-6
 slot-of-requires-6 c κs = search needs
 
--- src/lib.rt:82:22
 array-read-slot-of-7 : tie.Need-array-read-slot-of-7
 array-read-slot-of-7 c = search needs
 
--- src/lib.rt:82:9
 slot-of-requires-7 : tie.Need-slot-of-requires-7
 slot-of-requires-7 c κs = search needs
 
--- src/lib.rt:83:22
 array-read-slot-of-8 : tie.Need-array-read-slot-of-8
 array-read-slot-of-8 c = search needs
 
--- src/lib.rt:83:9
 slot-of-requires-8 : tie.Need-slot-of-requires-8
 slot-of-requires-8 c κs = search needs
 
--- src/lib.rt:85:14
 array-read-t13 : tie.Need-array-read-t13
 array-read-t13 c = search needs
 
--- src/lib.rt:86:16
 array-read-t32 : tie.Need-array-read-t32
 array-read-t32 c = search needs
 
--- src/lib.rt:87:15
 array-read-t36 : tie.Need-array-read-t36
 array-read-t36 c = search needs
 
--- src/lib.rt:88:16
 array-read-t40 : tie.Need-array-read-t40
 array-read-t40 c = search needs
 
--- src/lib.rt:89:16
 array-read-t43 : tie.Need-array-read-t43
 array-read-t43 c = search needs
 
--- src/lib.rt:89:22
 array-read-t46 : tie.Need-array-read-t46
 array-read-t46 c = search needs
 
--- src/lib.rt:89:28
 array-read-t49 : tie.Need-array-read-t49
 array-read-t49 c = search needs
 
--- src/lib.rt:89:34
 array-read-t52 : tie.Need-array-read-t52
 array-read-t52 c = search needs
 
--- src/lib.rt:73:1
 returns : tie.Need-returns
 unfolding regionOf
 returns c = simp (c .slot-of8 .ensures, c .before .slot-of7 .ensures, c .before .before .slot-of6 .ensures, c .before .before .before .slot-of5 .ensures, c .before .before .before .before .slot-of4 .ensures, c .before .before .before .before .before .slot-of3 .ensures, c .before .before .before .before .before .before .slot-of2 .ensures, c .before .before .before .before .before .before .before .slot-of .ensures)

@@ -3,38 +3,28 @@ use Rattle.rows.proofs.Laws.{waits}
 use borrow.Author.Needs.{needs}
 use Rattle.rows.proofs.state_word.Statement.{statement}
 use Rattle.rows.proofs.state_word.Tie as tie
-use Rattle.rows.proofs.state_word.Reads as reads
-use Rattle.rows.proofs.state_word.Lts as lts
 
--- src/lib.rt:58:29
 enum-told : tie.Need-enum-told
 enum-told c = search needs
 
--- src/lib.rt:59:28
 enum-known-state : tie.Need-enum-known-state
 enum-known-state c = search needs
 
--- src/lib.rt:59:41
 cast-result : tie.Need-cast-result
 cast-result c = search needs
 
--- src/lib.rt:59:34
 add-result : tie.Need-add-result
 add-result c = search needs
 
--- src/lib.rt:60:32
 enum-told-2 : tie.Need-enum-told-2
 enum-told-2 c = search needs
 
--- src/lib.rt:53:1
 returns : tie.Need-returns
 returns c = search needs
 
--- src/lib.rt:53:1
 returns-2 : tie.Need-returns-2
 returns-2 c = (waits _ (search needs) ∙ sym (c .before .state .given .1), search needs)
 
--- src/lib.rt:53:1
 returns-3 : tie.Need-returns-3
 returns-3 c = search needs
 

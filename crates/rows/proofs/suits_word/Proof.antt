@@ -2,10 +2,7 @@ use Rattle.rows.proofs.Laws.{suits-word}
 use borrow.Author.Needs.{needs}
 use Rattle.rows.proofs.suits_word.Statement.{statement}
 use Rattle.rows.proofs.suits_word.Tie as tie
-use Rattle.rows.proofs.suits_word.Reads as reads
-use Rattle.rows.proofs.suits_word.Lts as lts
 
--- src/lib.rt:441:1
 returns : tie.Need-returns
 returns c = suits-word (c .args .n) (c .args .l) (search needs)
 

@@ -1,24 +1,16 @@
 use borrow.Author.Needs.{needs}
 use Rattle.slots.proofs.carry.Statement.{statement}
 use Rattle.slots.proofs.carry.Tie as tie
-use Rattle.slots.proofs.carry.Reads as reads
-use Rattle.slots.proofs.carry.Lts as lts
-use Rattle.lines.proofs.line_of.Reads as line-of-reads
-use Rattle.lines.proofs.set_line.Reads as set-line-reads
 
--- src/lib.rt:164:13
 line-of-requires : tie.Need-line-of-requires
 line-of-requires c κs = search needs
 
--- src/lib.rt:165:9
 set-line-requires : tie.Need-set-line-requires
 set-line-requires c κs = search needs
 
--- src/lib.rt:160:1
 returns : tie.Need-returns
 returns c = rw (c .set-line .ensures, c .before .before .line-of .ensures, c .before .before .before .if1 .taken)
 
--- src/lib.rt:160:1
 returns-2 : tie.Need-returns-2
 returns-2 c = search needs
 

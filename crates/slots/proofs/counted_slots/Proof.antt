@@ -6,7 +6,7 @@ use mathlib.Core.List.{map}
 use lib.ListN.{length, length-set}
 use borrow.Author.Needs.{needs}
 use Rattle.rules.specs.Slots.{countedSlot}
-use Rattle.slots.proofs.Walk.{map-end, map-more, mapped}
+use Rattle.lookup.proofs.Map.{map-end, map-more, mapped}
 
 abbrev Inv-loop : tie.InvT-loop
 Inv-loop q₀ i₀ q i = (i ≤ 8) × ((length q ≡ 8) × (mapped countedSlot i q ≡ map countedSlot q₀))

@@ -6,7 +6,7 @@ use mathlib.Core.List.{map}
 use lib.ListN.{length, length-set}
 use borrow.Author.Needs.{needs}
 use Rattle.rules.specs.Acknowledge.{droppedSlot}
-use Rattle.slots.proofs.Walk.{map-end, map-more, mapped}
+use Rattle.lookup.proofs.Map.{map-end, map-more, mapped}
 
 abbrev Inv-loop : tie.InvT-loop
 Inv-loop l q₀ i₀ q i = (i ≤ 8) × ((length q ≡ 8) × (mapped (droppedSlot l) i q ≡ map (droppedSlot l) q₀))

@@ -6,7 +6,7 @@ use lib.ListN.{drop, length, length-set}
 use borrow.Author.Needs.{needs}
 use Rattle.rules.specs.Slots.{carried, flownSlot, flownSlots}
 use Rattle.slots.proofs.Laws.{carried-end, carried-more}
-use Rattle.slots.proofs.Walk.{map-end, map-more, mapped}
+use Rattle.lookup.proofs.Map.{map-end, map-more, mapped}
 
 abbrev Inv-loop : tie.InvT-loop
 Inv-loop ended lock cur car₀ q₀ i₀ car q i = (i ≤ 8) × ((length q ≡ 8) × ((mapped (flownSlot lock ended) i q ≡ flownSlots lock ended q₀) × (carried lock ended (drop i q) cur car ≡ carried lock ended q₀ cur car₀)))

@@ -3,10 +3,7 @@ use Rattle.rows.specs.Row.{entryOf, regionOf, threadOf}
 use borrow.Author.Needs.{needs}
 use Rattle.starting.proofs.fresh_head.Statement.{statement}
 use Rattle.starting.proofs.fresh_head.Tie as tie
-use Rattle.starting.proofs.fresh_head.Reads as reads
-use Rattle.starting.proofs.fresh_head.Lts as lts
 
--- src/lib.rt:11:1
 returns : tie.Need-returns
 unfolding entryOf regionOf threadOf
 returns c = refl

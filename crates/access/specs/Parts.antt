@@ -1,0 +1,27 @@
+-- The parts of the board that are lent to a write, to its logging and to a read: a rule on them, whatever the rest of the board is.
+use Prim.Native.Nat.{ℕ}
+use mathlib.Core.Path.{_≡_}
+use mathlib.Core.Bool.{Bool}
+use mathlib.Core.List.{List}
+use Rattle.measures.specs.Loan.{Loan, Rows, left, was}
+use Rattle.rules.specs.Tables.{Board}
+use Rattle.rules.specs.declared.Tables.{Tables}
+use Rattle.rows.specs.Whole.{boardOf, tablesOf}
+use Rattle.rows.specs.declared.Head.{Head}
+
+abbrev pub OnLog : (Board → Board) → Loan Rows → Loan (List ℕ) → Loan (List Bool) → Loan Rows → Loan Rows → Type 0
+OnLog f threads owner lock cur old =
+    (h : Head) (regions med car : Rows)
+    → boardOf h (left threads) regions (left owner) (left lock) (left cur) med (left old) car
+    ≡ f (boardOf h (was threads) regions (was owner) (was lock) (was cur) med (was old) car)
+
+abbrev pub OnWrite : (Board → Board) → Loan Rows → Loan Rows → Loan (List ℕ) → Loan (List Bool) → Loan Rows → Loan Rows → Loan Rows → Type 0
+OnWrite f threads regions owner lock cur old car =
+    (h : Head) (med : Rows)
+    → boardOf h (left threads) (left regions) (left owner) (left lock) (left cur) med (left old) (left car)
+    ≡ f (boardOf h (was threads) (was regions) (was owner) (was lock) (was cur) med (was old) (was car))
+
+abbrev pub OnRead : (Tables → Tables) → Loan Rows → Loan (List ℕ) → Type 0
+OnRead f regions owner =
+    (h : Head) (threads : Rows) (lock : List Bool)
+    → tablesOf h threads (left regions) (left owner) lock ≡ f (tablesOf h threads (was regions) (was owner) lock)

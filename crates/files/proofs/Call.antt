@@ -1,0 +1,60 @@
+-- The call that runs an event file: a buffer that is too short, and one that holds the answers.
+use Prim.Native.Nat.{_*_, _/_, _<_, _≤_, ℕ}
+use mathlib.Core.Path.{_∙_, _≡_, ap}
+use mathlib.Core.List.{List}
+use mathlib.Core.Bool.{Bool, false}
+use lib.ListN.{length, replicate}
+use native.Mathlib.Omega.{arith}
+use borrow.Author.Tests.{le-leb, lt-leb}
+use lib.Seq.{sets}
+use Rattle.files.proofs.Records.{answers-long, bytes-long}
+use Rattle.lines.proofs.Paste.{sets-paste}
+use Rattle.rules.specs.Record.{recordsOf}
+use Rattle.rules.specs.Run.{Wrote, answersBytes, eventsCall, runFile, wroteInto}
+use Rattle.rules.specs.Image.{imageCall, save}
+use Rattle.rules.specs.Tables.{Board, Lent, fresh, freshTables, startLines}
+use Rattle.rows.specs.Whole.{boardOf, tablesOf}
+use Rattle.rows.specs.declared.Head.{Head}
+use Rattle.files.specs.Parts.{walked}
+use Rattle.files.proofs.Walked.{walked-all}
+
+module _ (file memory d : List ℕ) where
+  -- one answer for each record
+  count : length (runFile (Lent memory) file .answers) ≡ length (recordsOf file)
+  count = answers-long (fresh (Lent memory)) (recordsOf file)
+
+  long : length (answersBytes (runFile (Lent memory) file .answers)) ≡ 9 * length (recordsOf file)
+  long = bytes-long (runFile (Lent memory) file .answers) ∙ ap (λ (n : ℕ). 9 * n) count
+
+  pub call-refused : length d / 9 < length (recordsOf file)
+      → _≡_ {A = Wrote} (record { answer = record { refusal = 6; value = 0 }; buffer = d }) (eventsCall file memory d)
+  unfolding eventsCall wroteInto
+  call-refused h = rw (lt-leb (length (answersBytes (runFile (Lent memory) file .answers))) (length d) (omega (arith, long)))
+
+  pub call-accepted : length (recordsOf file) ≤ length d / 9
+      → _≡_ {A = Wrote}
+      (record { answer = record { refusal = 0; value = length (recordsOf file) }; buffer = sets d 0 (answersBytes (runFile (Lent memory) file .answers)) })
+      (eventsCall file memory d)
+  unfolding eventsCall wroteInto
+  call-accepted h =
+      rw (le-leb (length (answersBytes (runFile (Lent memory) file .answers))) (length d) (omega (arith, long)), sets-paste d 0 (answersBytes (runFile (Lent memory) file .answers)) (omega (arith, long)), count)
+
+-- rows of zeros over lent memory are the board before setup
+pub started : (m : List ℕ) (h : Head) (threads regions : List (List ℕ)) (owner : List ℕ) (lock : List Bool) (cur med : List (List ℕ))
+    → tablesOf h threads regions owner lock ≡ freshTables false (length m)
+    → cur ≡ startLines (Lent m)
+    → med ≡ startLines (Lent m)
+    → boardOf h threads regions owner lock cur med (replicate 256 (replicate 8 0)) (replicate 256 (replicate 8 0)) ≡ fresh (Lent m)
+unfolding fresh
+started m h threads regions owner lock cur med e f g =
+    λ i. record { tables = e i; cur = f i; med = g i; old = replicate 256 (replicate 8 0); car = replicate 256 (replicate 8 0) }
+
+-- what the run of all records leaves
+module _ (file memory : List ℕ) (n : ℕ) (b : Board) (en : n ≡ length (recordsOf file)) (eb : b ≡ fresh (Lent memory)) where
+  pub answered : (d x : List ℕ) → x ≡ sets d 0 (answersBytes (walked n b file .answers)) → length (recordsOf file) ≤ length d / 9
+      → _≡_ {A = Wrote} (record { answer = record { refusal = 0; value = n }; buffer = x }) (eventsCall file memory d)
+  answered d x ex h = rw (ex, en, eb, walked-all (fresh (Lent memory)) file) (call-accepted file memory d h)
+
+  pub imaged : (b₁ : Board) (d : List ℕ) (s : Wrote) → b₁ ≡ walked n b file .board → s ≡ save b₁ d → s ≡ imageCall file memory d
+  unfolding imageCall
+  imaged b₁ d s e₁ es = rw (es, e₁, en, eb, walked-all (fresh (Lent memory)) file)

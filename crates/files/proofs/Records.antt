@@ -1,0 +1,115 @@
+-- The records of a file one by one, and the answers of its run.
+use Prim.Native.Nat.{_*_, _+_, _<_, _≤_, suc, zero, ℕ}
+use mathlib.Core.Path.{_≡_, ap, refl}
+use mathlib.Core.List.{List, [], _∷_}
+use lib.Dec.{ltb}
+use lib.ListN.{drop, getD, length, length-append, length-drop}
+use native.Mathlib.Omega.{arith}
+use borrow.Author.Tests.{ltb-false}
+use lib.Seq.{drop-drop, drop-length}
+use Rattle.rules.specs.Step.{step}
+use Rattle.files.specs.Parts.{sizeOf}
+use Rattle.lines.proofs.Words.{length-bytes}
+use Rattle.rules.specs.Lists.{flat}
+use Rattle.rules.specs.Record.{bodyLength, isWhole, readRecord, recordsFrom}
+use Rattle.rules.specs.Run.{answerBytes, answersBytes, run}
+use Rattle.rules.specs.Tables.{Board}
+use Rattle.rules.specs.declared.Answer.{Answer}
+use Rattle.rules.specs.declared.Event.{Event}
+use Rattle.rules.specs.declared.Reading.{Reading}
+use Rattle.rules.specs.declared.Reading.the-variants.{Refused, Whole}
+use Rattle.undo.proofs.Laws.{test}
+
+-- bytes that are still to pass are dropped
+skip : (k : ℕ) (bs : List ℕ) → recordsFrom k bs ≡ recordsFrom 0 (drop k bs)
+unfolding recordsFrom
+skip zero bs = refl
+skip (suc k) [] = refl
+skip (suc k) (b ∷ bs) = skip k bs
+
+pub records-none : (bs : List ℕ) → length bs ≡ 0 → recordsFrom 0 bs ≡ []
+unfolding recordsFrom
+records-none [] e = refl
+records-none (b ∷ bs) e = absurd (omega arith)
+
+-- the record at the front, and those behind it
+pub records-more : (bs : List ℕ) → 0 < length bs → recordsFrom 0 bs ≡ bs ∷ recordsFrom 0 (drop (sizeOf bs) bs)
+unfolding recordsFrom sizeOf
+records-more [] h = absurd (omega arith)
+records-more (b ∷ bs) h =
+    test (isWhole (readRecord (b ∷ bs)))
+    (λ w. rw (w, skip (bodyLength b) bs))
+    (λ w. rw (w, drop-length bs))
+
+-- a whole record lies in its file
+whole-fits : (bs : List ℕ) (e : Event) → readRecord bs ≡ Whole e → suc (bodyLength (getD bs 0 0)) ≤ length bs
+unfolding readRecord
+whole-fits [] e w = let z : _≡_ {A = ℕ} 0 1 = cc in absurd (omega arith)
+whole-fits (b ∷ bs) e w =
+    test (ltb 8 b)
+    (λ a. let z : Refused 2 ≡ Whole e = rw a at w in let y : _≡_ {A = ℕ} 0 1 = cc in absurd (omega arith))
+    (λ a. test (ltb (length bs) (bodyLength b))
+    (λ s. let z : Refused 1 ≡ Whole e = rw (a, s) at w in let y : _≡_ {A = ℕ} 0 1 = cc in absurd (omega arith))
+    (λ s. omega (arith, ltb-false (length bs) (bodyLength b) s)))
+
+module _ (bs : List ℕ) where
+  pub size-whole : (e : Event) → readRecord bs ≡ Whole e → (sizeOf bs ≡ suc (bodyLength (getD bs 0 0))) × (suc (bodyLength (getD bs 0 0)) ≤ length bs)
+  unfolding sizeOf
+  size-whole e w = (rw w, whole-fits bs e w)
+
+  pub size-last : (n : ℕ) → readRecord bs ≡ Refused n → sizeOf bs ≡ length bs
+  unfolding sizeOf
+  size-last n w = rw w
+
+  -- a record lies in its file, and takes a byte at least
+  pub size-inside : sizeOf bs ≤ length bs
+  size-inside = go (readRecord bs) refl
+    where
+      go : (r : Reading) → readRecord bs ≡ r → sizeOf bs ≤ length bs
+      go (Refused n) w = omega (arith, size-last n w)
+      go (Whole e) w = omega (arith, size-whole e w .0, size-whole e w .1)
+
+  size-some : 0 < length bs → 0 < sizeOf bs
+  size-some h = go (readRecord bs) refl
+    where
+      go : (r : Reading) → readRecord bs ≡ r → 0 < sizeOf bs
+      go (Refused n) w = omega (arith, size-last n w)
+      go (Whole e) w = omega (arith, size-whole e w .0)
+
+-- ---- the run of a file
+
+pub answers-long : (b : Board) (rs : List (List ℕ)) → length (run b rs .answers) ≡ length rs
+unfolding run
+answers-long b [] = refl
+answers-long b (r ∷ rs) = ap suc (answers-long (step b r .board) rs)
+
+pub answer-long : (a : Answer) → length (answerBytes a) ≡ 9
+answer-long a = ap suc (length-bytes 8 (a .value))
+
+pub bytes-long : (as′ : List Answer) → length (answersBytes as′) ≡ 9 * length as′
+unfolding answersBytes flat
+bytes-long [] = refl
+bytes-long (a ∷ as′) = rw (length-append (answerBytes a) (answersBytes as′), bytes-long as′, answer-long a) (omega arith)
+
+-- the rest of a file behind its last record
+pub file-end : (file : List ℕ) (at : ℕ) → length file ≤ at → recordsFrom 0 (drop at file) ≡ []
+file-end file at h = records-none (drop at file) (rw (length-drop at file) (omega arith))
+
+module _ (file : List ℕ) (at : ℕ) (h : at < length file) where
+  abbrev pub front : List ℕ
+  front = drop at file
+
+  abbrev pub behind : List (List ℕ)
+  behind = recordsFrom 0 (drop (at + sizeOf front) file)
+
+  some : 0 < length front
+  some = rw (length-drop at file) (omega arith)
+
+  pub front-fits : (0 < sizeOf front) × (at + sizeOf front ≤ length file)
+  front-fits = (size-some front some, omega (arith, size-inside front, length-drop at file))
+
+  pub file-more : recordsFrom 0 front ≡ front ∷ behind
+  file-more = rw (← drop-drop (sizeOf front) at file) (records-more front some)
+
+  pub count-more : length (recordsFrom 0 front) ≡ suc (length behind)
+  count-more = ap length file-more

@@ -1,0 +1,58 @@
+// The measures of document 01 as constants, and the types of what is lent to the board's functions. A type or a bound that names one is checked as its number.
+
+// "Threads T: 1 to 8. Lines L: 1 to 256. A line is eight words of 8 bytes"
+pub const MOST_THREADS: usize = 8;
+
+pub const MOST_LINES: usize = 256;
+
+pub const LINE_WORDS: usize = 8;
+
+pub const LINE_BYTES: usize = 8 * LINE_WORDS;
+
+// "Per thread: 4 regions in the modified list, 32 log entries, nesting depth 15, region numbers 1 to 65,535"
+pub const MOST_MODIFIED: u8 = 4;
+
+pub const MOST_ENTRIES: usize = 32;
+
+pub const MOST_DEPTH: u8 = 15;
+
+pub const MOST_NUMBER: u16 = 65535;
+
+// A region's key is NUMBERS * thread + number.
+pub const NUMBERS: u32 = 65536;
+
+// "Per region: 8 line slots, 4 dependences"
+pub const MOST_SLOTS: usize = 8;
+
+pub const MOST_DEPS: usize = 4;
+
+// "Dependence list: 32 entries shared by all threads"
+pub const MOST_REGIONS: usize = 32;
+
+// "A waiting slot flies when its line is unlocked and its count is 4"
+pub const RIPE_COUNT: u8 = 4;
+
+// ---- what is lent
+
+// A region as a row of numbers: key, ended, done, stamp, its dependences, its slots from SLOTS_AT on.
+pub const SLOTS_AT: usize = 8;
+
+pub type RegionRow = [u32; SLOTS_AT + MOST_SLOTS];
+
+pub type Regions = [RegionRow; MOST_REGIONS];
+
+// A thread: its log entries, its depth, the number of its last region.
+pub const DEPTH_AT: usize = MOST_ENTRIES;
+
+pub const LAST_AT: usize = MOST_ENTRIES + 1;
+
+pub type ThreadRow = [u64; MOST_ENTRIES + 2];
+
+pub type Threads = [ThreadRow; MOST_THREADS];
+
+// Of each line its owner, whether it is locked, and its words.
+pub type Owners = [u32; MOST_LINES];
+
+pub type Locks = [bool; MOST_LINES];
+
+pub type Lines = [[u64; LINE_WORDS]; MOST_LINES];
