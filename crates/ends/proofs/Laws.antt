@@ -1,29 +1,23 @@
 -- Dropped flights, and an end and a log acknowledgement from their parts.
 use Prim.Native.Nat.{ℕ}
-use mathlib.Core.Path.{_≡_, refl}
+use mathlib.Core.Path.{_≡_}
 use mathlib.Core.Bool.{false}
-use mathlib.Core.List.{List, [], _∷_, map}
 use lib.ListN.{getD}
-use Rattle.undo.proofs.Laws.{never, test}
+use Rattle.undo.proofs.Laws.{test}
 use Rattle.undo.specs.Table.{any}
-use Rattle.rules.specs.Acknowledge.{dropped, droppedSlot, logAck, unlocked}
+use Rattle.rules.specs.Acknowledge.{dropped, logAck, unlocked}
 use Rattle.rules.specs.End.{closed, endRegion, shallower}
 use Rattle.rules.specs.Flight.{flown}
 use Rattle.rules.specs.Slots.{carries}
 use Rattle.rules.specs.Tables.{Board, current, isKey, withTables}
 use Rattle.rules.specs.declared.Region.{Region}
-use Rattle.rules.specs.declared.Slot.{Slot}
 use Rattle.rules.specs.declared.Tables.{Tables}
-
-none-dropped : (l : ℕ) (ss : List Slot) → any (carries l) ss ≡ false → map (droppedSlot l) ss ≡ ss
-none-dropped l [] e = refl
-none-dropped l (s ∷ ss) e =
-    test (carries l s) (λ f. never refl (rw f at e)) (λ f. rw (f, none-dropped l ss (rw f at e)))
+use Rattle.rules.proofs.SlotLaws.{dropped-same}
 
 -- a region without a flight on the line stays as it is
 pub dropped-none : (k l : ℕ) (r : Region) → any (carries l) (r .slots) ≡ false → dropped k l r ≡ r
 unfolding dropped
-dropped-none k l r e = test (isKey k r) (λ f. rw f) (λ f. rw (f, none-dropped l (r .slots) e))
+dropped-none k l r e = test (isKey k r) (λ f. rw f) (λ f. rw (f, dropped-same l (r .slots) e))
 
 pub end-law : (t k : ℕ) (b b₃ : Board) (ts₁ ts₂ : Tables)
     → k ≡ current t (b .tables)

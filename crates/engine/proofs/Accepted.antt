@@ -5,7 +5,7 @@ use mathlib.Core.Bool.{_&&_, false}
 use lib.Dec.{eqb, leb}
 use native.Mathlib.Omega.{arith}
 use borrow.Author.Tests.{leb-false, ltb-false}
-use Rattle.refusals.proofs.Order.{bad, passed}
+use Rattle.rules.proofs.Tests.{badAt, passes}
 use Rattle.rules.specs.Refusal.{refusal, testsOf}
 use Rattle.rules.specs.Tables.{threadAt}
 use Rattle.rules.specs.declared.Event.the-variants.{Begin, Read}
@@ -15,9 +15,9 @@ module _ (ts : Tables) (t : ℕ) where
   pub begin-accepted : refusal ts (Begin t) ≡ 0 → (threadAt t ts .depth < 15) × (eqb (threadAt t ts .depth) 0 && leb 65535 (threadAt t ts .last) ≡ false)
   unfolding refusal testsOf
   begin-accepted e =
-      let p : (n : ℕ) → bad n (testsOf ts (Begin t)) ≡ false = λ n. passed n (testsOf ts (Begin t)) refl e in
+      let p : (n : ℕ) → badAt n (testsOf ts (Begin t)) ≡ false = λ n. passes n (testsOf ts (Begin t)) refl e in
       (leb-false 15 (threadAt t ts .depth) (p 13), p 14)
 
   pub read-accepted : (l w : ℕ) → refusal ts (Read t l w) ≡ 0 → w < 8
   unfolding refusal testsOf
-  read-accepted l w e = omega (arith, ltb-false 7 w (passed 5 (testsOf ts (Read t l w)) refl e))
+  read-accepted l w e = omega (arith, ltb-false 7 w (passes 5 (testsOf ts (Read t l w)) refl e))

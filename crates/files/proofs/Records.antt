@@ -1,5 +1,5 @@
 -- The records of a file one by one, and the answers of its run.
-use Prim.Native.Nat.{_*_, _+_, _<_, _≤_, suc, zero, ℕ}
+use Prim.Native.Nat.{_*_, _+_, _<_, _≤_, suc, ℕ}
 use mathlib.Core.Path.{_≡_, ap, refl}
 use mathlib.Core.List.{List, [], _∷_}
 use lib.Dec.{ltb}
@@ -9,7 +9,7 @@ use borrow.Author.Tests.{ltb-false}
 use lib.Seq.{drop-drop, drop-length}
 use Rattle.rules.specs.Step.{step}
 use Rattle.files.specs.Parts.{sizeOf}
-use Rattle.lines.proofs.Words.{length-bytes}
+use Rattle.rules.proofs.Codec.Bytes.{length-bytes}
 use Rattle.rules.specs.Lists.{flat}
 use Rattle.rules.specs.Record.{bodyLength, isWhole, readRecord, recordsFrom}
 use Rattle.rules.specs.Run.{answerBytes, answersBytes, run}
@@ -19,13 +19,7 @@ use Rattle.rules.specs.declared.Event.{Event}
 use Rattle.rules.specs.declared.Reading.{Reading}
 use Rattle.rules.specs.declared.Reading.the-variants.{Refused, Whole}
 use Rattle.undo.proofs.Laws.{test}
-
--- bytes that are still to pass are dropped
-skip : (k : ℕ) (bs : List ℕ) → recordsFrom k bs ≡ recordsFrom 0 (drop k bs)
-unfolding recordsFrom
-skip zero bs = refl
-skip (suc k) [] = refl
-skip (suc k) (b ∷ bs) = skip k bs
+use Rattle.events.proofs.Records.{records-skip}
 
 pub records-none : (bs : List ℕ) → length bs ≡ 0 → recordsFrom 0 bs ≡ []
 unfolding recordsFrom
@@ -38,7 +32,7 @@ unfolding recordsFrom sizeOf
 records-more [] h = absurd (omega arith)
 records-more (b ∷ bs) h =
     test (isWhole (readRecord (b ∷ bs)))
-    (λ w. rw (w, skip (bodyLength b) bs))
+    (λ w. rw (w, records-skip (bodyLength b) bs))
     (λ w. rw (w, drop-length bs))
 
 -- a whole record lies in its file

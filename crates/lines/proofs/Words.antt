@@ -1,37 +1,19 @@
 -- Words and bytes.
-use Prim.Native.Nat.{_%_, _*_, _+_, _-_, _/_, _<_, _^_, _≤_, suc, zero, ℕ}
-use mathlib.Core.Path.{_≡_, ap, refl}
+use Prim.Native.Nat.{_%_, _*_, _+_, _-_, _/_, _<_, _^_, _≤_, suc, ℕ}
+use mathlib.Core.Path.{_≡_, refl}
 use mathlib.Core.Bool.{Bool, _&&_, false, false≢true, true}
 use mathlib.Core.List.{List, [], _++_, _∷_, append-assoc}
-use lib.ListN.{drop, getD, length, length-append, set, take}
+use lib.ListN.{drop, getD, length, set, take}
 use native.Mathlib.Omega.{arith}
 use native.Mathlib.Numerals.{add-one}
 use borrow.Author.Tests.{ltb-true}
 use lib.Seq.{drop-at, drop-cons, drop-drop, getD-drop, sets, take-at}
-use native.Mathlib.Nat.{add-assoc, add-suc, add-zero, div-lt-iff-lt-mul, mod-add-div, pow-suc}
+use native.Mathlib.Nat.{add-assoc, add-suc, add-zero}
 use Rattle.lines.proofs.Paste.{rest, sets-join}
 use Rattle.rules.specs.Bytes.{bytesOf, numOf, wordsBytes, wordsOf}
 use Rattle.rules.specs.Claim.{isByte}
 use Rattle.rules.specs.Lists.{all}
-
-pub length-bytes : (k n : ℕ) → length (bytesOf k n) ≡ k
-unfolding bytesOf
-length-bytes zero n = refl
-length-bytes (suc k) n = ap suc (length-bytes k (n / 256))
-
--- a number comes back out of its bytes, at every width
-pub num-bytes : (k n : ℕ) → n < 256 ^ k → numOf (bytesOf k n) ≡ n
-unfolding bytesOf numOf
-num-bytes zero n h = let q : 0 ≡ n = omega arith in q
-num-bytes (suc k) n h =
-    let z : 0 < 256 = omega arith in
-    let g : n < 256 ^ k * 256 = omega (arith, pow-suc 256 k) in
-    rw (num-bytes k (n / 256) (div-lt-iff-lt-mul z .1 g), mod-add-div n 256)
-
-pub length-words : (n : ℕ) (ws : List ℕ) → length (wordsBytes n ws) ≡ 8 * n
-unfolding wordsBytes
-length-words zero ws = refl
-length-words (suc n) ws = rw (length-append (bytesOf 8 (getD ws 0 0)) (wordsBytes n (drop 1 ws)), length-bytes 8 (getD ws 0 0), length-words n (drop 1 ws)) (omega arith)
+use Rattle.rules.proofs.Codec.Bytes.{length-bytes, num-bytes}
 
 -- words that fit their eight bytes
 pub data Words : ℕ → List ℕ → Type 0 where

@@ -9,7 +9,7 @@ use native.Mathlib.Omega.{arith}
 use borrow.Author.Tests.{eqb-true, le-leb}
 use Rattle.events.proofs.Table.{fitting}
 use Rattle.events.specs.Row.{isWidth}
-use Rattle.lines.proofs.Words.{length-bytes}
+use Rattle.rules.proofs.Codec.Bytes.{length-bytes}
 use Rattle.output.specs.Room.{Room, filled, room}
 use Rattle.parsing.proofs.Lines.{good-front}
 use Rattle.parsing.specs.Read.{Got, Text, behind, bytesLine, bytesOfText, field, fieldsFrom, glued, goodBytes, got, inWord, kindBytes, kindOf, kindThen, lineThen, linesOf, linesRead, noWord, numberIn, readAs, widthAt, wordsIn, wordsRead}

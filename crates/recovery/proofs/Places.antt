@@ -1,6 +1,6 @@
 -- Records of one length, one behind the other, and the lines of an image that is accepted.
 use Prim.Native.Nat.{_*_, _+_, _<_, _≤_, suc, zero, ℕ}
-use mathlib.Core.Path.{_≡_, ap, refl}
+use mathlib.Core.Path.{_≡_, refl}
 use mathlib.Core.Bool.{Bool, _&&_, true}
 use mathlib.Core.List.{List, [], _++_, _∷_, append-assoc}
 use lib.Dec.{ltb}
@@ -8,8 +8,8 @@ use lib.ListN.{drop, getD, length, length-append}
 use native.Mathlib.Omega.{arith}
 use borrow.Author.Tests.{lt-ltb, ltb-true}
 use lib.Seq.{drop-append-add}
-use Rattle.rules.proofs.Codec.Bytes.{all-at, isLine, length-bytes}
-use Rattle.rules.proofs.Codec.Store.{length-line}
+use Rattle.rules.proofs.Codec.Bytes.{all-at, isLine}
+use Rattle.rules.proofs.Codec.Store.{length-head, length-line}
 use Rattle.rules.proofs.Codec.Valid.{Valid, fitsEntry}
 use Rattle.rules.specs.Claim.{isByte}
 use Rattle.rules.specs.Image.{Persistent, encode, entryRecord, headRecord, lineRecord, regionRecord}
@@ -48,13 +48,9 @@ module _ {A : Type 0} (f : A → List ℕ) (w : ℕ) (ok : A → Bool) (long : (
 
 -- ---- the records of an image
 
-no-test : {A : Type 0} (xs : List A) → all (λ x. true) xs ≡ true
+pub no-test : {A : Type 0} (xs : List A) → all (λ x. true) xs ≡ true
 no-test [] = refl
 no-test (x ∷ xs) = no-test xs
-
-length-head : (n l : ℕ) → length (headRecord n l) ≡ 4
-unfolding headRecord
-length-head n l = ap suc (ap suc (length-bytes 2 l))
 
 -- the line of a log entry is inside
 pub line-inside : (p : Persistent) (v : Valid p) (i : ℕ) → i < length (p .log) → lineStart (getD (p .log) i noLogged .line) + 64 ≤ length (encode p)

@@ -1,15 +1,15 @@
--- The first refusal of a list of tests, taken in two parts at a number, and what a list that refuses nothing tells of each number.
+-- The first refusal of a list of tests, taken in two parts at a number.
 use Prim.Native.Nat.{_<_, _≤_, ℕ}
-use mathlib.Core.Bool.{Bool, _&&_, cond, false, false≢true, not, true}
+use mathlib.Core.Bool.{_&&_, cond, false, false≢true, not, true}
 use mathlib.Core.List.{List, [], _∷_}
 use mathlib.Core.Path.{_∙_, _≡_, refl, sym}
 use lib.Dec.{eqb, leb}
 use native.Mathlib.Omega.{arith}
-use borrow.Author.Tests.{eq-eqb, leb-false, leb-true}
-use Rattle.undo.proofs.Laws.{and-true, never, test}
-use Rattle.rules.specs.Lists.{all}
+use borrow.Author.Tests.{leb-false, leb-true}
+use Rattle.undo.proofs.Laws.{and-true, test}
 use Rattle.rules.specs.Refusal.{Test, firstBad, inRange}
 use Rattle.refusals.specs.Order.{before}
+use Rattle.rules.proofs.Tests.{numbered, unnumbered}
 
 -- the tests from number n on
 abbrev pub from : ℕ → List Test → List Test
@@ -19,19 +19,6 @@ from n (x ∷ xs) = cond (eqb (x .code) n) (x ∷ xs) (from n xs)
 -- those before number n refuse nothing: the refusal is that of the others
 abbrev pub Passed : ℕ → List Test → Type 0
 Passed n ts = firstBad ts ≡ firstBad (from n ts)
-
--- what the test of number n says
-abbrev pub bad : ℕ → List Test → Bool
-bad n [] = false
-bad n (x ∷ xs) = cond (eqb (x .code) n) (x .bad) (bad n xs)
-
--- every test has a number
-abbrev pub numbered : List Test → Bool
-numbered ts = all (λ t. not (eqb (t .code) 0)) ts
-
--- a test that refuses is not refused with 0
-refused : {C : Type 0} (x : Test) (xs : List Test) → numbered (x ∷ xs) ≡ true → x .code ≡ 0 → C
-refused x xs h e = never (and-true (not (eqb (x .code) 0)) (numbered xs) h .0) (rw (eq-eqb _ _ e))
 
 stopped : (n : ℕ) (ts : List Test) → (firstBad (before n ts) ≡ 0 → ⊥) → firstBad (before n ts) ≡ firstBad ts
 stopped n [] h = refl
@@ -46,7 +33,7 @@ went n (x ∷ xs) h z =
     test (eqb (x .code) n)
     (λ e. rw e)
     (λ e. test (x .bad)
-    (λ b. refused x xs h (rw (e, b) at z))
+    (λ b. unnumbered x xs h (rw (e, b) at z))
     (λ b. rw (e, b) (went n xs (and-true (not (eqb (x .code) 0)) (numbered xs) h .1) (rw (e, b) at z))))
 
 -- r is what the tests before number n say: a refusal there is the refusal, and without one it goes on from n
@@ -56,14 +43,6 @@ module _ (n r : ℕ) (ts : List Test) (e : r ≡ firstBad (before n ts)) where
 
   pub goes : numbered ts ≡ true → r ≡ 0 → Passed n ts
   goes h z = went n ts h (sym e ∙ z)
-
--- each test of a list that refuses nothing passes
-pub passed : (n : ℕ) (ts : List Test) → numbered ts ≡ true → firstBad ts ≡ 0 → bad n ts ≡ false
-passed n [] h z = refl
-passed n (x ∷ xs) h z =
-    test (x .bad)
-    (λ b. refused x xs h (rw b at z))
-    (λ b. test (eqb (x .code) n) (λ e. rw (e, b)) (λ e. rw e (passed n xs (and-true (not (eqb (x .code) 0)) (numbered xs) h .1) (rw b at z))))
 
 -- ---- a thread of a board that is set up is one of eight
 

@@ -11,7 +11,7 @@ use native.Mathlib.Omega.{arith}
 use native.Mathlib.Nat.{mod-eq-of-lt}
 use borrow.Author.Tests.{eq-eqb, eqb-false, eqb-true, ltb-false, ltb-true, ne-eqb}
 use Rattle.undo.proofs.Laws.{test}
-use Rattle.rules.proofs.Lists.{place-lt}
+use Rattle.rules.proofs.Lists.{or-none, place-lt}
 use Rattle.rules.specs.Access.{isHad, isOf}
 use Rattle.rules.specs.Lists.{place}
 use Rattle.undo.specs.Table.{any}
@@ -115,10 +115,6 @@ pub whole : (r : Region) → length (r .deps) ≡ 4 → length (r .slots) ≡ 8
     })
     r
 whole r h e = rw (four 0 (r .deps) h, eight noSlot (r .slots) e)
-
-pub or-false : (b : Bool) → (b || false) ≡ b
-or-false true = refl
-or-false false = refl
 
 -- a row whose numbers are those of the region r holds r
 pub packed : (r : Region) (w : List ℕ) → length (r .deps) ≡ 4 → length (r .slots) ≡ 8
@@ -241,7 +237,7 @@ suits-word n l h =
     (λ e. let z : n / 256 ≡ 0 = omega (arith, ltb-true n 256 e) in rw (e, z))
     (λ e. test (eqb (n / 256) 0)
     (λ z. absurd (omega (arith, ltb-false n 256 e, eqb-true (n / 256) 0 z)))
-    (λ z. test (eqb (n / 256) 1) (λ f. rw (e, z, f, or-false (eqb (n % 256) l))) (λ f. rw (e, z, f, or-false (eqb (n % 256) l)))))
+    (λ z. test (eqb (n / 256) 1) (λ f. rw (e, z, f, or-none (eqb (n % 256) l))) (λ f. rw (e, z, f, or-none (eqb (n % 256) l)))))
 
 -- no slot is left for a line where none can be that of the line
 from-lacks : (l : ℕ) (f : Found) (i : ℕ) (ss : List Slot) → isFull (slotFrom l f i ss) ≡ (isFull f && not (any (suits l) ss))

@@ -2,7 +2,7 @@
 use Prim.Native.Nat.{_<_, _≤_, suc, zero, ℕ}
 use mathlib.Core.Path.{_≡_, ap, refl, sym}
 use mathlib.Core.Logic.{_≢_}
-use mathlib.Core.Bool.{Bool, cond, false, false≢true, not, true}
+use mathlib.Core.Bool.{_||_, Bool, cond, false, false≢true, not, true}
 use mathlib.Core.List.{List, [], _∷_, map}
 use lib.Dec.{eqb}
 use lib.ListN.{List·getD-map, getD, length, set}
@@ -18,6 +18,10 @@ use Rattle.undo.specs.Table.{any}
 pub not-not : (a : Bool) → not (not a) ≡ a
 not-not true = refl
 not-not false = refl
+
+pub or-none : (b : Bool) → (b || false) ≡ b
+or-none true = refl
+or-none false = refl
 
 pub eq-both : (a b : Bool) → (a ≡ true → b ≡ true) → (b ≡ true → a ≡ true) → a ≡ b
 eq-both true true f g = refl

@@ -347,7 +347,7 @@ state-dropped l (more {s = s} {ss = ss} a n r ds) =
     (λ d. let f : carries l s ≡ false = test (carries l s) (λ e. never (carries-named l s e) d) (λ e. e) in
     rw (f, d) (state-dropped l ds))
 
-dropped-same : (l : ℕ) (ss : List Slot) → any (carries l) ss ≡ false → map (droppedSlot l) ss ≡ ss
+pub dropped-same : (l : ℕ) (ss : List Slot) → any (carries l) ss ≡ false → map (droppedSlot l) ss ≡ ss
 dropped-same l [] e = refl
 dropped-same l (s ∷ ss) e =
     let z = or-false (carries l s) (any (carries l) ss) e in

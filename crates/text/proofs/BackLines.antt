@@ -24,6 +24,7 @@ use Rattle.rules.specs.Lists.{all, flat, place}
 use Rattle.rules.specs.Record.{bodyLength}
 use Rattle.text.proofs.Back.{decimal-back, line-words, plain}
 use Rattle.undo.proofs.Laws.{and-true, test}
+use Rattle.rules.proofs.Codec.Only.{nothing-left}
 
 -- ---- the bytes of a field
 
@@ -90,13 +91,9 @@ pub behind-got : (xs ys : List ℕ) → behind xs (got ys true) ≡ got (xs ++ y
 unfolding behind got
 behind-got xs ys = refl
 
-nil-of : (bs : List ℕ) → length bs ≡ 0 → bs ≡ []
-nil-of [] e = refl
-nil-of (b ∷ bs) e = absurd (omega arith)
-
 fields-back : (k f : ℕ) (ws bs : List ℕ) → Follows k f ws → Bytes bs → length bs ≡ total ws → fieldsFrom k f (map decimal (numbersOf ws bs)) ≡ got bs true
 unfolding numbersOf
-fields-back k f [] bs (done e) b l = rw (nil-of bs l) (got-nil k f e)
+fields-back k f [] bs (done e) b l = rw (nothing-left bs l) (got-nil k f e)
 fields-back k f (w ∷ ws) bs (one e h fs) b l =
     let t : w ≤ length bs = omega arith in
     let d : length (drop w bs) ≡ total ws = rw (length-drop, l) (omega arith) in

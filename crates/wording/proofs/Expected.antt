@@ -11,9 +11,9 @@ use lib.ListN.{drop, length, length-append, length-drop, length-replicate, take}
 use lib.Seq.{drop-append-add, drop-at, drop-drop, getD-take, length-take-le, take-append-seam}
 use native.Mathlib.Omega.{arith}
 use borrow.Author.Tests.{eqb-true, le-leb}
-use Rattle.recovery.proofs.Places.{flat-at, flat-length}
-use Rattle.rules.proofs.Codec.Bytes.{all-at, isLine, length-bytes, length-words, line-back}
-use Rattle.rules.proofs.Codec.Store.{found, length-line, withMedium}
+use Rattle.recovery.proofs.Places.{flat-at, flat-length, no-test}
+use Rattle.rules.proofs.Codec.Bytes.{all-at, isLine, length-words, line-back}
+use Rattle.rules.proofs.Codec.Store.{found, length-head, length-line, withMedium}
 use Rattle.rules.proofs.Codec.Turns.{length-entry, length-region, size-lines}
 use Rattle.rules.proofs.Codec.Valid.{Valid, fitsRegion}
 use Rattle.rules.proofs.Cuts.{cut-is}
@@ -58,14 +58,6 @@ lines-same (x ∷ xs) (y ∷ ys) n a b e =
     rw (f, lines-same xs ys (omega arith) (p .1) (λ j k. b (suc j) (omega arith)) r)
 
 -- ---- an image: its lines, and how long it is
-
-no-test : {A : Type 0} (xs : List A) → all (λ x. true) xs ≡ true
-no-test [] = refl
-no-test (x ∷ xs) = no-test xs
-
-length-head : (n l : ℕ) → length (headRecord n l) ≡ 4
-unfolding headRecord
-length-head n l = ap suc (ap suc (length-bytes 2 l))
 
 region-long : (n : ℕ) (r : Listed) → fitsRegion n r ≡ true → length (regionRecord r) ≡ 17
 unfolding regionRecord

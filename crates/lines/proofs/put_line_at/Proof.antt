@@ -5,7 +5,7 @@ use borrow.Author.Tests.{leb-true}
 use native.Mathlib.Omega.{arith}
 use lib.Seq.{sets}
 use Rattle.lines.proofs.Paste.{sets-part}
-use Rattle.lines.proofs.Words.{length-words}
+use Rattle.rules.proofs.Codec.Bytes.{length-words}
 use Rattle.lines.proofs.Room.{put-room}
 use Rattle.lines.specs.Room.{putAt}
 use Rattle.rules.specs.Bytes.{lineBytes}

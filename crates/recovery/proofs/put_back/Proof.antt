@@ -5,7 +5,7 @@ use Rattle.rules.specs.Recovery.{lineStart}
 use native.Mathlib.Omega.{arith}
 use Rattle.lines.proofs.Paste.{sets-paste}
 use Rattle.lines.proofs.Room.{line-room, put-room}
-use Rattle.lines.proofs.Words.{length-words}
+use Rattle.rules.proofs.Codec.Bytes.{length-words}
 use borrow.Author.Needs.{needs}
 use Rattle.recovery.proofs.put_back.Statement.{statement}
 use Rattle.recovery.proofs.put_back.Tie as tie

@@ -7,7 +7,7 @@ use Rattle.rules.specs.Bytes.{numOf}
 use Rattle.rules.specs.Recovery.{calledBy, recoveryCall}
 use Rattle.lines.proofs.Paste.{sets-whole}
 use Rattle.lines.proofs.Room.{put-room, word-room}
-use Rattle.lines.proofs.Words.{length-bytes}
+use Rattle.rules.proofs.Codec.Bytes.{length-bytes}
 use borrow.Author.Needs.{needs}
 use Rattle.recovery.proofs.recovery_call.Statement.{statement}
 use Rattle.recovery.proofs.recovery_call.Tie as tie

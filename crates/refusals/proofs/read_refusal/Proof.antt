@@ -7,7 +7,8 @@ use Rattle.rules.specs.declared.Event.the-variants.{Read}
 use Rattle.rules.specs.declared.Tables.{Tables}
 use Rattle.rows.specs.Whole.{tablesOf}
 use Rattle.refusals.proofs.Laws.{depends, foreign, last-below, no-dep}
-use Rattle.refusals.proofs.Order.{Passed, bad, goes, stops}
+use Rattle.refusals.proofs.Order.{Passed, goes, stops}
+use Rattle.rules.proofs.Tests.{badAt}
 use Rattle.refusals.proofs.read_refusal.Statement.{statement}
 use Rattle.refusals.proofs.read_refusal.Tie as tie
 
@@ -26,13 +27,13 @@ module _ (lock : List Bool) where
   tests s = testsOf (tables s) (Read (s .args .t) (s .args .l) (s .args .w))
 
   -- what each test says is what the code found
-  says-17 : (c : tie.After-is-foreign) → bad 17 (tests (start (c .before .before .before .before))) ≡ c .is-foreign .result
+  says-17 : (c : tie.After-is-foreign) → badAt 17 (tests (start (c .before .before .before .before))) ≡ c .is-foreign .result
   unfolding testsOf
   says-17 c =
       let s = start (c .before .before .before .before) in
       foreign _ _ _ (tables s) (c .before .before .before .current .ensures) _ (c .before .last-writer .ensures) (last-below (s .args .threads .now) (s .args .t)) ∙ sym (c .is-foreign .ensures)
 
-  says-19 : (c : tie.After-lacks-dep) → bad 19 (tests (start (to-17 (c .before .before .before .before)))) ≡ c .lacks-dep .result
+  says-19 : (c : tie.After-lacks-dep) → badAt 19 (tests (start (to-17 (c .before .before .before .before)))) ≡ c .lacks-dep .result
   unfolding testsOf
   says-19 c =
       let e = c .before .before .before .before in

@@ -8,7 +8,8 @@ use Rattle.rules.specs.declared.Event.the-variants.{Write}
 use Rattle.rules.specs.declared.Tables.{Tables}
 use Rattle.rows.specs.Whole.{tablesOf}
 use Rattle.refusals.proofs.Laws.{foreign, last-below, logs, no-dep, no-slot}
-use Rattle.refusals.proofs.Order.{Passed, bad, goes, stops}
+use Rattle.refusals.proofs.Order.{Passed, goes, stops}
+use Rattle.rules.proofs.Tests.{badAt}
 use Rattle.refusals.proofs.write_refusal.Statement.{statement}
 use Rattle.refusals.proofs.write_refusal.Tie as tie
 
@@ -39,29 +40,29 @@ module _ (v : ℕ) where
   tests s = testsOf (tables s) (Write (s .args .t) (s .args .l) (s .args .w) v)
 
   -- what each test says is what the code found
-  says-17 : (c : tie.After-is-foreign) → bad 17 (tests (start (c .before .before .before .before))) ≡ c .is-foreign .result
+  says-17 : (c : tie.After-is-foreign) → badAt 17 (tests (start (c .before .before .before .before))) ≡ c .is-foreign .result
   unfolding testsOf
   says-17 c =
       let s = start (c .before .before .before .before) in
       foreign _ _ _ (tables s) (c .before .before .before .current .ensures) _ (c .before .last-writer .ensures) (last-below (s .args .threads .now) (s .args .t)) ∙ sym (c .is-foreign .ensures)
 
-  says-18 : (c : tie.After-waits) → bad 18 (tests (start (to-17 (c .before .before)))) ≡ c .waits .result
+  says-18 : (c : tie.After-waits) → badAt 18 (tests (start (to-17 (c .before .before)))) ≡ c .waits .result
   unfolding testsOf
   says-18 c = let e = c .before .before in logs _ _ _ (tables (start (to-17 e))) (is-current e) _ ∙ sym (c .waits .ensures)
 
-  says-19 : (c : tie.After-lacks-dep) → bad 19 (tests (start (to-17 (to-18 (c .before .before))))) ≡ c .lacks-dep .result
+  says-19 : (c : tie.After-lacks-dep) → badAt 19 (tests (start (to-17 (to-18 (c .before .before))))) ≡ c .lacks-dep .result
   unfolding testsOf
   says-19 c =
       let e = to-18 (c .before .before) in
       no-dep _ _ _ (tables (start (to-17 e))) (is-current e) _ (e .before .before .last-writer .ensures) _ (c .before .place-of .ensures) ∙ sym (c .lacks-dep .ensures)
 
-  says-20 : (c : tie.After-lacks-slot) → bad 20 (tests (start (to-17 (to-18 (to-19 (c .before)))))) ≡ c .lacks-slot .result
+  says-20 : (c : tie.After-lacks-slot) → badAt 20 (tests (start (to-17 (to-18 (to-19 (c .before)))))) ≡ c .lacks-slot .result
   unfolding testsOf
   says-20 c =
       let e = to-18 (to-19 (c .before)) in
       no-slot _ _ _ (tables (start (to-17 e))) (is-current e) _ (c .before .before .before .place-of .ensures) ∙ sym (c .lacks-slot .ensures)
 
-  says-21 : (c : tie.After-lacks-entry) → bad 21 (tests (start (to-17 (to-18 (to-19 (to-20 (c .before))))))) ≡ c .lacks-entry .result
+  says-21 : (c : tie.After-lacks-entry) → badAt 21 (tests (start (to-17 (to-18 (to-19 (to-20 (c .before))))))) ≡ c .lacks-entry .result
   unfolding testsOf
   says-21 c = let e = to-18 (to-19 (to-20 (c .before))) in logs _ _ _ (tables (start (to-17 e))) (is-current e) _ ∙ sym (c .lacks-entry .ensures)
 

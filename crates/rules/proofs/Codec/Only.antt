@@ -142,7 +142,7 @@ pub record Only (q : Persistent) (bs : List ℕ) : Type 0 where
   pub valid : Valid q
   pub same : encode q ≡ bs
 
-nothing-left : (bs : List ℕ) → length bs ≡ 0 → bs ≡ []
+pub nothing-left : (bs : List ℕ) → length bs ≡ 0 → bs ≡ []
 nothing-left [] e = refl
 nothing-left (b ∷ bs) e = absurd (omega arith)
 

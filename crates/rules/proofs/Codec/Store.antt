@@ -50,7 +50,7 @@ paste-line (x ∷ m) (suc i) v t h =
       paste-line m i v t (omega arith),
     )
 
-length-head : (n l : ℕ) → length (headRecord n l) ≡ 4
+pub length-head : (n l : ℕ) → length (headRecord n l) ≡ 4
 unfolding headRecord
 length-head n l = ap suc (ap suc (length-bytes 2 l))
 

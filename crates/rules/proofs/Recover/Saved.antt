@@ -10,7 +10,7 @@ use native.Mathlib.Omega.{arith}
 use borrow.Author.Tests.{eqb-true, le-leb, lt-ltb, ne-eqb, not-true}
 use Rattle.rules.proofs.Codec.Valid.{keyOfListed, rises}
 use Rattle.rules.proofs.Recover.Rising.{Rises, higher, no-more, rising-is, rising-length, rising-rises}
-use Rattle.rules.proofs.Lists.{any-map}
+use Rattle.rules.proofs.Lists.{any-map, or-none}
 use Rattle.rules.proofs.Places.{eqb-swap, key-at}
 use Rattle.rules.specs.Contradiction.{depsOf, inOrder, isListed}
 use Rattle.rules.specs.Image.{savedRegion, savedRegions}
@@ -91,14 +91,10 @@ zeros-not : (x n : ℕ) → eqb x 0 ≡ false → isIn x (replicate n 0) ≡ fal
 zeros-not x zero e = refl
 zeros-not x (suc n) e = rw (e, zeros-not x n e)
 
-or-nil : (b : Bool) → (b || false) ≡ b
-or-nil true = refl
-or-nil false = refl
-
 -- the same dependences
 pub padded-in : (ds : List ℕ) (d : ℕ) → length ds ≡ 4 → eqb d 0 ≡ false → isIn d (padded ds) ≡ isIn d ds
 padded-in ds d e n =
-    rw (padded-is ds e, in-append d (rising ds) (replicate (4 - length (rising ds)) 0), zeros-not d (4 - length (rising ds)) n, or-nil (isIn d (rising ds)))
+    rw (padded-is ds e, in-append d (rising ds) (replicate (4 - length (rising ds)) 0), zeros-not d (4 - length (rising ds)) n, or-none (isIn d (rising ds)))
     (rising-is ds d ∙ rw n)
 
 all-zeros : (n : ℕ) → all (eqb 0) (replicate n 0) ≡ true

@@ -27,6 +27,7 @@ use Rattle.undo.specs.History.{History, used}
 use Rattle.undo.specs.Machine.{Open, State}
 use Rattle.rules.proofs.Sim.Base.{shape-kept}
 use Rattle.rules.specs.Measures.{ripeCount}
+use Rattle.rules.proofs.Recover.Live.{live-listed}
 
 -- between two events no slot that could fly waits
 abbrev pub Flown : Board → Type 0
@@ -120,16 +121,12 @@ pub data Owner (b : Board) (s : u.State (List ℕ)) (l : ℕ) : Type 0 where
       → s .done (e .rid) ≡ false → listed (e .rid) (b .tables .regions) ≡ true → Owner b s l
 
 module _ {m : ℕ → List ℕ} {b : Board} {es : List Account} {s : u.State (List ℕ)} {h : v.History (List ℕ)} (rc : Reach m s h) (i : Sim b es s h) where
-  -- what has begun and has not committed is listed
-  pub live-listed : (k : ℕ) → s .born k ≡ true → s .done k ≡ false → listed k (b .tables .regions) ≡ true
-  live-listed k x y = i .live k ∙ rw (x, y)
-
   pub logged-live : (k l : ℕ) → c.logged k (s .chain l) ≡ true → (s .born k ≡ true) × (s .done k ≡ false)
   logged-live k l e = structured m s h rc .of-live l k e
 
   pub open-listed : (k : ℕ) → u.Open s k → listed k (b .tables .regions) ≡ true
   open-listed k o =
-      live-listed k (o .began) (test (s .done k) (λ d. never (structured m s h rc .committed k d) (o .goes-on)) (λ d. d))
+      live-listed rc i k (o .began) (test (s .done k) (λ d. never (structured m s h rc .committed k d) (o .goes-on)) (λ d. d))
 
   pub owner-is : (l : ℕ) → Owner b s l
   owner-is l = go (s .chain l) refl
@@ -138,4 +135,4 @@ module _ {m : ℕ → List ℕ} {b : Board} {es : List Account} {s : u.State (Li
       go [] q = unowned q (sym (i .top l) ∙ rw q)
       go (e ∷ c) q =
           let z = logged-live (e .rid) l (rw (q, is-same (e .rid))) in
-          owned e c q (sym (i .top l) ∙ rw q) (z .0) (z .1) (live-listed (e .rid) (z .0) (z .1))
+          owned e c q (sym (i .top l) ∙ rw q) (z .0) (z .1) (live-listed rc i (e .rid) (z .0) (z .1))

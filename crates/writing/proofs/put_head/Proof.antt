@@ -4,7 +4,7 @@ use mathlib.Core.Path.{_∙_, refl, sym}
 use borrow.Author.Needs.{needs}
 use borrow.Author.Tests.{not-false, not-true}
 use Rattle.rules.specs.Image.{headRecord}
-use Rattle.writing.proofs.Widths.{head-long}
+use Rattle.rules.proofs.Codec.Store.{length-head}
 use Rattle.writing.proofs.Emit.{puts-none, puts-some, room-for}
 
 has-room-requires : tie.Need-has-room-requires
@@ -13,13 +13,13 @@ has-room-requires c κs = search needs
 returns : tie.Need-returns
 returns c =
     let a = c .before .before .before .args in
-    puts-none (a .dst .now) (a .at) (headRecord (a .threads) (a .lines)) 4 (head-long (a .threads) (a .lines)) (sym (c .before .has-room .ensures) ∙ not-true _ (c .if1 .taken))
+    puts-none (a .dst .now) (a .at) (headRecord (a .threads) (a .lines)) 4 (length-head (a .threads) (a .lines)) (sym (c .before .has-room .ensures) ∙ not-true _ (c .if1 .taken))
 
 set-head-requires : tie.Need-set-head-requires
 set-head-requires c κs =
     let e = c .before in
     let a = e .before .before .before .args in
-    room-for (a .dst .now) (a .at) (headRecord (a .threads) (a .lines)) 4 (head-long (a .threads) (a .lines)) (sym (e .before .has-room .ensures) ∙ not-false _ (e .if1 .left))
+    room-for (a .dst .now) (a .at) (headRecord (a .threads) (a .lines)) 4 (length-head (a .threads) (a .lines)) (sym (e .before .has-room .ensures) ∙ not-false _ (e .if1 .left))
 
 same-length : tie.Need-same-length
 same-length c = search needs
@@ -28,7 +28,7 @@ returns-2 : tie.Need-returns-2
 returns-2 c =
     let e = c .before .before .before .before in
     let a = e .before .before .before .args in
-    puts-some (a .dst .now) (a .at) (headRecord (a .threads) (a .lines)) 4 (head-long (a .threads) (a .lines)) (sym (e .before .has-room .ensures) ∙ not-false _ (e .if1 .left)) (c .before .before .set-head .ensures)
+    puts-some (a .dst .now) (a .at) (headRecord (a .threads) (a .lines)) 4 (length-head (a .threads) (a .lines)) (sym (e .before .has-room .ensures) ∙ not-false _ (e .if1 .left)) (c .before .before .set-head .ensures)
 
 pub put-head-spec : {M : Type 1} → statement M
 put-head-spec = tie.close (tie.spec has-room-requires returns set-head-requires same-length returns-2)
