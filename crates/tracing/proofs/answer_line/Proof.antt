@@ -1,4 +1,4 @@
-use Rattle.saving.proofs.Emit.{last, on, room, room-last, said, start}
+use Rattle.writing.proofs.Emit.{last, on, room, room-last, said, start}
 use mathlib.Core.List.{_++_}
 use Rattle.tracing.proofs.Texts.{answer-said}
 use Rattle.tracing.specs.Text.{answerText, numberText}

@@ -1,7 +1,7 @@
 use Prim.Native.Nat.{_+_, _-_, _≤_, ℕ}
 use mathlib.Core.List.{List}
 use lib.ListN.{getD}
-use Rattle.saving.proofs.Emit.{Writing, end, on, room, said, start}
+use Rattle.writing.proofs.Emit.{Writing, end, on, room, said, start}
 use Rattle.tracing.proofs.Texts.{left, left-more, left-none, line-said}
 use Rattle.tracing.specs.Text.{lineText, wordText}
 use borrow.Author.Needs.{needs}

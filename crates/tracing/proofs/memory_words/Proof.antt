@@ -3,7 +3,7 @@ use mathlib.Core.Path.{ap, sym}
 use mathlib.Core.List.{List}
 use lib.ListN.{length}
 use native.Mathlib.Omega.{arith}
-use Rattle.saving.proofs.Emit.{Writing, end, on, room, said, start}
+use Rattle.writing.proofs.Emit.{Writing, end, on, room, said, start}
 use Rattle.tracing.proofs.Texts.{left, left-more, left-none, memory-said, put-as}
 use Rattle.tracing.specs.Text.{imageLine, lineText, memoryText}
 use borrow.Author.Needs.{needs}

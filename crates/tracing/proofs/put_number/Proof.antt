@@ -1,6 +1,6 @@
 use Prim.Native.Nat.{ℕ}
 use mathlib.Core.List.{[], _∷_}
-use Rattle.saving.proofs.Emit.{last, on, room, room-last, said, start}
+use Rattle.writing.proofs.Emit.{last, on, room, room-last, said, start}
 use Rattle.tracing.proofs.Texts.{number-said}
 use Rattle.text.specs.Write.{decimal}
 use Rattle.tracing.specs.Text.{numberText}

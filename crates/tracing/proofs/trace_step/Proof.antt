@@ -4,7 +4,7 @@ use mathlib.Core.List.{_++_}
 use native.Mathlib.Omega.{arith}
 use Rattle.rules.specs.Step.{Stepped, step}
 use Rattle.rules.specs.Tables.{Board}
-use Rattle.saving.proofs.Emit.{last, on, start}
+use Rattle.writing.proofs.Emit.{last, on, start}
 use Rattle.rows.specs.Whole.{boardOf, stepped}
 use Rattle.tracing.proofs.Texts.{answer-end, answer-room, event-told, put-as}
 use Rattle.tracing.specs.Text.{answerText, behindText}

@@ -1,4 +1,4 @@
-use Rattle.saving.proofs.Emit.{last, on, room, room-last, said, start}
+use Rattle.writing.proofs.Emit.{last, on, room, room-last, said, start}
 use Prim.Native.Nat.{_+_}
 use mathlib.Core.Path.{_≡_, sym, subst}
 use mathlib.Core.List.{[], _++_, _∷_}
