@@ -8,9 +8,10 @@ use lib.ListN.{drop, length, length-append, length-map}
 use native.Mathlib.Nat.{mul-suc}
 use native.Mathlib.Omega.{arith}
 use borrow.Author.Tests.{eqb-false, eqb-true}
-use Rattle.rules.proofs.Recover.Entries.{entries-in}
+use Rattle.rules.proofs.Codec.Image.{read-records}
+use Rattle.rules.proofs.Recover.Entries.{entries-read}
 use Rattle.rules.proofs.Recover.Rising.{rising-length}
-use Rattle.rules.proofs.Main.{recovery-is-right}
+use Rattle.rules.proofs.Main.{image-reads-back, recovery-is-right}
 use Rattle.rules.proofs.Sim.State.{Simulated, by}
 use Rattle.rules.proofs.Sim.All.{every}
 use Rattle.rules.specs.Claim.{boardAfter, isByte, isByteMemory, passLength, recovering, restores}
@@ -87,4 +88,6 @@ module _ (m : Memory) (rs : List (List ℕ)) (bm : isByteMemory m ≡ true) (br 
       let l = image-log (boardAfter m rs) (shaped (every m rs bm br .simulated)) in
       let a = restore (restores (passLength m rs - 1) (act (recovering m rs []) PowerCut)) .answer in
       let e = eqb-true (a .value) 0 (and-true (eqb (a .refusal) 0) (eqb (a .value) 0) (recovery-is-right m rs [] bm br cut .finishes) .1) in
-      found 256 (passLength m rs - 1) [] (omega (arith, l, entries-in (boardAfter m rs))) e
+      let b = boardAfter m rs in
+      let n = entries-read (image b) (saved b) (read-records (image b) (saved b) (image-reads-back m rs bm br cut) .0) in
+      found 256 (passLength m rs - 1) [] (omega (arith, l, n)) e
