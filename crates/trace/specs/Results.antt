@@ -35,7 +35,7 @@ pub record Between : Type 0 where
 abbrev pub between : Board → List ℕ → List ℕ → State → Between
 between b d o s = record { board = b; buffer = d; out = o; held = s .held; last = s .last; more = s .more }
 
--- a piece that begins with the bytes that are held is run, the last one if nothing more was read. Its text is at the front of the output, and what is left of it at
+-- a piece that begins with the bytes that are held is run, the last one if nothing more was read: the input has ended, or the buffer was full. Its text is at the front of the output, and what is left of it at
 -- the front of the buffer. Whether the text went out is the system's choice
 pub record Turned (a b : Between) : Type 0 where
   pub piece : List ℕ
@@ -63,7 +63,7 @@ pub data Turns (a : Between) : ℕ → List ℕ → List ℕ → Between → Typ
 abbrev pub start : List ℕ → List ℕ → Between
 start d o = record { board = fresh Zero; buffer = d; out = o; held = 0; last = false; more = true }
 
--- all of the input: turns until none follows (or as many as a loop counts). Whatever comes behind, f, and nothing where the input has ended: the text of the file is
+-- all of the input: turns until none follows (or as many as a loop counts). Whatever comes behind, f, and nothing behind a last piece: the text of the file is
 -- the one that was handed over, and then that of what is still held
 pub record Traces (d d′ o o′ : List ℕ) (r : State) : Type 0 where
   pub board : Board

@@ -1,5 +1,5 @@
-// Reads an event file on standard input, runs it over zero memory, and prints the text of each event. The file may have any length: it is read in pieces, and in
-// whatever pieces it comes the texts that `tracing::trace_piece` gives make the text of the file (`Traces`).
+// Reads an event file on standard input, runs it over zero memory, and prints the text of each event. The file may have any length: it is read in pieces,
+// and in whatever pieces it comes the texts that `tracing::trace_piece` gives make the text of the file (`Traces`).
 use rows::Head;
 ghost use mathlib.Core.Path.{_≡_};
 ghost use Rattle.rows.specs.Whole.{boardOf};
@@ -60,7 +60,11 @@ fn turn(
     buffer: &mut [u8],
     out: &mut [u8],
 ) -> State
-    ensures { λ r. ⌜ Turned (between (boardOf (s .head) (now (threads .entry)) (now (regions .entry)) (now (owner .entry)) (now (lock .entry)) (now (cur .entry)) (now (med .entry)) (now (old .entry)) (now (car .entry))) (now (buffer .entry)) (now (out .entry)) s) (between (boardOf (r .head) (now (threads .exit)) (now (regions .exit)) (now (owner .exit)) (now (lock .exit)) (now (cur .exit)) (now (med .exit)) (now (old .exit)) (now (car .exit))) (now (buffer .exit)) (now (out .exit)) r) ⌝ }
+    ensures { λ r. ⌜ Turned
+        (between (boardOf (s .head) (now (threads .entry)) (now (regions .entry)) (now (owner .entry)) (now (lock .entry))
+        (now (cur .entry)) (now (med .entry)) (now (old .entry)) (now (car .entry))) (now (buffer .entry)) (now (out .entry)) s)
+        (between (boardOf (r .head) (now (threads .exit)) (now (regions .exit)) (now (owner .exit)) (now (lock .exit))
+        (now (cur .exit)) (now (med .exit)) (now (old .exit)) (now (car .exit))) (now (buffer .exit)) (now (out .exit)) r) ⌝ }
 {
     let h = s.head;
     let n = fill(buffer, s.held, s.last);

@@ -1,6 +1,5 @@
 use borrow.Author.Tests.{not-false, not-true}
 use Rattle.trace.specs.Results.{goesOn}
-use borrow.Author.Needs.{needs}
 use Rattle.trace.proofs.goes_on.Statement.{statement}
 use Rattle.trace.proofs.goes_on.Tie as tie
 
