@@ -10,7 +10,8 @@ ghost use Rattle.events.specs.Whole.{recordLength};
 use rules::Event;
 use rules::Reading;
 
-// A kind of event: its word in the readable form, filled up with spaces, how many letters it has, and the widths of the numbers in its body, filled up with zeros.
+// A kind of event: its word in the readable form, filled up with spaces, how many letters it has, and the widths of the numbers in its body, filled up with
+// zeros.
 pub struct KindRow {
     pub word: [u8; LETTERS],
     pub letters: usize,

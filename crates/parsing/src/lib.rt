@@ -8,7 +8,8 @@ ghost use Rattle.rules.specs.Kinds.{wordOf};
 ghost use Rattle.rules.specs.Lists.{place};
 ghost use Rattle.output.specs.Room.{room, puts};
 ghost use Rattle.parsing.specs.Results.{NextWord, ReadsAs, TextReadAs};
-ghost use Rattle.parsing.specs.Read.{stops, same, kindOf, otherLine, mostOf, withDigit, numberIn, widthAt, complete, wordsIn, fieldsFrom, kindBytes, wordsRead, bytesOfText, goodBytes, lastLine};
+ghost use Rattle.parsing.specs.Read.{stops, same, kindOf, otherLine, mostOf, withDigit, numberIn, widthAt, complete};
+ghost use Rattle.parsing.specs.Read.{wordsIn, fieldsFrom, kindBytes, wordsRead, bytesOfText, goodBytes, lastLine};
 
 // Lines that are no event: bytes as they stand, and a first word that means nothing. No kind has these numbers.
 const BYTES_LINE: u8 = 254;

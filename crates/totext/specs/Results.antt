@@ -1,5 +1,5 @@
 -- What a piece of a file leaves, and what the whole run does.
-use Prim.Native.Nat.{suc, ℕ}
+use Prim.Native.Nat.{_<_, _≤_, suc, ℕ}
 use mathlib.Core.Path.{_≡_}
 use mathlib.Core.Bool.{Bool, _&&_, false, true}
 use mathlib.Core.List.{List, [], _++_}
@@ -7,8 +7,9 @@ use mathlib.Core.Logic.{_⊎_}
 use lib.Dec.{leb, ltb}
 use lib.ListN.{drop, getD, length, take}
 use Rattle.events.specs.Whole.{recordLength, wholeLength}
+use Rattle.pieces.specs.Shift.{Refilled}
 use Rattle.printing.specs.Text.{textOf, wholeText}
-use Rattle.rules.specs.Kinds.{lastKind}
+use Rattle.rules.specs.Kinds.{lastKind, longestRecord}
 use Rattle.totext.specs.declared.Left.{Left}
 
 -- a whole record may still come: more was read than was held, and what is left of it begins with a kind, or is empty
@@ -37,7 +38,7 @@ abbrev pub start : Left
 start = record { held = 0; more = true; sent = true }
 
 -- all pieces: they end where none follows (or after as many as a loop counts). Whatever comes behind, f: the text of the file is the one that was handed over, and
--- then that of what is still held, which begins with no whole record
+-- then that of what is still held, which begins with no whole record. Where that is as long as the longest record, no record can come of it: its kind is unknown
 pub record Ran (d d′ : List ℕ) (r : Left) : Type 0 where
   pub turns : ℕ
   pub came : List ℕ
@@ -46,3 +47,17 @@ pub record Ran (d d′ : List ℕ) (r : Left) : Type 0 where
   pub ends : (goesOn r ≡ false) ⊎ (turns ≡ 18446744073709551615)
   pub right : (f : List ℕ) → textOf (came ++ f) ≡ sent ++ textOf (take (r .held) d′ ++ f)
   pub rests : recordLength (take (r .held) d′) ≡ 0
+  pub unknown : longestRecord ≤ length (take (r .held) d′) → lastKind < getD (take (r .held) d′) 0 0
+
+-- what is left of a file, part by part: from a buffer d of which the first n bytes count to d′ and n′, and the bytes that were handed over to be written as numbers
+pub data Parts (d : List ℕ) (n : ℕ) : ℕ → List ℕ → List ℕ → ℕ → Type 0 where
+  none : Parts d n 0 [] d n
+  part : {k m n′ : ℕ} {came e d′ : List ℕ} → Parts d n k came e m → Refilled e d′ 0 n′ → Parts d n (suc k) (came ++ take m e) d′ n′
+
+-- all parts: until nothing more is read (or as many as a loop counts)
+pub record Rested (d d′ : List ℕ) (held : ℕ) : Type 0 where
+  pub turns : ℕ
+  pub came : List ℕ
+  pub left : ℕ
+  pub parts : Parts d held turns came d′ left
+  pub ends : (left ≡ 0) ⊎ (turns ≡ 18446744073709551615)

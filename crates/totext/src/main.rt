@@ -3,12 +3,13 @@
 use output::Cursor;
 ghost use Prim.Native.Nat.{_*_, _≤_};
 ghost use mathlib.Core.Path.{_≡_};
+ghost use mathlib.Core.Bool.{true};
 ghost use lib.ListN.{length, take};
 ghost use Rattle.rules.specs.Lists.{flat};
 ghost use Rattle.rules.specs.Kinds.{bytesWord};
 ghost use Rattle.events.specs.Whole.{recordLength, wholeLength};
 ghost use Rattle.printing.specs.Text.{numberText, wholeText};
-ghost use Rattle.totext.specs.Results.{Pieced, Ran, goesOn, mayCome};
+ghost use Rattle.totext.specs.Results.{Pieced, Ran, Rested, goesOn, mayCome};
 
 // A piece of the file, and its text: a byte is at most 32 bytes of text.
 const PIECE: usize = 4096;
@@ -146,26 +147,38 @@ fn numbers(file: &[u8], n: usize, out: &mut [u8]) -> bool
     send_numbers(&file[..n], out, end)
 }
 
-// Writes what is left of the file as a line of bytes: those that are held, and all that is still to be read.
-fn rest(file: &mut [u8], held: usize, out: &mut [u8])
-    requires { ⌜ (recordLength (take held (now file)) ≡ 0) × (32 * length (now file) ≤ length (now out)) ⌝ }
+// Writes the bytes that are held, and all that is still to be read, as numbers. Answers whether all went out.
+fn rest_numbers(file: &mut [u8], held: usize, out: &mut [u8]) -> bool
+    requires { ⌜ 32 * length (now file) ≤ length (now out) ⌝ }
+    ensures { λ r. ⌜ (r ≡ true → Rested (now (file .entry)) (now (file .exit)) held) ⌝ }
 {
-    if !send_word(b"bytes") {
-        return;
-    }
     let mut n = held;
     let mut turns = u64::MAX;
     while turns > 0 {
         if n == 0 {
-            break;
+            return true;
         }
         if !numbers(file, n, out) {
-            return;
+            return false;
         }
         n = pieces::refill(file, 0);
         turns -= 1;
     }
-    pieces::flush(b"\n", 1);
+    true
+}
+
+// Writes what is left of the file as a line of bytes. Answers whether all went out.
+fn rest(file: &mut [u8], held: usize, out: &mut [u8]) -> bool
+    requires { ⌜ (recordLength (take held (now file)) ≡ 0) × (32 * length (now file) ≤ length (now out)) ⌝ }
+    ensures { λ r. ⌜ (r ≡ true → Rested (now (file .entry)) (now (file .exit)) held) ⌝ }
+{
+    if !send_word(b"bytes") {
+        return false;
+    }
+    if !rest_numbers(file, held, out) {
+        return false;
+    }
+    pieces::flush(b"\n", 1)
 }
 
 fn main() {

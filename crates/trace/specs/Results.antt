@@ -1,29 +1,75 @@
--- What a turn of the program does.
-use Prim.Native.Nat.{ℕ}
+-- What a turn of the program does, and what the whole run does.
+use Prim.Native.Nat.{_≤_, suc, ℕ}
 use mathlib.Core.Path.{_≡_}
-use mathlib.Core.Bool.{Bool}
-use mathlib.Core.List.{List}
+use mathlib.Core.Bool.{Bool, _&&_, _||_, false, not, true}
+use mathlib.Core.List.{List, [], _++_}
+use mathlib.Core.Logic.{_⊎_}
 use lib.Dec.{leb}
 use lib.ListN.{drop, length, take}
-use Rattle.rows.specs.declared.Head.{Head}
-use Rattle.rules.specs.Tables.{Board}
-use Rattle.measures.specs.Loan.{Loan, Rows, left, was}
-use Rattle.rows.specs.Whole.{boardLeft, boardWas}
-use Rattle.tracing.specs.Pieces.{Ran}
+use Rattle.pieces.specs.Shift.{Refilled}
+use Rattle.rules.specs.Record.{recordsOf}
+use Rattle.rules.specs.Tables.{Board, Zero, fresh}
+use Rattle.trace.specs.declared.State.{State}
+use Rattle.tracing.specs.Pieces.{Ran, dueIn, fitting}
+use Rattle.tracing.specs.Text.{traceText}
 use Rattle.tracing.specs.declared.TracedPiece.{TracedPiece}
 
--- from a buffer d, of which `held` bytes are not yet run, and board b to d′, held′ and b′: a piece that begins with those bytes is run, the last one if nothing more
--- was read. Its text is at the front of the output, and what is left of it at the front of the buffer
-pub record Turned (b b′ : Board) (d d′ out out′ : List ℕ) (held held′ : ℕ) : Type 0 where
-  pub piece : List ℕ
-  pub begins : take held piece ≡ take held d
-  pub traced : TracedPiece
-  pub ran : Ran (leb (length piece) held) b b′ piece out out′ 0 traced
-  pub left : take held′ d′ ≡ drop (traced .passed) piece
+-- bytes are read behind those that are held; none where the input has ended
+pub record Filled (d d′ : List ℕ) (held : ℕ) (last : Bool) (r : ℕ) : Type 0 where
+  pub refilled : Refilled d d′ held r
+  pub none : last ≡ true → r ≤ held
 
--- the same of what is lent
-abbrev pub Turns : Head → Head → Loan Rows → Loan Rows → Loan (List ℕ) → Loan (List Bool) → Loan Rows → Loan Rows → Loan Rows → Loan Rows
-    → Loan (List ℕ) → Loan (List ℕ) → ℕ → ℕ → Type 0
-Turns h h′ threads regions owner lock cur med old car buffer out held held′ =
-    Turned (boardWas h threads regions owner lock cur med old car) (boardLeft h′ threads regions owner lock cur med old car)
-    (was buffer) (left buffer) (was out) (left out) held held′
+-- a piece follows: the text went out, and more may come or records found no room
+unfoldable pub goesOn : Bool → Bool → Bool → Bool
+goesOn sent last full = sent && (not last || full)
+
+-- what stands between two pieces: the board, the buffer of the file with the bytes that are not yet run at its front, and the buffer of the text
+pub record Between : Type 0 where
+  pub board : Board
+  pub buffer : List ℕ
+  pub out : List ℕ
+  pub held : ℕ
+  pub last : Bool
+  pub more : Bool
+
+abbrev pub between : Board → List ℕ → List ℕ → State → Between
+between b d o s = record { board = b; buffer = d; out = o; held = s .held; last = s .last; more = s .more }
+
+-- a piece that begins with the bytes that are held is run, the last one if nothing more was read: the input has ended, or the buffer was full. Its text is at the front of the output, and what is left of it at
+-- the front of the buffer. Whether the text went out is the system's choice
+pub record Turned (a b : Between) : Type 0 where
+  pub piece : List ℕ
+  pub begins : take (a .held) piece ≡ take (a .held) (a .buffer)
+  pub still : a .last ≡ true → length piece ≤ a .held
+  pub ends : b .last ≡ leb (length piece) (a .held)
+  pub traced : TracedPiece
+  pub ran : Ran (leb (length piece) (a .held)) (a .board) (b .board) piece (a .out) (b .out) 0 traced
+  pub left : take (b .held) (b .buffer) ≡ drop (traced .passed) piece
+  pub sent : Bool
+  pub told : b .more ≡ goesOn sent (leb (length piece) (a .held)) (traced .full)
+
+-- the text of the records that a piece of which `held` bytes were there before runs
+abbrev pub pieceText : Between → List ℕ → List ℕ
+pieceText a piece =
+    traceText (a .board) (take (fitting (length (a .out)) 0 (a .board) (dueIn (leb (length piece) (a .held)) piece)) (dueIn (leb (length piece) (a .held)) piece))
+
+-- n turns, one after the other: the bytes that came with them, and the text that was handed over to be printed
+pub data Turns (a : Between) : ℕ → List ℕ → List ℕ → Between → Type 0 where
+  stop : Turns a 0 [] [] a
+  turn : {n : ℕ} {came text : List ℕ} {b c : Between} → Turns a n came text b → b .more ≡ true → (t : Turned b c)
+      → Turns a (suc n) (came ++ drop (b .held) (t .piece)) (text ++ pieceText b (t .piece)) c
+
+-- "a program starts with zero memory"
+abbrev pub start : List ℕ → List ℕ → Between
+start d o = record { board = fresh Zero; buffer = d; out = o; held = 0; last = false; more = true }
+
+-- all of the input: turns until none follows (or as many as a loop counts). Whatever comes behind, f, and nothing behind a last piece: the text of the file is
+-- the one that was handed over, and then that of what is still held
+pub record Traces (d d′ o o′ : List ℕ) (r : State) : Type 0 where
+  pub board : Board
+  pub turns : ℕ
+  pub came : List ℕ
+  pub text : List ℕ
+  pub run : Turns (start d o) turns came text (between board d′ o′ r)
+  pub ends : (r .more ≡ false) ⊎ (turns ≡ 18446744073709551615)
+  pub right : (f : List ℕ) → (r .last ≡ true → f ≡ []) → traceText (fresh Zero) (recordsOf (came ++ f)) ≡ text ++ traceText board (recordsOf (take (r .held) d′ ++ f))

@@ -1,7 +1,10 @@
-// Reads an event file on standard input, runs it over zero memory, and prints the text of each event. The file may have any length: it is read in pieces, and in
-// whatever pieces it comes the texts that `tracing::trace_piece` gives make the text of the file (`tracing::pieces_are_right`).
+// Reads an event file on standard input, runs it over zero memory, and prints the text of each event. The file may have any length: it is read in pieces,
+// and in whatever pieces it comes the texts that `tracing::trace_piece` gives make the text of the file (`Traces`).
 use rows::Head;
-ghost use Rattle.trace.specs.Results.{Turns};
+ghost use mathlib.Core.Path.{_≡_};
+ghost use Rattle.measures.specs.Loan.{left, was};
+ghost use Rattle.rows.specs.Whole.{boardLeft, boardWas};
+ghost use Rattle.trace.specs.Results.{Filled, Traces, Turned, between, goesOn};
 
 // A piece of the file: longer than the longest record, so that a full buffer without a whole record begins with an unknown kind, which ends the file.
 const PIECE: usize = 65536;
@@ -9,11 +12,39 @@ const PIECE: usize = 65536;
 // Text that is not yet written: room for the longest text of an event, and as much again.
 const TEXT: usize = 2 * tracing::LONGEST_TEXT;
 
-// What stands between two pieces: the numbers beside the rows, how many bytes at the front of the buffer are not yet run, and whether more is to run.
+// What stands between two pieces: the numbers beside the rows, how many bytes at the front of the buffer are not yet run, whether the input has ended, and
+// whether more is to run.
 struct State {
     head: Head,
     held: usize,
+    last: bool,
     more: bool,
+}
+
+// Reads on behind the bytes that are held, unless the input has ended. Answers how many bytes the buffer then holds.
+fn fill(buffer: &mut [u8], held: usize, last: bool) -> usize
+    ensures { λ r. ⌜ Filled (now (buffer .entry)) (now (buffer .exit)) held last r ⌝ }
+{
+    if !last {
+        return pieces::refill(buffer, held);
+    }
+    if held < buffer.len() {
+        return held;
+    }
+    buffer.len()
+}
+
+// Whether a piece follows: after the last one only if records found no room.
+fn goes_on(sent: bool, last: bool, full: bool) -> bool
+    ensures { λ r. ⌜ r ≡ goesOn sent last full ⌝ }
+{
+    if !sent {
+        return false;
+    }
+    if !last {
+        return true;
+    }
+    full
 }
 
 // Reads a piece behind the bytes that are held, runs it, prints its text, and keeps what is left. Where nothing more is read, it is the last one.
@@ -30,10 +61,11 @@ fn turn(
     buffer: &mut [u8],
     out: &mut [u8],
 ) -> State
-    ensures { λ r. ⌜ Turns (s .head) (r .head) threads regions owner lock cur med old car buffer out (s .held) (r .held) ⌝ }
+    ensures { λ r. ⌜ Turned (between (boardWas (s .head) threads regions owner lock cur med old car) (was buffer) (was out) s)
+        (between (boardLeft (r .head) threads regions owner lock cur med old car) (left buffer) (left out) r) ⌝ }
 {
     let h = s.head;
-    let n = pieces::refill(buffer, s.held);
+    let n = fill(buffer, s.held, s.last);
     let last = n <= s.held;
     let r = tracing::trace_piece(
         h,
@@ -55,20 +87,15 @@ fn turn(
     State {
         head: g,
         held: pieces::shift(buffer, r.passed, n),
+        last,
         more: goes_on(sent, last, r.full),
     }
 }
 
-// After the last piece only records that found no room are left.
-fn goes_on(sent: bool, last: bool, full: bool) -> bool {
-    if sent {
-        return !last || full;
-    }
-    false
-}
-
 // All of the input. A proved loop has to end, and nothing says that the input does: the loop counts its turns down, from a number that no run uses up.
-fn trace(buffer: &mut [u8], out: &mut [u8]) {
+fn trace(buffer: &mut [u8], out: &mut [u8]) -> State
+    ensures { λ r. ⌜ Traces (now (buffer .entry)) (now (buffer .exit)) (now (out .entry)) (now (out .exit)) r ⌝ }
+{
     let mut threads = [[0u64; 34]; 8];
     let mut regions = [[0u32; 16]; 32];
     let mut owner = [0u32; 256];
@@ -80,6 +107,7 @@ fn trace(buffer: &mut [u8], out: &mut [u8]) {
     let mut s = State {
         head: starting::fresh_head(true, 0),
         held: 0,
+        last: false,
         more: true,
     };
     let mut turns = u64::MAX;
@@ -99,6 +127,7 @@ fn trace(buffer: &mut [u8], out: &mut [u8]) {
         );
         turns -= 1;
     }
+    s
 }
 
 fn main() {

@@ -1,11 +1,11 @@
 use native.Mathlib.Nat.{zero-add}
 use Rattle.events.specs.declared.KindRow.{KindRow}
 use native.Mathlib.Omega.{arith}
-use mathlib.Core.Path.{_∙_, _≡_, ap, sym}
+use mathlib.Core.Path.{_∙_, _≡_, ap}
 use Prim.Native.Nat.{_+_, _-_, _≤_}
 use lib.ListN.{drop, length}
 use Rattle.rules.specs.Kinds.{total, widthsOf}
-use Rattle.events.specs.Row.{mostFields, padded}
+use Rattle.events.specs.Row.{mostFields}
 use Rattle.events.proofs.Table.{body-total, fitting, pad-length, pad-total, total-end, total-next}
 use borrow.Author.Needs.{needs}
 use Rattle.events.proofs.body_length.Statement.{statement}

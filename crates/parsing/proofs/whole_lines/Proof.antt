@@ -1,6 +1,6 @@
 use native.Mathlib.Omega.{arith}
-use Prim.Native.Nat.{_-_, _<_, _≤_}
-use mathlib.Core.Path.{_∙_, _≡_, ap, refl, sym}
+use Prim.Native.Nat.{_≤_}
+use mathlib.Core.Path.{_∙_, _≡_, ap, sym}
 use lib.ListN.{length, take}
 use lib.Seq.{take-length}
 use Rattle.parsing.proofs.Lines.{last-back, last-found, last-none}

@@ -1,7 +1,5 @@
 use native.Mathlib.Omega.{arith}
 use mathlib.Core.Path.{_∙_, _≡_, sym}
-use Prim.Native.Nat.{_≤_, _+_}
-use lib.ListN.{length}
 use Rattle.lines.proofs.Room.{word-room}
 use Rattle.lines.proofs.Words.{num-two}
 use Rattle.printing.proofs.Fields.{is-eight, num-one}

@@ -1,7 +1,7 @@
 use native.Mathlib.Omega.{arith}
 use mathlib.Core.Path.{_∙_, _≡_, refl, sym}
 use Prim.Native.Nat.{_+_, _-_, _<_, _≤_}
-use lib.ListN.{drop, getD, length}
+use lib.ListN.{drop, length}
 use Rattle.events.proofs.Table.{body-total, fitting, total-next}
 use Rattle.output.specs.Room.{puts, room}
 use Rattle.printing.specs.Text.{numberText, numbersOf}

@@ -1,5 +1,5 @@
 use native.Mathlib.Omega.{arith}
-use mathlib.Core.Path.{_∙_, _≡_, sym}
+use mathlib.Core.Path.{sym}
 use lib.Seq.{length-take-le}
 use Rattle.events.proofs.Table.{row-letters, row-long, row-word}
 use borrow.Author.Needs.{needs}

@@ -1,4 +1,3 @@
-use mathlib.Core.Path.{_∙_}
 use native.Mathlib.Omega.{arith}
 use Rattle.parsing.proofs.Lines.{last-in}
 use Rattle.tobytes.specs.Results.{lineEnd}

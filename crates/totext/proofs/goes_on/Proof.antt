@@ -1,5 +1,4 @@
 use Rattle.totext.specs.Results.{goesOn}
-use borrow.Author.Needs.{needs}
 use Rattle.totext.proofs.goes_on.Statement.{statement}
 use Rattle.totext.proofs.goes_on.Tie as tie
 
