@@ -3,7 +3,7 @@
 //     lent 128 7              right behind the name: the board is over lent memory, of 128 bytes 7 (at most 16,448)
 //     write 1 0 0 7 = 17 0    an event in the form of crate text, and the refusal and value that its answer must have; no event is the empty record
 //     ( .. ) 9                the lines between stand ten times
-// Behind its events a case has calls on them as one file, and lines about one buffer, which begins as zeros and holds an image:
+// Behind events a case has calls on them as one file, and lines about one buffer, which begins as zeros and holds an image:
 //     answers 90 = 0 10       the file's answers into the first 90 bytes
 //     image 152 = 0 152       the image into the first 152 bytes; it is the image then
 //     record 34 0 1 0 0       a record more behind the image: its kind, its first bytes, and zeros
@@ -15,7 +15,6 @@
 // Prints a line for each case, then how many there are and how many are right. A line in no form makes its case wrong.
 use rows::Head;
 use rules::Answer;
-use steps::Outcome;
 use trying::Due;
 use trying::Total;
 ghost use Prim.Native.Nat.{_≤_};
@@ -322,10 +321,46 @@ fn scored(s: Score, judged: bool, ok: bool, a: Answer, line: &[u8]) -> Score {
     judge(s, a, trying::due_of(line))
 }
 
-fn with_event(t: Tried, r: EventRead, o: Outcome, line: &[u8]) -> Tried {
+// The next line of a case: where it stands, its word, first byte and first number, where the line behind it is, whether the case is over, and its event.
+struct Next {
+    start: usize,
+    end: usize,
+    word: usize,
+    first: u8,
+    count: u64,
+    next: usize,
+    over: bool,
+    ev: EventRead,
+}
+
+fn ends_case(last: bool, word: usize) -> bool {
+    last || word == CASE
+}
+
+fn next_line(text: &[u8], at: usize, file: &mut [u8], from: usize) -> Next
+    ensures { λ r. ⌜ ((r .start ≤ r .end) × (r .end ≤ length (now (text .entry)))) × ((r .ev .at ≤ r .ev .end) × (r .ev .end ≤ length (now (file .exit)))) ⌝ }
+{
+    let l = line_at(text, at);
+    let a = l.start;
+    let b = l.end;
+    let line = &text[a..b];
+    let word = word_of(line);
+    let first = byte_at(line, 0);
+    let read = read_event(file, from, is_event(word, first), line);
+    Next {
+        start: a,
+        end: b,
+        word: word,
+        first: first,
+        count: trying::number(line, 0),
+        next: l.next,
+        over: ends_case(l.last, word),
+        ev: read,
+    }
+}
+
+fn with_event(t: Tried, r: EventRead, h: Head, a: Answer, line: &[u8]) -> Tried {
     let s = t.score;
-    let h = o.head;
-    let a = o.answer;
     Tried {
         head: h,
         score: scored(s, r.event, r.ok, a, line),
@@ -518,8 +553,26 @@ fn print_right(right: bool) {
     }
 }
 
-fn ends_case(last: bool, word: usize) -> bool {
-    last || word == CASE
+// A case behind a line, whose event leaves h and has the answer a.
+fn with_line(
+    t: Tried,
+    n: Next,
+    h: Head,
+    a: Answer,
+    text: &[u8],
+    file: &[u8],
+    memory: &[u8],
+    out: &mut [u8],
+    place: &mut [u8],
+) -> Tried
+    requires { ⌜ (n .start ≤ n .end) × (n .end ≤ length (now text)) ⌝ }
+{
+    let i = n.start;
+    let j = n.end;
+    let line = &text[i..j];
+    let r = n.ev;
+    let e = with_event(t, r, h, a, line);
+    try_call(e, n.word, line, file, memory, out, place)
 }
 
 // The lines of a case, from `from` on. No run uses up the count of lines.
@@ -546,16 +599,11 @@ fn run_lines(
     let mut s = spot_at(from);
     let mut lines = u64::MAX;
     while lines > 0 {
-        let l = line_at(text, s.at);
-        let a = l.start;
-        let b = l.end;
-        let line = &text[a..b];
-        let word = word_of(line);
-        if ends_case(l.last, word) {
+        let n = next_line(text, s.at, file, t.file);
+        if n.over {
             break;
         }
-        let first = byte_at(line, 0);
-        let r = read_event(file, t.file, is_event(word, first), line);
+        let r = n.ev;
         let i = r.at;
         let j = r.end;
         let h = t.head;
@@ -571,9 +619,10 @@ fn run_lines(
             &mut car,
             &file[i..j],
         );
-        t = with_event(t, r, o, line);
-        t = try_call(t, word, line, file, memory, out, place);
-        s = spot_behind(s, first, trying::number(line, 0), l.next);
+        let g = o.head;
+        let a = o.answer;
+        t = with_line(t, n, g, a, text, file, memory, out, place);
+        s = spot_behind(s, n.first, n.count, n.next);
         lines -= 1;
     }
     let q = t.score;
