@@ -17,7 +17,8 @@ use Rattle.rules.specs.Tables.{noRegion}
 use Rattle.rules.specs.declared.Region.{Region}
 use Rattle.rules.specs.declared.Slot.{Slot}
 use Rattle.lookup.proofs.Map.{map-end, map-more, mapped}
-use Rattle.rows.proofs.Laws.{got, map-set, or-false}
+use Rattle.rows.proofs.Laws.{got, map-set}
+use Rattle.rules.proofs.Lists.{or-none}
 use Rattle.rows.specs.Row.{regionOf, regionsOf, slotOf, word}
 use Rattle.commits.specs.Ripe.{ripe}
 
@@ -71,10 +72,10 @@ unfolding doneRegion
 done-same r e = ap (λ d. withDone d r) e
 
 pub done-open : (r : Region) → r .ended ≡ false → r ≡ doneRegion r
-done-open r e = sym (done-same r (rw e (or-false (r .done))))
+done-open r e = sym (done-same r (rw e (or-none (r .done))))
 
 pub done-slot : (r : Region) → hasSlot r ≡ true → r ≡ doneRegion r
-done-slot r e = sym (done-same r (test (r .ended) (λ f. rw (f, e) (or-false (r .done))) (λ f. rw f (or-false (r .done)))))
+done-slot r e = sym (done-same r (test (r .ended) (λ f. rw (f, e) (or-none (r .done))) (λ f. rw f (or-none (r .done)))))
 
 -- ---- a commit: nothing is left of the committed region, of another all but its dependence on that one
 

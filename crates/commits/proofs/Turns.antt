@@ -14,7 +14,7 @@ use Rattle.rules.specs.Slots.{hasSlot}
 use Rattle.rules.specs.Tables.{isHeld, noRegion, threadAt, threadOf, withRegions}
 use Rattle.rules.specs.declared.Region.{Region}
 use Rattle.rules.specs.declared.Tables.{Tables}
-use Rattle.rows.proofs.Laws.{or-false as or-none}
+use Rattle.rules.proofs.Lists.{or-none}
 use Rattle.commits.specs.Ripe.{ripe}
 use Rattle.commits.proofs.Row.{done-same}
 

@@ -10,9 +10,9 @@ use lib.Seq.{getD-set-other, getD-set-same}
 use borrow.Author.Tests.{eqb-false, eqb-true, le-ltb, lt-ltb, not-false}
 use Rattle.judging.proofs.Bits.{bit-below, meet-if, meet-or}
 use Rattle.judging.specs.Marks.{anyPair, isUnlisted}
-use Rattle.judging.specs.Reach.{apartFrom, bitIf, clashBy, isApart, isRegion, meet, placeIn, placesOn}
-use Rattle.rules.proofs.Lists.{place-lt}
 use Rattle.faults.specs.Faults.{isRegion, placeIn}
+use Rattle.judging.specs.Reach.{apartFrom, bitIf, clashBy, isApart, meet, placesOn}
+use Rattle.rules.proofs.Lists.{place-lt}
 use Rattle.lookup.proofs.Search.{any-place}
 use Rattle.rules.specs.Contradiction.{isListed}
 use Rattle.rules.specs.declared.Listed.{Listed}

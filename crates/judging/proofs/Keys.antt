@@ -4,11 +4,11 @@ use mathlib.Core.Path.{_∙_, _≡_, ap, fun-ext, refl}
 use mathlib.Core.List.{List, [], _∷_, map}
 use lib.Dec.{eqb}
 use lib.ListN.{length, length-map, take}
-use Rattle.judging.specs.Marks.{isFaulty, isUnlisted}
-use Rattle.judging.specs.Reach.{clashBy, isRegion, isRound, keyed, linkOf, linksOf, placeIn, tableBy, tangledBy}
-use Rattle.rules.proofs.Lists.{any-map, place-map}
 use Rattle.faults.proofs.Keys.{keyed-listed, keyed-long, keyed-place}
+use Rattle.judging.specs.Marks.{isUnlisted}
 use Rattle.faults.specs.Faults.{isFaulty, isRegion, keyed, placeIn}
+use Rattle.judging.specs.Reach.{clashBy, isRound, linkOf, linksOf, tableBy, tangledBy}
+use Rattle.rules.proofs.Lists.{any-map, place-map}
 use Rattle.rules.specs.Contradiction.{isAstray, isListed}
 use Rattle.rules.specs.declared.Listed.{Listed}
 use Rattle.rules.specs.declared.Mark.{Mark}
