@@ -547,9 +547,15 @@ struct Done {
     at: usize,
 }
 
-fn print_right(right: bool) {
-    if right {
+// A case behind its last line.
+fn finished(s: Score, at: usize) -> Done {
+    if s.right {
         io::write_all(1, b": ok\n");
+    }
+    Done {
+        case: true,
+        right: s.right,
+        at: at,
     }
 }
 
@@ -626,12 +632,7 @@ fn run_lines(
         lines -= 1;
     }
     let q = t.score;
-    print_right(q.right);
-    Done {
-        case: true,
-        right: q.right,
-        at: s.at,
-    }
+    finished(q, s.at)
 }
 
 // The buffer of a case; an image has at most 34,853 bytes.

@@ -74,8 +74,8 @@ loop-again c =
     let k = tried c .with-line .kept .1 .1 .1 .1 .1 .1 .1 in
     (read c .next-line .kept .1 .1 .0 ∙ v .0, (k .0 ∙ v .1 .0, k .1 .0 ∙ v .1 .1))
 
-print-right-requires : tie.Need-print-right-requires Inv-loop μ-loop
-print-right-requires c κs = search needs
+finished-requires : tie.Need-finished-requires Inv-loop μ-loop
+finished-requires c κs = search needs
 
 same-length : tie.Need-same-length Inv-loop μ-loop
 same-length c =
@@ -113,7 +113,7 @@ run-lines-spec =
     sub-lines
     loop-less
     loop-again
-    print-right-requires
+    finished-requires
     same-length
     same-length-2
     same-length-3
