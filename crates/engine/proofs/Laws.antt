@@ -1,7 +1,7 @@
 -- An event of document 01 from its rule, and its answer.
 use Prim.Native.Nat.{suc, zero, ℕ}
 use mathlib.Core.Path.{_≡_, refl}
-use mathlib.Core.Bool.{cond}
+use mathlib.Core.Bool.{cond, true}
 use mathlib.Core.List.{List}
 use lib.ListN.{getD, length}
 use borrow.Author.Tests.{eq-eqb, ne-eqb}
@@ -16,7 +16,7 @@ use Rattle.rules.specs.Lists.{count}
 use Rattle.rules.specs.Record.{readRecord}
 use Rattle.rules.specs.Refusal.{depthOf, isOfThread, refusal}
 use Rattle.rules.specs.Step.{Stepped, apply, did, fence, settledBoard, step, stepBy, stepEvent}
-use Rattle.rules.specs.Tables.{Board, current, isHeld, lineOf, withTables}
+use Rattle.rules.specs.Tables.{Board, current, isHeld, lineOf, withCut, withTables}
 use Rattle.rules.specs.declared.Event.{Event}
 use Rattle.rules.specs.declared.Event.the-variants.{Begin, Cut, End, Fence, Read}
 use Rattle.rules.specs.declared.Reading.{Reading}

@@ -1,6 +1,6 @@
 use mathlib.Core.Path.{_∙_, ap}
 use borrow.Author.Needs.{needs}
-use Rattle.rules.specs.Access.{stored}
+use Rattle.rules.specs.Access.{stored, storedIn}
 use Rattle.rules.specs.Tables.{ownerOf}
 use Rattle.rules.specs.declared.Region.{Region}
 use Rattle.rows.specs.Row.{regionsOf}
