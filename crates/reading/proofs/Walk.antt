@@ -1,5 +1,5 @@
 -- The walk over the records: what the tables and counts hold after each.
-use Prim.Native.Nat.{_+_, _<_, _≤_, suc, ℕ}
+use Prim.Native.Nat.{_%_, _+_, _<_, _≤_, suc, ℕ}
 use mathlib.Core.Path.{_∙_, _≡_, ap, refl, sym}
 use mathlib.Core.Bool.{_&&_, false≢true, true}
 use mathlib.Core.List.{List, [], _++_, _∷_}
@@ -305,7 +305,7 @@ module _ {src : List ℕ} {s : Tally} {rs : List Listed} {es : List Mark} {at : 
       omega (arith, length-drop at src)
 
   pub went-entry : (k l : ℕ) → itemOf s (drop at src) ≡ Entry k l
-      → Went src (afterEntry s k) rs (set es (s .logged) (record { key = k; line = l; at = at + 5 })) at
+      → Went src (afterEntry s k) rs (set es (s .logged) (record { key = k; line = l; at = (at + 5) % 65536 })) at
   unfolding tallyOf
   went-entry k l e =
       let p = r .state in

@@ -358,7 +358,7 @@ fn listed_of(key: u32, state: u8, a: u32, b: u32, c: u32, d: u32) -> Listed
 }
 
 // A log entry out of the numbers of its record and the place of its old line.
-fn mark_of(key: u32, line: u8, at: usize) -> Mark
+fn mark_of(key: u32, line: u8, at: u16) -> Mark
     ensures { λ r. ⌜ r ≡ record { key = key; line = line; at = at } ⌝ }
 {
     Mark {
@@ -422,7 +422,7 @@ pub fn read_records(src: &[u8]) -> Read
             }
             Item::Entry(key, line) => {
                 let i = s.logged;
-                log[i] = mark_of(key, line, at + 5);
+                log[i] = mark_of(key, line, ((at + 5) % 65536) as u16);
                 s = after_entry(s, key);
             }
             Item::End => {

@@ -1,5 +1,5 @@
 -- The entry that a step puts back, by its place in the log, and what the step then leaves.
-use Prim.Native.Nat.{_*_, _+_, _<_, _≤_, suc, zero, ℕ}
+use Prim.Native.Nat.{_%_, _*_, _+_, _<_, _≤_, suc, zero, ℕ}
 use mathlib.Core.Path.{_∙_, _≡_, ap, refl, sym}
 use mathlib.Core.Bool.{Bool, cond, false, true}
 use mathlib.Core.List.{List, [], _∷_, map}
@@ -15,7 +15,7 @@ use Rattle.reading.specs.Scan.{readOf, scanOf}
 use Rattle.reading.specs.declared.Read.{Read}
 use Rattle.reading.specs.declared.Scan.{Scan}
 use Rattle.recovery.proofs.Accepted.{image-said, log-front, logged-few, reads-plain, refuses-plain, regions-front, scan-read, stateRead}
-use Rattle.recovery.proofs.Places.{line-inside}
+use Rattle.recovery.proofs.Places.{image-short, line-inside}
 use Rattle.recovery.proofs.Steps.{step-more, step-past, step-refused}
 use Rattle.recovery.specs.Places.{foundAt, moreOf}
 use Rattle.rules.proofs.Codec.Image.{only-image, read-records, read-valid}
@@ -162,8 +162,14 @@ module _ (bs : List ℕ) (bytes : all isByte bs ≡ true) (r : Read) (e : r ≡ 
       old-is : (lineAt bs (getD (oldsIn bs) i 0) ≡ getD (state .log) i noLogged .old) × (getD (oldsIn bs) i 0 + 64 ≤ length bs)
       old-is = stand-at (olds-stand bs state records-read) i noLogged in-log
 
+      -- which is below 65536
+      place-small : getD (oldsIn bs) i 0 % 65536 ≡ getD (oldsIn bs) i 0
+      place-small =
+          let n : length bs ≤ 34853 = rw (only-image bs state bytes state-reads) at (image-short state (read-valid bs state bytes state-reads) (state-few .1)) in
+          omega (arith, old-is .1)
+
       pub old-room : (d : Mark) → getD (r .scan .log) i d .at + 64 ≤ length bs
-      old-room d = rw (found-mark d) (old-is .1)
+      old-room d = rw (found-mark d, place-small) (old-is .1)
 
       pub line-room : (d : Mark) → lineStart (getD (r .scan .log) i d .line) + 64 ≤ length bs
       line-room d = rw (found-mark d) (rw (only-image bs state bytes state-reads) at (line-inside state (read-valid bs state bytes state-reads) i in-log))
@@ -179,5 +185,6 @@ module _ (bs : List ℕ) (bytes : all isByte bs ≡ true) (r : Read) (e : r ≡ 
             add-one at,
             more-found (oldsIn bs) (r .scan) state scan-is state-few (suc at),
             found-mark d,
+            place-small,
             old-is .0,
           )

@@ -101,7 +101,7 @@ fn restore_read(image: &mut [u8], read: Read, at: u64) -> Walked
     };
     let log = scan.log;
     let mark = log[i];
-    put_back(image, mark.line as usize, mark.at);
+    put_back(image, mark.line as usize, mark.at as usize);
     let next = at + 1;
     let left = more(found_at(order, scan, next));
     Walked {

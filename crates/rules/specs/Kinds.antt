@@ -1,5 +1,6 @@
--- "Event records. One byte of kind, then a body whose length the kind fixes; numbers are little-endian. 0 setup: T (1 byte), L (2). 1 begin: thread (1). 2 end: thread.
--- 3 read: thread, line, word (1 each). 4 write: thread, line, word, value (8). 5 log acknowledgement: line. 6 data acknowledgement: line. 7 fence: thread. 8 cut: empty."
+-- "Event records. One byte of kind, then a body whose length the kind fixes; numbers are little-endian. 0 setup: T (1 byte), L (2). 1 begin: thread (1).
+-- 2 end: thread. 3 read: thread, line, word (1 each). 4 write: thread, line, word, value (8). 5 log acknowledgement: line. 6 data acknowledgement: line.
+-- 7 fence: thread. 8 cut: empty."
 -- The one table of kinds: everything about the form of an event record is read from it.
 use Prim.Native.Nat.{_+_, _-_, suc, ℕ}
 use mathlib.Core.Bool.{cond}

@@ -1,5 +1,5 @@
 -- A log entry of an image as the programs hold it: by its region and line, and by the place where its old line stands.
-use Prim.Native.Nat.{_+_, suc, zero, ℕ}
+use Prim.Native.Nat.{_%_, _+_, suc, zero, ℕ}
 use mathlib.Core.Bool.{cond}
 use mathlib.Core.List.{List, [], _∷_}
 use lib.Dec.{eqb}
@@ -8,9 +8,9 @@ use Rattle.rules.specs.Image.{Logged}
 use Rattle.rules.specs.Reader.{imageBody}
 use Rattle.rules.specs.declared.Mark.{Mark}
 
--- the entry whose old line stands at a place
+-- the entry whose old line stands at a place; in an image that is accepted all places are below 65536
 abbrev pub markAt : ℕ → Logged → Mark
-markAt a e = record { key = e .key; line = e .line; at = a }
+markAt a e = record { key = e .key; line = e .line; at = a % 65536 }
 
 -- a free place of a table
 abbrev pub noMark : Mark

@@ -8,6 +8,7 @@ use Rattle.rules.specs.Bytes.{lineAt, numOf}
 use Rattle.rules.specs.Contradiction.{contradicts}
 use Rattle.rules.specs.Image.{Logged, Persistent}
 use Rattle.rules.specs.Lists.{all, count}
+use Rattle.rules.specs.Measures.{mostEntries, mostRegions}
 use Rattle.rules.specs.Refusal.{inRange}
 use Rattle.rules.specs.Tables.{keyOf, threadOf}
 use Rattle.rules.specs.declared.Listed.{Listed}
@@ -90,7 +91,7 @@ unfoldable pub listedTurn : Persistent → Listed → Turn Persistent
 listedTurn p r =
     cond (all (isKnownThread (p .threads)) (r .key ∷ r .deps))
     (cond (eqb (length (p .regions)) 0 || ltb (lastListed (p .regions)) (r .key))
-    (cond (ltb (length (p .regions)) 32)
+    (cond (ltb (length (p .regions)) mostRegions)
     (Next (record { threads = p .threads; lines = p .lines; medium = p .medium; regions = p .regions ++ (r ∷ []); log = p .log }))
     (Stop 7)) (Stop 7)) (Stop 3)
 
@@ -110,7 +111,7 @@ loggedTurn p e =
     cond (isKnownThread (p .threads) (e .key))
     (cond (ltb (e .line) (p .lines))
     (cond (leb (lastLogged (p .log)) (e .key))
-    (cond (ltb (count (isLoggedBy (threadOf (e .key))) (p .log)) 32)
+    (cond (ltb (count (isLoggedBy (threadOf (e .key))) (p .log)) mostEntries)
     (Next (record { threads = p .threads; lines = p .lines; medium = p .medium; regions = p .regions; log = p .log ++ (e ∷ []) }))
     (Stop 7)) (Stop 7)) (Stop 4)) (Stop 3)
 

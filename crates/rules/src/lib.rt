@@ -101,11 +101,11 @@ pub struct Listed {
     pub deps: [u32; measures::MOST_DEPS],
 }
 
-// A log entry of an image by its region and line; its old line stays in the image, at the place `at`.
+// A log entry of an image by its region and line; its old line stays in the image, at the place `at`. No image that is accepted has 65536 bytes.
 pub struct Mark {
     pub key: u32,
     pub line: u8,
-    pub at: usize,
+    pub at: u16,
 }
 
 // Demand 3: after every list of events, an accepted cut, and every list of recovery steps and cuts, recovery leaves the expected memory.

@@ -104,6 +104,9 @@ enum-known-item-4 c = search needs
 add-mark-of : tie.Need-add-mark-of Inv-loop μ-loop
 add-mark-of c = let h = entry-inside (c .before .before .before .before .before .loop .inv) _ _ (here (c .before .before .before) _ (c .before .item4 .given .1)) in record { fits = omega arith }
 
+cast-mark-of : tie.Need-cast-mark-of Inv-loop μ-loop
+cast-mark-of c = search needs
+
 mark-of-requires-2 : tie.Need-mark-of-requires-2 Inv-loop μ-loop
 mark-of-requires-2 c κs = search needs
 
@@ -171,6 +174,7 @@ read-records-spec =
     after-region-requires
     enum-known-item-4
     add-mark-of
+    cast-mark-of
     mark-of-requires-2
     mul-log
     array-set-from-log

@@ -92,9 +92,12 @@ array-copy-out-mark c = omega (arith, few c, inside c)
 cast-put-back : tie.Need-cast-put-back
 cast-put-back c = search needs
 
+cast-put-back-2 : tie.Need-cast-put-back-2
+cast-put-back-2 c = search needs
+
 put-back-requires : tie.Need-put-back-requires
 put-back-requires c κs =
-    let l = c .before .before .before in
+    let l = c .before .before .before .before in
     let k = start l in (
       line-room (image k) (bytes k) (read k) (k .before .pre) (place k) (accepted l) (index l) (found l) noMark,
       old-room (image k) (bytes k) (read k) (k .before .pre) (place k) (accepted l) (index l) (found l) noMark,
@@ -102,7 +105,7 @@ put-back-requires c κs =
 
 add-next : tie.Need-add-next
 add-next c =
-    let l = c .before .before .before .before .before .before in
+    let l = c .before .before .before .before .before .before .before in
     let k = start l in
     let h = at-small (image k) (bytes k) (read k) (k .before .pre) (place k) (accepted l) (index l) (found l) in
     record { fits = omega arith }
@@ -119,7 +122,7 @@ same-length c = search needs
 returns-3 : tie.Need-returns-3
 returns-3 c =
     let o = c .before .before .before .before in
-    let l = o .before .before .before .before in
+    let l = o .before .before .before .before .before in
     let k = start l in
     rw (c .more .ensures)
     (leaves-more (image k) (bytes k) (read k) (k .before .pre) (place k) (accepted l) (index l) (found l) noMark _ _
@@ -140,6 +143,7 @@ restore-read-spec =
     mul-mark
     array-copy-out-mark
     cast-put-back
+    cast-put-back-2
     put-back-requires
     add-next
     found-at-requires-2
