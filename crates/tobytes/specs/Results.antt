@@ -55,8 +55,8 @@ pub data Run (d : List ℕ) (s : Left) : ℕ → List ℕ → List ℕ → List 
 abbrev pub start : Left
 start = record { held = 0; read = 0; form = true; sent = true; last = false }
 
--- all pieces: they end where none follows (or after as many as a loop counts). Whatever comes behind, f, and nothing where the input has ended: the bytes that were
--- handed over are those of the text's lines in the form, and if all were, those of what is still held follow
+-- all pieces: they end where none follows (or after as many as a loop counts). Whatever comes behind, f, and nothing where the input has ended: the bytes
+-- that were handed over are those of the text's lines in the form, and if all were, those of what is still held follow
 pub record Ran (d d′ : List ℕ) (r : Left) : Type 0 where
   pub turns : ℕ
   pub came : List ℕ

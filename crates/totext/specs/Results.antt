@@ -37,8 +37,9 @@ pub data Run (d : List ℕ) (s : Left) : ℕ → List ℕ → List ℕ → List 
 abbrev pub start : Left
 start = record { held = 0; more = true; sent = true }
 
--- all pieces: they end where none follows (or after as many as a loop counts). Whatever comes behind, f: the text of the file is the one that was handed over, and
--- then that of what is still held, which begins with no whole record. Where that is as long as the longest record, no record can come of it: its kind is unknown
+-- all pieces: they end where none follows (or after as many as a loop counts). Whatever comes behind, f: the text of the file is the one that was handed
+-- over, and then that of what is still held, which begins with no whole record. Where that is as long as the longest record, no record can come of it: its
+-- kind is unknown
 pub record Ran (d d′ : List ℕ) (r : Left) : Type 0 where
   pub turns : ℕ
   pub came : List ℕ
@@ -49,7 +50,8 @@ pub record Ran (d d′ : List ℕ) (r : Left) : Type 0 where
   pub rests : recordLength (take (r .held) d′) ≡ 0
   pub unknown : longestRecord ≤ length (take (r .held) d′) → lastKind < getD (take (r .held) d′) 0 0
 
--- what is left of a file, part by part: from a buffer d of which the first n bytes count to d′ and n′, and the bytes that were handed over to be written as numbers
+-- what is left of a file, part by part: from a buffer d of which the first n bytes count to d′ and n′, and the bytes that were handed over to be written as
+-- numbers
 pub data Parts (d : List ℕ) (n : ℕ) : ℕ → List ℕ → List ℕ → ℕ → Type 0 where
   none : Parts d n 0 [] d n
   part : {k m n′ : ℕ} {came e d′ : List ℕ} → Parts d n k came e m → Refilled e d′ 0 n′ → Parts d n (suc k) (came ++ take m e) d′ n′

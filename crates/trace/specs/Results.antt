@@ -35,8 +35,8 @@ pub record Between : Type 0 where
 abbrev pub between : Board → List ℕ → List ℕ → State → Between
 between b d o s = record { board = b; buffer = d; out = o; held = s .held; last = s .last; more = s .more }
 
--- a piece that begins with the bytes that are held is run, the last one if nothing more was read: the input has ended, or the buffer was full. Its text is at the front of the output, and what is left of it at
--- the front of the buffer. Whether the text went out is the system's choice
+-- a piece that begins with the bytes that are held is run, the last one if nothing more was read: the input has ended, or the buffer was full. Its text is at
+-- the front of the output, and what is left of it at the front of the buffer. Whether the text went out is the system's choice
 pub record Turned (a b : Between) : Type 0 where
   pub piece : List ℕ
   pub begins : take (a .held) piece ≡ take (a .held) (a .buffer)

@@ -1,5 +1,10 @@
 // Reads an event file on standard input, runs it over zero memory, and prints the text of each event. The file may have any length: it is read in pieces,
 // and in whatever pieces it comes the texts that `tracing::trace_piece` gives make the text of the file (`Traces`).
+use measures::Lines;
+use measures::Locks;
+use measures::Owners;
+use measures::Regions;
+use measures::Threads;
 use rows::Head;
 ghost use mathlib.Core.Path.{_≡_};
 ghost use Rattle.measures.specs.Loan.{left, was};
@@ -50,14 +55,14 @@ fn goes_on(sent: bool, last: bool, full: bool) -> bool
 // Reads a piece behind the bytes that are held, runs it, prints its text, and keeps what is left. Where nothing more is read, it is the last one.
 fn turn(
     s: State,
-    threads: &mut [[u64; 34]; 8],
-    regions: &mut [[u32; 16]; 32],
-    owner: &mut [u32; 256],
-    lock: &mut [bool; 256],
-    cur: &mut [[u64; 8]; 256],
-    med: &mut [[u64; 8]; 256],
-    old: &mut [[u64; 8]; 256],
-    car: &mut [[u64; 8]; 256],
+    threads: &mut Threads,
+    regions: &mut Regions,
+    owner: &mut Owners,
+    lock: &mut Locks,
+    cur: &mut Lines,
+    med: &mut Lines,
+    old: &mut Lines,
+    car: &mut Lines,
     buffer: &mut [u8],
     out: &mut [u8],
 ) -> State

@@ -1,4 +1,9 @@
 // The text that a trace prints: a line for each answer, and behind an accepted cut a line for each word of the recovered memory that is not zero.
+use measures::Lines;
+use measures::Locks;
+use measures::Owners;
+use measures::Regions;
+use measures::Threads;
 use output::Cursor;
 use rows::Head;
 use rules::Answer;
@@ -19,10 +24,10 @@ fn saved_words(
     dst: &mut [u8],
     c: Cursor,
     h: Head,
-    threads: &[[u64; 34]; 8],
-    regions: &[[u32; 16]; 32],
-    med: &[[u64; 8]; 256],
-    old: &[[u64; 8]; 256],
+    threads: &Threads,
+    regions: &Regions,
+    med: &Lines,
+    old: &Lines,
     image: &mut [u8],
 ) -> Cursor
     ensures { λ r. ⌜ SavedWords dst c r h threads regions med old image ⌝ }
@@ -48,10 +53,10 @@ fn cut_words(
     dst: &mut [u8],
     c: Cursor,
     h: Head,
-    threads: &[[u64; 34]; 8],
-    regions: &[[u32; 16]; 32],
-    med: &[[u64; 8]; 256],
-    old: &[[u64; 8]; 256],
+    threads: &Threads,
+    regions: &Regions,
+    med: &Lines,
+    old: &Lines,
 ) -> Cursor
     ensures { λ r. ⌜ CutWords dst c r h threads regions med old ⌝ }
 {
@@ -66,10 +71,10 @@ fn behind_words(
     kind: u8,
     a: Answer,
     h: Head,
-    threads: &[[u64; 34]; 8],
-    regions: &[[u32; 16]; 32],
-    med: &[[u64; 8]; 256],
-    old: &[[u64; 8]; 256],
+    threads: &Threads,
+    regions: &Regions,
+    med: &Lines,
+    old: &Lines,
 ) -> Cursor
     ensures { λ r. ⌜ BehindWords kind a dst c r h threads regions med old ⌝ }
 {
@@ -117,14 +122,14 @@ pub struct Traced {
 // One event of a file: its step, and its text from `at` on. Without room nothing is done.
 fn trace_event(
     h: Head,
-    threads: &mut [[u64; 34]; 8],
-    regions: &mut [[u32; 16]; 32],
-    owner: &mut [u32; 256],
-    lock: &mut [bool; 256],
-    cur: &mut [[u64; 8]; 256],
-    med: &mut [[u64; 8]; 256],
-    old: &mut [[u64; 8]; 256],
-    car: &mut [[u64; 8]; 256],
+    threads: &mut Threads,
+    regions: &mut Regions,
+    owner: &mut Owners,
+    lock: &mut Locks,
+    cur: &mut Lines,
+    med: &mut Lines,
+    old: &mut Lines,
+    car: &mut Lines,
     bytes: &[u8],
     dst: &mut [u8],
     at: usize,
@@ -184,14 +189,14 @@ pub struct TracedPiece {
 // The records of a piece of a file, one after the other, as long as there is room for their text. More bytes may come behind it, unless it is the last one.
 pub fn trace_piece(
     h: Head,
-    threads: &mut [[u64; 34]; 8],
-    regions: &mut [[u32; 16]; 32],
-    owner: &mut [u32; 256],
-    lock: &mut [bool; 256],
-    cur: &mut [[u64; 8]; 256],
-    med: &mut [[u64; 8]; 256],
-    old: &mut [[u64; 8]; 256],
-    car: &mut [[u64; 8]; 256],
+    threads: &mut Threads,
+    regions: &mut Regions,
+    owner: &mut Owners,
+    lock: &mut Locks,
+    cur: &mut Lines,
+    med: &mut Lines,
+    old: &mut Lines,
+    car: &mut Lines,
     piece: &[u8],
     last: bool,
     dst: &mut [u8],

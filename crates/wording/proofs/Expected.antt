@@ -10,12 +10,12 @@ use lib.Dec.{eqb}
 use lib.ListN.{drop, length, length-append, length-drop, length-replicate, take}
 use lib.Seq.{drop-append-add, drop-at, drop-drop, getD-take, length-take-le, take-append-seam}
 use native.Mathlib.Omega.{arith}
-use borrow.Author.Tests.{eqb-true, le-leb}
-use Rattle.recovery.proofs.Places.{flat-at, flat-length, no-test}
+use borrow.Author.Tests.{le-leb}
+use Rattle.recovery.proofs.Places.{flat-at, image-short, no-test}
 use Rattle.rules.proofs.Codec.Bytes.{all-at, isLine, length-words, line-back}
 use Rattle.rules.proofs.Codec.Store.{found, length-head, length-line, withMedium}
-use Rattle.rules.proofs.Codec.Turns.{length-entry, length-region, size-lines}
-use Rattle.rules.proofs.Codec.Valid.{Valid, fitsRegion}
+use Rattle.rules.proofs.Codec.Turns.{size-lines}
+use Rattle.rules.proofs.Codec.Valid.{Valid}
 use Rattle.rules.proofs.Cuts.{cut-is}
 use Rattle.rules.proofs.Recover.Expected.{expected-length}
 use Rattle.rules.proofs.Recover.Sound.{sound}
@@ -27,14 +27,12 @@ use Rattle.rules.specs.Bytes.{lineBytes, wordsOf}
 use Rattle.rules.specs.Claim.{boardAfter, isByte, isByteMemory}
 use Rattle.rules.specs.Contradiction.{contradicts}
 use Rattle.rules.specs.History.{Account, acceptedIn, expected, expectedBytes, hasCut, linesIn, memoryFound}
-use Rattle.rules.specs.Image.{Logged, Persistent, encode, entryRecord, headRecord, image, lineRecord, regionRecord, save, saved}
+use Rattle.rules.specs.Image.{Persistent, encode, entryRecord, headRecord, image, lineRecord, regionRecord, save, saved}
 use Rattle.rules.specs.Lists.{all, flat}
-use Rattle.rules.specs.Reader.{isKnownThread}
 use Rattle.rules.specs.Recovery.{Recovering, lineStart, restore}
 use Rattle.rules.specs.Refusal.{isSetUp}
 use Rattle.rules.specs.Run.{wroteInto}
 use Rattle.rules.specs.Tables.{Board, Memory, lineOf}
-use Rattle.rules.specs.declared.Listed.{Listed}
 use Rattle.wording.proofs.Words.{expected-found, image-log}
 use Rattle.wording.specs.Claim.{WordsExpected}
 use Rattle.wording.specs.Text.{cutText, finish, flatTo, imageBuffer, imageLine, lineText, memoryText, recovered, recoveredText}
@@ -59,17 +57,6 @@ lines-same (x ∷ xs) (y ∷ ys) n a b e =
 
 -- ---- an image: its lines, and how long it is
 
-region-long : (n : ℕ) (r : Listed) → fitsRegion n r ≡ true → length (regionRecord r) ≡ 17
-unfolding regionRecord
-region-long n r e =
-    let a = and-true (all (isKnownThread n) (r .key ∷ r .deps)) (eqb (length (r .deps)) 4 && isByte (r .state)) e in
-    let b = and-true (eqb (length (r .deps)) 4) (isByte (r .state)) (a .1) in
-    ap suc (length-region r (eqb-true (length (r .deps)) 4 (b .0)))
-
-entry-long : (e : Logged) → length (entryRecord e) ≡ 69
-unfolding entryRecord
-entry-long e = ap suc (length-entry e)
-
 behind-kind : (x t : List ℕ) → drop 1 (lineRecord x ++ t) ≡ lineBytes x ++ t
 unfolding lineRecord
 behind-kind x t = refl
@@ -77,24 +64,6 @@ behind-kind x t = refl
 module _ (p : Persistent) (z : Valid p) where
   abbrev records : List ℕ
   records = flat regionRecord (p .regions) ++ (flat entryRecord (p .log) ++ (36 ∷ []))
-
-  image-long : length (encode p) ≡ 5 + 65 * length (p .medium) + 17 * length (p .regions) + 69 * length (p .log)
-  unfolding encode
-  image-long =
-      let a = flat-length lineRecord 65 (λ x. true) (λ x _. length-line x) (p .medium) (no-test (p .medium)) in
-      let b = flat-length regionRecord 17 (fitsRegion (p .threads)) (region-long (p .threads)) (p .regions) (z .regions) in
-      let c = flat-length entryRecord 69 (λ x. true) (λ x _. entry-long x) (p .log) (no-test (p .log)) in
-      rw (
-        length-append (headRecord (p .threads) (p .lines)) (flat lineRecord (p .medium) ++ records),
-        length-append (flat lineRecord (p .medium)) records,
-        length-append (flat regionRecord (p .regions)) (flat entryRecord (p .log) ++ (36 ∷ [])),
-        length-append (flat entryRecord (p .log)) (36 ∷ []),
-        length-head (p .threads) (p .lines),
-        a,
-        b,
-        c,
-      )
-      (omega arith)
 
   module _ (l : ℕ) (h : l < length (p .medium)) where
     line-behind : drop (lineStart l) (encode p) ≡ lineBytes (lineOf l (p .medium)) ++ (flat lineRecord (drop (suc l) (p .medium)) ++ records)
@@ -155,12 +124,9 @@ module _ {start : ℕ → List ℕ} {b : Board} {es : List Account} {s : u.State
       (λ q. rw q (finish-recovers n (step-stands rc i up quiet p)))
       (λ q. rw q (step-recovers (step-stands rc i up quiet p)))
 
-  image-short : length (image b) ≤ 34853
-  unfolding image saved
-  image-short =
-      let p = saved b in
-      let z : Valid p = saved-valid rc i up in
-      omega (arith, image-long p z, z .whole, z .few, size-lines (p .threads) (p .lines) (z .size) .1, image-log b (i .shape .threads .logs))
+  saved-short : length (image b) ≤ 34853
+  unfolding image
+  saved-short = image-short (saved b) (saved-valid rc i up) (image-log b (i .shape .threads .logs))
 
 -- ---- the text
 
@@ -208,5 +174,5 @@ words-expected m rs bm br cut = go (every m rs bm br .simulated)
         let up = i .shape .cut-setup c in
         let quiet = sound rc i (every m rs bm br .rest) in
         let same = i .told .lines up in
-        saved-text (b .tables .size .lines) b imageBuffer up c (omega (arith, image-short rc i up quiet, buffer-long))
+        saved-text (b .tables .size .lines) b imageBuffer up c (omega (arith, saved-short rc i up quiet, buffer-long))
         ∙ (text-expected m rs bm br cut up same (finish-recovers rc i up quiet 256 (start-stands rc i up quiet)) ∙ rw same)
