@@ -13,7 +13,7 @@ use Rattle.rules.specs.End.{closed, endRegion}
 use Rattle.rules.specs.Flight.{flown}
 use Rattle.rules.specs.Image.{encode, entryRecord, headRecord, image, lineRecord, regionRecord, save, saved, savedEntry, savedLog, savedRegion, savedRegions, savedThread}
 use Rattle.rules.specs.Lists.{aboveFrom, count, flat, place, risingFrom}
-use Rattle.rules.specs.Reader.{endTurn, fieldsTurn, headTurn, lineTurn, listedAt, listedTurn, loggedAt, loggedTurn, readImage, recordsRead, turnOf}
+use Rattle.rules.specs.Reader.{endTurn, fieldsTurn, headTurn, lineTurn, listedAt, listedTurn, loggedAt, loggedTurn, readImage, readBy, turnBy}
 use Rattle.rules.specs.Record.{eventOf, readRecord, recordsFrom, recordsOf}
 use Rattle.rules.specs.Recovery.{restore, restoreBy}
 use Rattle.rules.specs.Refusal.{refusal, testsOf}
@@ -46,5 +46,5 @@ same (x ∷ xs) [] = false
 same (x ∷ xs) (y ∷ ys) = eqb x y && same xs ys
 
 pub prints : T (same (traceText (fresh Zero) (recordsOf file)) output)
-unfolding file output same joined read logged wrote stored write dropped keptEntry kept unlocked logAck landed dataAck opened begin bytesOf numOf wordsBytes wordsOf doneRegion commits earlier earliestFrom afterCommit freed commit settle settled inOrder anyBroken reachesIn reaches anyClash contradicts closed endRegion flown savedRegion savedRegions savedEntry savedThread savedLog saved headRecord lineRecord regionRecord entryRecord encode image count place flat aboveFrom risingFrom headTurn lineTurn listedAt listedTurn loggedAt loggedTurn endTurn fieldsTurn turnOf recordsRead readImage eventOf readRecord restoreBy restore testsOf refusal slotFrom written flownSlots carried settledBoard setup fence apply stepBy stepEvent step lentLine lentFrom startLines fresh ownerOf nextPlace without walkFrom walk entriesOf entriesFrom walkEntries save wroteInto recordsFrom digits decimal numberText answerText wordText flatTo lineText memoryText finish recoveredText imageBuffer cutText behindText eventText traceText
+unfolding file output same joined read logged wrote stored write dropped keptEntry kept unlocked logAck landed dataAck opened begin bytesOf numOf wordsBytes wordsOf doneRegion commits earlier earliestFrom afterCommit freed commit settle settled inOrder anyBroken reachesIn reaches anyClash contradicts closed endRegion flown savedRegion savedRegions savedEntry savedThread savedLog saved headRecord lineRecord regionRecord entryRecord encode image count place flat aboveFrom risingFrom headTurn lineTurn listedAt listedTurn loggedAt loggedTurn endTurn fieldsTurn turnBy readBy readImage eventOf readRecord restoreBy restore testsOf refusal slotFrom written flownSlots carried settledBoard setup fence apply stepBy stepEvent step lentLine lentFrom startLines fresh ownerOf nextPlace without walkFrom walk entriesOf entriesFrom walkEntries save wroteInto recordsFrom digits decimal numberText answerText wordText flatTo lineText memoryText finish recoveredText imageBuffer cutText behindText eventText traceText
 prints = tt
