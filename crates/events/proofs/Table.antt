@@ -92,15 +92,6 @@ pad-at (suc n) [] (suc i) h = pad-at n [] i (omega arith) ∙ nothing i
 pad-at (suc n) (x ∷ xs) zero h = refl
 pad-at (suc n) (x ∷ xs) (suc i) h = pad-at n xs i (omega arith)
 
-pad-zero : (n : ℕ) → total (padded 0 n []) ≡ 0
-pad-zero zero = refl
-pad-zero (suc n) = rw (pad-zero n)
-
-pub pad-total : (n : ℕ) (xs : List ℕ) → length xs ≤ n → total (padded 0 n xs) ≡ total xs
-pad-total n [] h = pad-zero n
-pad-total zero (x ∷ xs) h = absurd (omega arith)
-pad-total (suc n) (x ∷ xs) h = rw (pad-total n xs (omega arith))
-
 pub pad-length : (p n : ℕ) (xs : List ℕ) → length (padded p n xs) ≡ n
 pad-length p zero xs = refl
 pad-length p (suc n) [] = ap suc (pad-length p n [])
@@ -115,9 +106,6 @@ pad-front p (suc n) (x ∷ xs) h = rw (pad-front p n xs (omega arith))
 -- the sum of what is left of a list
 pub total-next : (xs : List ℕ) (i : ℕ) → i < length xs → total (drop i xs) ≡ getD xs i 0 + total (drop (i + 1) xs)
 total-next xs i h = rw (add-one i, drop-cons xs i 0 h)
-
-pub total-end : (xs : List ℕ) (i : ℕ) → length xs ≤ i → total (drop i xs) ≡ 0
-total-end xs i h = rw (drop-of-length-le xs h)
 
 -- the word of a row
 module _ (k : ℕ) (r : KindRow) (e : r ≡ rowOf (kindAt k)) where
