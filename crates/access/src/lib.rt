@@ -8,7 +8,6 @@ use measures::MOST_THREADS;
 use measures::Owners;
 use measures::Regions;
 use measures::Threads;
-use rules::Entry;
 use rules::Region;
 ghost use mathlib.Core.Path.{_≡_};
 ghost use Rattle.measures.specs.Loan.{left, was};
@@ -30,12 +29,10 @@ fn log_entry(threads: &mut Threads, t: u8, k: u32, l: u8) -> usize
         return 0;
     }
     let i = rows::free_entry(&threads[ti]);
-    let e = Entry {
-        key: k,
-        line: l,
-        rank: rows::entry_count(&threads[ti], k),
-        persistent: false,
-    };
+    let mut e = rows::no_entry();
+    e.key = k;
+    e.line = l;
+    e.rank = rows::entry_count(&threads[ti], k);
     rows::put_entry(&mut threads[ti], i, e);
     i
 }

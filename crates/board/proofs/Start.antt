@@ -10,7 +10,6 @@ use Rattle.rules.specs.Refusal.{inRange, refusal, testsOf}
 use Rattle.rules.specs.Run.{startCall}
 use Rattle.rules.specs.Step.{apply, stepBy, stepEvent}
 use Rattle.rules.specs.Tables.{Board, Lent, fresh, freshTables}
-use Rattle.rules.specs.declared.Answer.{Answer}
 use Rattle.rules.specs.declared.Event.the-variants.{Setup}
 
 module _ (n l : ℕ) where

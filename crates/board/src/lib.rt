@@ -2,7 +2,6 @@
 use measures::MOST_LINES;
 use measures::MOST_THREADS;
 use rules::Answer;
-use rules::Size;
 ghost use mathlib.Core.Path.{_≡_};
 ghost use Rattle.measures.specs.Loan.{left, was};
 ghost use Rattle.rules.specs.Image.{imageCall};
@@ -31,12 +30,8 @@ pub extern "C" fn board_start(threads: u64, lines: u64, memory: &[u8]) -> Answer
     if (MOST_LINES as u64) < lines {
         return answer(6);
     }
-    let z = Size {
-        threads: 0,
-        lines: 0,
-        zero: false,
-        lent: memory.len() as u64,
-    };
+    let h = starting::fresh_head(false, memory.len() as u64);
+    let z = h.size;
     answer(refusals::setup_refusal(z, threads as u8, lines as u16))
 }
 

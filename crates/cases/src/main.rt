@@ -13,6 +13,12 @@
 //     place 0                 the place becomes 0, as after a cut
 //     byte 4 = 33 / word 1 2 = 7 / place = 2      byte 4, word 2 of line 1, the place
 // Prints a line for each case, then how many there are and how many are right. A line in no form makes its case wrong.
+use measures::LINE_WORDS;
+use measures::MOST_LINES;
+use measures::MOST_REGIONS;
+use measures::MOST_THREADS;
+use measures::REGION_NUMBERS;
+use measures::THREAD_NUMBERS;
 use rows::Head;
 use rules::Answer;
 use trying::Due;
@@ -591,14 +597,14 @@ fn run_lines(
     out: &mut [u8],
     place: &mut [u8],
 ) -> Done {
-    let mut threads = [[0u64; 34]; 8];
-    let mut regions = [[0u32; 16]; 32];
-    let mut owner = [0u32; 256];
-    let mut lock = [false; 256];
-    let mut cur = [[0u64; 8]; 256];
-    let mut med = [[0u64; 8]; 256];
-    let mut old = [[0u64; 8]; 256];
-    let mut car = [[0u64; 8]; 256];
+    let mut threads = [[0u64; THREAD_NUMBERS]; MOST_THREADS];
+    let mut regions = [[0u32; REGION_NUMBERS]; MOST_REGIONS];
+    let mut owner = [0u32; MOST_LINES];
+    let mut lock = [false; MOST_LINES];
+    let mut cur = [[0u64; LINE_WORDS]; MOST_LINES];
+    let mut med = [[0u64; LINE_WORDS]; MOST_LINES];
+    let mut old = [[0u64; LINE_WORDS]; MOST_LINES];
+    let mut car = [[0u64; LINE_WORDS]; MOST_LINES];
     starting::load(memory, &mut cur);
     starting::load(memory, &mut med);
     let mut t = fresh(zero, memory.len());

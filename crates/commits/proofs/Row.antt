@@ -8,12 +8,11 @@ use lib.ListN.{getD, length, length-map, replicate, set}
 use native.Mathlib.Omega.{arith}
 use borrow.Author.Tests.{eq-eqb, eqb-false, eqb-true, le-ltb, lt-ltb, ne-eqb}
 use Rattle.undo.proofs.Laws.{or-right, test}
-use Rattle.undo.specs.Table.{any}
 use Rattle.rules.proofs.Places.{eqb-swap}
 use Rattle.rules.specs.Commit.{afterCommit, commits, doneRegion, withoutDep}
 use Rattle.rules.specs.Lists.{all}
 use Rattle.rules.specs.Slots.{hasSlot, isEmpty}
-use Rattle.rules.specs.Tables.{noRegion}
+use Rattle.rules.specs.Tables.{noRegion, withDone}
 use Rattle.rules.specs.declared.Region.{Region}
 use Rattle.rules.specs.declared.Slot.{Slot}
 use Rattle.lookup.proofs.Map.{map-end, map-more, mapped}
@@ -50,9 +49,6 @@ no-deps w =
 -- of a done region only its commit is left
 pub ripe-done : (r : Region) → r .done ≡ true → ripe r ≡ commits r
 ripe-done r e = ap (λ d. cond d (commits r) (r .ended && not (hasSlot r))) e
-
-abbrev withDone : Bool → Region → Region
-withDone d r = record { key = r .key; ended = r .ended; done = d; stamp = r .stamp; deps = r .deps; slots = r .slots }
 
 done-stored : (w : List ℕ) → 2 < length w → regionOf (set w 2 1) ≡ withDone true (regionOf w)
 unfolding regionOf

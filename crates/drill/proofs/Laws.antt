@@ -1,9 +1,9 @@
 -- The bytes of a file are those of its records; what an accepted and a refused save give; what is then true of a drill.
-use Prim.Native.Nat.{_+_, _<_, _≤_, suc, zero, ℕ}
+use Prim.Native.Nat.{_+_, _<_, _≤_, suc, ℕ}
 use mathlib.Core.Path.{_∙_, _≡_, ap, refl, sym}
 use mathlib.Core.Logic.{_≢_}
 use mathlib.Core.Bool.{_&&_, true}
-use mathlib.Core.List.{List, [], _++_, _∷_}
+use mathlib.Core.List.{List, _++_}
 use lib.Dec.{leb}
 use lib.ListN.{drop, drop-of-length-le, getD, length, length-append, length-take, take}
 use native.Mathlib.Omega.{arith}
@@ -13,29 +13,19 @@ use native.Mathlib.Nat.{zero-add}
 use Rattle.drill.specs.Drilled.{Drilled, Step, actOf, actsOf, ended, lastStep, stepOf, stepped}
 use Rattle.rules.proofs.Cuts.{cut-is}
 use Rattle.rules.proofs.Main.{recovery-is-right}
+use Rattle.rules.proofs.Laws.{records-bytes}
 use Rattle.rules.specs.Bytes.{paste}
 use Rattle.rules.specs.Claim.{Holds, boardAfter, isByte}
 use Rattle.rules.specs.History.{memoryFound}
 use Rattle.rules.specs.Image.{image, imageCall, save}
 use Rattle.rules.specs.Lists.{all}
-use Rattle.rules.specs.Record.{bodyLength, isWhole, readRecord, recordsFrom, recordsOf}
+use Rattle.rules.specs.Record.{recordsOf}
 use Rattle.rules.specs.Recovery.{Recovering, act, acts, isFinished, restore}
 use Rattle.rules.specs.Refusal.{isSetUp}
 use Rattle.rules.specs.Run.{Wrote, wroteInto}
 use Rattle.rules.specs.Tables.{Board, Lent}
 use Rattle.rules.specs.declared.Answer.{Answer}
 use Rattle.undo.proofs.Laws.{and-true, test}
-
--- ---- a record holds bytes of its file
-
-pub records-bytes : (k : ℕ) (bs : List ℕ) → all isByte bs ≡ true → all (all isByte) (recordsFrom k bs) ≡ true
-unfolding recordsFrom
-records-bytes zero [] h = refl
-records-bytes (suc k) [] h = refl
-records-bytes (suc k) (b ∷ bs) h = records-bytes k bs (and-true (isByte b) (all isByte bs) h .1)
-records-bytes zero (b ∷ bs) h =
-    let r = records-bytes (bodyLength b) bs (and-true (isByte b) (all isByte bs) h .1) in
-    test (isWhole (readRecord (b ∷ bs))) (λ w. rw (w, h) r) (λ w. rw (w, h) refl)
 
 -- ---- acts one by one
 

@@ -83,12 +83,9 @@ pub fn end_region(
     let r = tables::get(regions, i);
     let q = ended_region(r, c);
     tables::put_flown(regions, lock, cur, car, i, q);
-    let size = h.size;
-    Head {
-        size: size,
-        cut: h.cut,
-        clock: c,
-    }
+    let mut head = h;
+    head.clock = c;
+    head
 }
 
 // ---- the acknowledgements

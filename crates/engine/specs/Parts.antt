@@ -10,6 +10,7 @@ use Rattle.rules.specs.Tables.{Board}
 use Rattle.rules.specs.declared.Thread.{Thread}
 use Rattle.rows.specs.Whole.{boardLeft, boardOf, boardWas}
 use Rattle.rows.specs.declared.Head.{Head}
+use Rattle.rules.specs.Measures.{mostDepth, mostNumber}
 
 module _ {X : Type 0} (g f : Board → X) where
   -- the whole board, from the numbers h to the numbers r
@@ -37,4 +38,4 @@ module _ {X : Type 0} (g f : Board → X) where
 
 -- what an accepted begin has passed: a depth is left, and at depth 0 a number
 abbrev pub Deepens : Thread → Type 0
-Deepens th = (th .depth < 15) × (eqb (th .depth) 0 && leb 65535 (th .last) ≡ false)
+Deepens th = (th .depth < mostDepth) × (eqb (th .depth) 0 && leb mostNumber (th .last) ≡ false)

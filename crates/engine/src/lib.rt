@@ -1,7 +1,6 @@
 // One event of any content, in place: its refusal, or what it changes. A refusal changes nothing.
 use measures::Lines;
 use measures::Locks;
-use measures::MOST_SLOTS;
 use measures::NUMBERS;
 use measures::Owners;
 use measures::Regions;
@@ -13,12 +12,11 @@ use rules::Reading;
 use rules::Region;
 ghost use Prim.Native.Nat.{_<_};
 ghost use mathlib.Core.Path.{_≡_};
-ghost use mathlib.Core.Bool.{cond, false, true};
-ghost use mathlib.Core.List.{_∷_};
-ghost use lib.ListN.{replicate};
+ghost use mathlib.Core.Bool.{cond, true};
+ghost use lib.ListN.{set};
 ghost use Rattle.measures.specs.Loan.{was};
 ghost use Rattle.undo.specs.Table.{any};
-ghost use Rattle.rules.specs.Tables.{noSlot};
+ghost use Rattle.rules.specs.Tables.{noRegion, withDeps, withKey};
 ghost use Rattle.rules.specs.Begin.{begin, opened};
 ghost use Rattle.rules.specs.Refusal.{isOfThread, refusal};
 ghost use Rattle.rules.specs.Step.{apply, did, step, stepEvent};
@@ -33,17 +31,12 @@ ghost use Rattle.engine.specs.Parts.{Deepens, OnBoard, OnDataAcked, OnNu
 
 // Region k as it begins, with the dependence d on its predecessor.
 fn begun(k: u32, d: u32) -> Region
-    ensures { λ r. ⌜ _≡_ {A = Region} r (record { key = k; ended = false; done = false; stamp = 0; deps = d ∷ replicate 3 0; slots = replicate 8 noSlot }) ⌝ }
+    ensures { λ r. ⌜ r ≡ withDeps (set (noRegion .deps) 0 d) (withKey k noRegion) ⌝ }
 {
-    let s = lookup::no_slot();
-    Region {
-        key: k,
-        ended: false,
-        done: false,
-        stamp: 0,
-        deps: [d, 0, 0, 0],
-        slots: [s; MOST_SLOTS],
-    }
+    let mut r = rows::no_region();
+    r.key = k;
+    r.deps = [d, 0, 0, 0];
+    r
 }
 
 // Thread t opens its next region. Numbers are left: refusal 14.
@@ -162,12 +155,10 @@ fn set_up(h: Head, n: u8, l: u16) -> Effect
     let mut size = h.size;
     size.threads = n;
     size.lines = l;
+    let mut head = h;
+    head.size = size;
     Effect {
-        head: Head {
-            size: size,
-            cut: h.cut,
-            clock: h.clock,
-        },
+        head: head,
         value: 0,
     }
 }
@@ -182,12 +173,9 @@ fn fence(regions: &Regions, t: u8) -> u64
 fn cut(h: Head) -> Head
     ensures { λ r. ⌜ _≡_ {A = Head} r (record { size = h .size; cut = true; clock = h .clock }) ⌝ }
 {
-    let size = h.size;
-    Head {
-        size: size,
-        cut: true,
-        clock: h.clock,
-    }
+    let mut head = h;
+    head.cut = true;
+    head
 }
 
 // What an accepted event does.

@@ -1,4 +1,6 @@
 // What is wrong with a region of an image by itself, and with two of a thread, one behind the other. The keys of all regions tell which are listed.
+use measures::MOST_DEPS;
+use measures::NUMBERS;
 use rules::Listed;
 ghost use mathlib.Core.Path.{_≡_};
 ghost use mathlib.Core.Bool.{_||_, _&&_};
@@ -55,10 +57,10 @@ fn is_placed(d: u32, next: u32, order: bool, empty: bool) -> bool
         return empty;
     }
     let rises = either(next == 0, d < next);
-    both(d % 65536 != 0, both(order, rises))
+    both(d % NUMBERS != 0, both(order, rises))
 }
 
-fn in_order(deps: [u32; 4]) -> bool
+fn in_order(deps: [u32; MOST_DEPS]) -> bool
     ensures { λ r. ⌜ r ≡ inOrder deps ⌝ }
 {
     let d0 = deps[0];
@@ -74,7 +76,7 @@ fn in_order(deps: [u32; 4]) -> bool
     is_placed(d0, d1, o1, e1)
 }
 
-fn no_deps(deps: [u32; 4]) -> bool
+fn no_deps(deps: [u32; MOST_DEPS]) -> bool
     ensures { λ r. ⌜ r ≡ all (eqb 0) deps ⌝ }
 {
     let d0 = deps[0];
@@ -84,7 +86,7 @@ fn no_deps(deps: [u32; 4]) -> bool
     both(0 == d0, both(0 == d1, both(0 == d2, 0 == d3)))
 }
 
-pub fn depends(deps: [u32; 4], key: u32) -> bool
+pub fn depends(deps: [u32; MOST_DEPS], key: u32) -> bool
     ensures { λ r. ⌜ r ≡ any (eqb key) deps ⌝ }
 {
     let d0 = deps[0];
@@ -104,7 +106,7 @@ fn is_astray(keys: &[u32], d: u32) -> bool
     !is_listed(keys, d)
 }
 
-fn has_astray(keys: &[u32], deps: [u32; 4]) -> bool
+fn has_astray(keys: &[u32], deps: [u32; MOST_DEPS]) -> bool
     ensures { λ r. ⌜ r ≡ any (isAstray (keyed (now (keys .entry)))) deps ⌝ }
 {
     let d0 = deps[0];
@@ -134,7 +136,7 @@ pub fn is_faulty(keys: &[u32], r: Listed) -> bool
     let astray = has_astray(keys, deps);
     let left = is_left_over(r);
     either(
-        r.key % 65536 == 0,
+        r.key % NUMBERS == 0,
         either(1 < r.state, either(!order, either(astray, left))),
     )
 }
@@ -149,5 +151,5 @@ pub fn is_broken(a: Listed, b: Listed) -> bool
     let first = a.key;
     let on = depends(deps, first);
     let follows = b.key as u64 == first as u64 + 1;
-    both(a.key / 65536 == b.key / 65536, !both(follows, on))
+    both(a.key / NUMBERS == b.key / NUMBERS, !both(follows, on))
 }

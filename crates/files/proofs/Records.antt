@@ -10,6 +10,7 @@ use lib.Seq.{drop-drop, drop-length}
 use Rattle.rules.specs.Step.{step}
 use Rattle.files.specs.Parts.{sizeOf}
 use Rattle.rules.proofs.Codec.Bytes.{length-bytes}
+use Rattle.rules.specs.Kinds.{lastKind}
 use Rattle.rules.specs.Lists.{flat}
 use Rattle.rules.specs.Record.{bodyLength, isWhole, readRecord, recordsFrom}
 use Rattle.rules.specs.Run.{answerBytes, answersBytes, run}
@@ -40,7 +41,7 @@ whole-fits : (bs : List ℕ) (e : Event) → readRecord bs ≡ Whole e → suc (
 unfolding readRecord
 whole-fits [] e w = let z : _≡_ {A = ℕ} 0 1 = cc in absurd (omega arith)
 whole-fits (b ∷ bs) e w =
-    test (ltb 8 b)
+    test (ltb lastKind b)
     (λ a. let z : Refused 2 ≡ Whole e = rw a at w in let y : _≡_ {A = ℕ} 0 1 = cc in absurd (omega arith))
     (λ a. test (ltb (length bs) (bodyLength b))
     (λ s. let z : Refused 1 ≡ Whole e = rw (a, s) at w in let y : _≡_ {A = ℕ} 0 1 = cc in absurd (omega arith))

@@ -2,14 +2,13 @@
 use measures::LINE_WORDS;
 use measures::Lines;
 use measures::Locks;
-use measures::MOST_ENTRIES;
 use measures::MOST_LINES;
 use measures::MOST_REGIONS;
-use measures::MOST_SLOTS;
 use measures::MOST_THREADS;
 use measures::Owners;
+use measures::REGION_NUMBERS;
 use measures::Regions;
-use measures::SLOTS_AT;
+use measures::THREAD_NUMBERS;
 use measures::Threads;
 use rows::Head;
 use rules::Answer;
@@ -123,8 +122,8 @@ pub fn run_file(file: &[u8], memory: &[u8], answers: &mut [u8]) -> Answer
         };
     }
     let head = starting::fresh_head(false, memory.len() as u64);
-    let mut threads = [[0u64; MOST_ENTRIES + 2]; MOST_THREADS];
-    let mut regions = [[0u32; SLOTS_AT + MOST_SLOTS]; MOST_REGIONS];
+    let mut threads = [[0u64; THREAD_NUMBERS]; MOST_THREADS];
+    let mut regions = [[0u32; REGION_NUMBERS]; MOST_REGIONS];
     let mut owner = [0u32; MOST_LINES];
     let mut lock = [false; MOST_LINES];
     let mut cur = [[0u64; LINE_WORDS]; MOST_LINES];
@@ -158,8 +157,8 @@ pub fn run_image(file: &[u8], memory: &[u8], image: &mut [u8]) -> Answer
     ensures { λ r. ⌜ wrote r (left image) ≡ imageCall (was file) (was memory) (was image) ⌝ }
 {
     let head = starting::fresh_head(false, memory.len() as u64);
-    let mut threads = [[0u64; MOST_ENTRIES + 2]; MOST_THREADS];
-    let mut regions = [[0u32; SLOTS_AT + MOST_SLOTS]; MOST_REGIONS];
+    let mut threads = [[0u64; THREAD_NUMBERS]; MOST_THREADS];
+    let mut regions = [[0u32; REGION_NUMBERS]; MOST_REGIONS];
     let mut owner = [0u32; MOST_LINES];
     let mut lock = [false; MOST_LINES];
     let mut cur = [[0u64; LINE_WORDS]; MOST_LINES];

@@ -3,6 +3,10 @@
 // What belongs to one region is tested region by region. Then every dependence is of a listed region, and a table of bits tells which region reaches which:
 // row p has bit q set where the region at place p reaches the region at place q. One pass over the log finds the lines that regions apart from each other
 // logged.
+use measures::MOST_DEPS;
+use measures::MOST_LINES;
+use measures::MOST_LOGGED;
+use measures::MOST_REGIONS;
 use rules::Listed;
 use rules::Mark;
 ghost use Prim.Native.Nat.{_<_, _≤_, _+_, _^_, min, ℕ};
@@ -26,12 +30,12 @@ pub fn least(a: usize, b: usize) -> usize
 // ---- places
 
 // The keys of the regions, in their places.
-pub fn keys_of(regions: [Listed; 32]) -> [u32; 32]
+pub fn keys_of(regions: [Listed; MOST_REGIONS]) -> [u32; MOST_REGIONS]
     ensures { λ r. ⌜ r ≡ map (λ x. x .key) regions ⌝ }
 {
-    let mut keys = [0u32; 32];
+    let mut keys = [0u32; MOST_REGIONS];
     let mut i: usize = 0;
-    while i < 32 {
+    while i < MOST_REGIONS {
         let x = regions[i];
         keys[i] = x.key;
         i += 1;
@@ -41,7 +45,7 @@ pub fn keys_of(regions: [Listed; 32]) -> [u32; 32]
 
 // ---- what is wrong with a region by itself
 
-fn any_faulty(keys: &[u32], regions: [Listed; 32]) -> bool
+fn any_faulty(keys: &[u32], regions: [Listed; MOST_REGIONS]) -> bool
     requires { ⌜ length (now keys) ≤ 32 ⌝ }
     ensures { λ b. ⌜ b ≡ any (isFaulty (keyed (now (keys .entry)))) (take (length (now (keys .entry))) regions) ⌝ }
 {
@@ -58,7 +62,7 @@ fn any_faulty(keys: &[u32], regions: [Listed; 32]) -> bool
 
 // ---- a thread's regions, one behind the other
 
-fn any_broken(n: usize, regions: [Listed; 32]) -> bool
+fn any_broken(n: usize, regions: [Listed; MOST_REGIONS]) -> bool
     requires { ⌜ n ≤ 32 ⌝ }
     ensures { λ b. ⌜ b ≡ anyBroken (take n regions) ⌝ }
 {
@@ -86,7 +90,7 @@ fn link_of(keys: &[u32], d: u32) -> usize
 }
 
 // The places of a region's dependences; the number of regions for none.
-fn links_of(keys: &[u32], r: Listed) -> [usize; 4]
+fn links_of(keys: &[u32], r: Listed) -> [usize; MOST_DEPS]
     ensures { λ l. ⌜ l ≡ linksOf (keyed (now (keys .entry))) r ⌝ }
 {
     let deps = r.deps;
@@ -97,11 +101,11 @@ fn links_of(keys: &[u32], r: Listed) -> [usize; 4]
     [a0, a1, a2, a3]
 }
 
-fn all_links(keys: &[u32], regions: [Listed; 32]) -> [[usize; 4]; 32]
+fn all_links(keys: &[u32], regions: [Listed; MOST_REGIONS]) -> [[usize; MOST_DEPS]; MOST_REGIONS]
     requires { ⌜ length (now keys) ≤ 32 ⌝ }
     ensures { λ r. ⌜ take (length (now (keys .entry))) r ≡ map (linksOf (keyed (now (keys .entry)))) (take (length (now (keys .entry))) regions) ⌝ }
 {
-    let mut links = [[0; 4]; 32];
+    let mut links = [[0; MOST_DEPS]; MOST_REGIONS];
     let mut i: usize = 0;
     while i < keys.len() {
         let x = regions[i];
@@ -126,7 +130,7 @@ fn step_to(rows: &[u32], q: usize) -> u32
     if q < rows.len() { bit(q) | rows[q] } else { 0 }
 }
 
-fn row_of(rows: &[u32], at: [usize; 4]) -> u32
+fn row_of(rows: &[u32], at: [usize; MOST_DEPS]) -> u32
     requires { ⌜ length (now rows) ≤ 32 ⌝ }
     ensures { λ r. ⌜ r ≡ rowOf (now (rows .entry)) at ⌝ }
 {
@@ -138,11 +142,11 @@ fn row_of(rows: &[u32], at: [usize; 4]) -> u32
 }
 
 // The rows for one dependence more.
-fn round(links: &[[usize; 4]], rows: &[u32]) -> [u32; 32]
+fn round(links: &[[usize; MOST_DEPS]], rows: &[u32]) -> [u32; MOST_REGIONS]
     requires { ⌜ (length (now links) ≡ length (now rows)) × (length (now rows) ≤ 32) ⌝ }
     ensures { λ r. ⌜ take (length (now (rows .entry))) r ≡ roundOf (now (links .entry)) (now (rows .entry)) ⌝ }
 {
-    let mut wider = [0u32; 32];
+    let mut wider = [0u32; MOST_REGIONS];
     let mut i: usize = 0;
     while i < rows.len() {
         let at = links[i];
@@ -168,12 +172,12 @@ fn is_same(a: &[u32], b: &[u32]) -> bool
 }
 
 // Rounds until one adds nothing.
-fn rounds(links: &[[usize; 4]]) -> [u32; 32]
+fn rounds(links: &[[usize; MOST_DEPS]]) -> [u32; MOST_REGIONS]
     requires { ⌜ length (now links) ≤ 32 ⌝ }
     ensures { λ r. ⌜ take (length (now (links .entry))) r ≡ roundsOf (length (now (links .entry))) (now (links .entry)) ⌝ }
 {
     let n = links.len();
-    let mut rows = [0u32; 32];
+    let mut rows = [0u32; MOST_REGIONS];
     let mut k: usize = 0;
     while k < n {
         let wider = round(links, &rows[..n]);
@@ -186,7 +190,7 @@ fn rounds(links: &[[usize; 4]]) -> [u32; 32]
     rows
 }
 
-fn reach_table(keys: &[u32], regions: [Listed; 32]) -> [u32; 32]
+fn reach_table(keys: &[u32], regions: [Listed; MOST_REGIONS]) -> [u32; MOST_REGIONS]
     requires { ⌜ length (now keys) ≤ 32 ⌝ }
     ensures { λ r. ⌜ take (length (now (keys .entry))) r ≡ tableBy (keyed (now (keys .entry))) (take (length (now (keys .entry))) regions) ⌝ }
 {
@@ -220,7 +224,7 @@ fn is_round(keys: &[u32], rows: &[u32], r: Listed) -> bool
     sees(rows, p, p)
 }
 
-fn any_round(keys: &[u32], rows: &[u32], regions: [Listed; 32]) -> bool
+fn any_round(keys: &[u32], rows: &[u32], regions: [Listed; MOST_REGIONS]) -> bool
     requires { ⌜ length (now rows) ≤ 32 ⌝ }
     ensures { λ b. ⌜ b ≡ any (isRound (keyed (now (keys .entry))) (now (rows .entry))) (take (length (now (rows .entry))) regions) ⌝ }
 {
@@ -269,11 +273,11 @@ fn apart_from(rows: &[u32], p: usize) -> u32
     bits
 }
 
-fn all_apart(rows: &[u32]) -> [u32; 32]
+fn all_apart(rows: &[u32]) -> [u32; MOST_REGIONS]
     requires { ⌜ length (now rows) ≤ 32 ⌝ }
     ensures { λ r. ⌜ ((p : ℕ) → p < length (now (rows .entry)) → getD r p 0 ≡ apartFrom (now (rows .entry)) p) ⌝ }
 {
-    let mut apart = [0u32; 32];
+    let mut apart = [0u32; MOST_REGIONS];
     let mut p: usize = 0;
     while p < rows.len() {
         apart[p] = apart_from(rows, p);
@@ -296,12 +300,12 @@ fn meets(a: u32, b: u32) -> bool
 
 // Whether a log entry is of a region that is not listed, or a line is logged by two regions that are apart. `seen` has for each line the places of the
 // regions that logged it behind entry i, as bits.
-fn any_clash(keys: &[u32], rows: &[u32], logged: usize, log: [Mark; 256]) -> bool
+fn any_clash(keys: &[u32], rows: &[u32], logged: usize, log: [Mark; MOST_LOGGED]) -> bool
     requires { ⌜ (length (now keys) ≡ length (now rows)) × ((length (now rows) ≤ 32) × (logged ≤ 256)) ⌝ }
     ensures { λ r. ⌜ r ≡ clashesIn (keyed (now (keys .entry))) (now (rows .entry)) (take logged log) ⌝ }
 {
     let apart = all_apart(rows);
-    let mut seen = [0u32; 256];
+    let mut seen = [0u32; MOST_LINES];
     let mut i = logged;
     while 0 < i {
         i -= 1;
@@ -322,7 +326,12 @@ fn any_clash(keys: &[u32], rows: &[u32], logged: usize, log: [Mark; 256]) -> boo
 // ---- the whole
 
 // A circle, a log entry of a region that is not listed, or a line logged twice, where every dependence is of a listed region.
-fn is_tangled(keys: &[u32], regions: [Listed; 32], logged: usize, log: [Mark; 256]) -> bool
+fn is_tangled(
+    keys: &[u32],
+    regions: [Listed; MOST_REGIONS],
+    logged: usize,
+    log: [Mark; MOST_LOGGED],
+) -> bool
     requires { ⌜ (length (now keys) ≤ 32) × (logged ≤ 256) ⌝ }
     ensures { λ r. ⌜ r ≡ tangledBy (keyed (now (keys .entry))) (take (length (now (keys .entry))) regions) (take logged log) ⌝ }
 {
@@ -335,7 +344,12 @@ fn is_tangled(keys: &[u32], regions: [Listed; 32], logged: usize, log: [Mark; 25
     any_clash(keys, rows, logged, log)
 }
 
-fn contradicts_first(n: usize, regions: [Listed; 32], logged: usize, log: [Mark; 256]) -> bool
+fn contradicts_first(
+    n: usize,
+    regions: [Listed; MOST_REGIONS],
+    logged: usize,
+    log: [Mark; MOST_LOGGED],
+) -> bool
     requires { ⌜ (n ≤ 32) × (logged ≤ 256) ⌝ }
     ensures { λ r. ⌜ r ≡ contradictsIn (take n regions) (take logged log) ⌝ }
 {
@@ -351,10 +365,15 @@ fn contradicts_first(n: usize, regions: [Listed; 32], logged: usize, log: [Mark;
 }
 
 // Whether the first `held` regions and the first `logged` log entries contradict themselves.
-pub fn contradicts(held: usize, regions: [Listed; 32], logged: usize, log: [Mark; 256]) -> bool
+pub fn contradicts(
+    held: usize,
+    regions: [Listed; MOST_REGIONS],
+    logged: usize,
+    log: [Mark; MOST_LOGGED],
+) -> bool
     ensures { λ r. ⌜ r ≡ contradictsIn (take held regions) (take logged log) ⌝ }
 {
-    let n = least(held, 32);
-    let m = least(logged, 256);
+    let n = least(held, MOST_REGIONS);
+    let m = least(logged, MOST_LOGGED);
     contradicts_first(n, regions, m, log)
 }

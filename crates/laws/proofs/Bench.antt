@@ -22,6 +22,7 @@ use Rattle.rules.proofs.Recover.Valid.{saved-valid}
 use Rattle.rules.proofs.Main.{recovery-is-right}
 use Rattle.rules.proofs.Sim.State.{Sim, Simulated, by}
 use Rattle.rules.proofs.Sim.All.{every}
+use Rattle.rules.proofs.Laws.{records-bytes}
 use Rattle.rules.specs.Bytes.{bytesOf, numOf}
 use Rattle.rules.specs.Claim.{Holds, entriesIn, boardAfter, isByte, isByteMemory, passLength, recovering, restores}
 use Rattle.rules.specs.Contradiction.{contradicts}
@@ -29,15 +30,13 @@ use Rattle.rules.specs.History.{Account, acceptedIn, memoryFound}
 use Rattle.rules.specs.Image.{Logged, image, imageCall, save, saved}
 use Rattle.rules.specs.Lists.{all, count}
 use Rattle.rules.specs.Reader.{isKnownThread, isLoggedBy}
-use Rattle.rules.specs.Record.{bodyLength, isWhole, readRecord, recordsFrom, recordsOf}
+use Rattle.rules.specs.Record.{recordsOf}
 use Rattle.rules.specs.Recovery.{Act, PowerCut, Recovering, Restore, act, acts, calledBy, isFinished, recoveryCall, restore, restoreBy}
 use Rattle.rules.specs.Refusal.{isSetUp}
 use Rattle.rules.specs.Run.{Wrote, wroteInto}
 use Rattle.rules.specs.Tables.{Board, Lent, Memory, threadOf}
 use Rattle.rules.specs.Walk.{walkEntries}
 use Rattle.undo.proofs.Laws.{and-true, test}
-use Rattle.undo.specs.History.{History}
-use Rattle.undo.specs.Machine.{State}
 
 -- ---- a log has at most 256 entries
 
@@ -73,17 +72,6 @@ all-below n l (e ∷ es) h =
     let b = and-true (fitsEntry n l e) (all (fitsEntry n l) es) h in
     let c = and-true (isKnownThread n (e .key)) (ltb (e .line) l && isLine (e .old)) (b .0) in
     rw (c .0) (ap suc (all-below n l es (b .1)))
-
--- ---- a record holds bytes of its file
-
-records-bytes : (k : ℕ) (bs : List ℕ) → all isByte bs ≡ true → all (all isByte) (recordsFrom k bs) ≡ true
-unfolding recordsFrom
-records-bytes zero [] h = refl
-records-bytes (suc k) [] h = refl
-records-bytes (suc k) (b ∷ bs) h = records-bytes k bs (and-true (isByte b) (all isByte bs) h .1)
-records-bytes zero (b ∷ bs) h =
-    let r = records-bytes (bodyLength b) bs (and-true (isByte b) (all isByte bs) h .1) in
-    test (isWhole (readRecord (b ∷ bs))) (λ w. rw (w, h) r) (λ w. rw (w, h) refl)
 
 -- ---- calls and cuts in step
 

@@ -13,7 +13,7 @@ use Rattle.rules.proofs.Places.{Unique, listed-at, listed-key, unique-commit, u
 use Rattle.rules.proofs.Lists.{count-map}
 use Rattle.rules.proofs.Sim.Done.{ready}
 use Rattle.rules.specs.Commit.{Settled, afterCommit, before, commit, commits, doneRegion, earliest, settle, settled}
-use Rattle.rules.specs.Lists.{all, count, place}
+use Rattle.rules.specs.Lists.{count, place}
 use Rattle.rules.specs.Tables.{isHeld, isKey, listed, noRegion, withRegions}
 use Rattle.rules.specs.declared.Region.{Region}
 use Rattle.rules.specs.declared.Tables.{Tables}

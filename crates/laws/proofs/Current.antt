@@ -2,14 +2,14 @@
 use Prim.Native.Nat.{suc, zero, ℕ}
 use mathlib.Core.Path.{_∙_, _≡_, ap, refl}
 use mathlib.Core.Bool.{true}
-use mathlib.Core.List.{List, [], _∷_}
+use mathlib.Core.List.{List, _∷_}
 use lib.Dec.{eqb}
 use lib.ListN.{getD}
 use native.Mathlib.Omega.{arith}
 use Rattle.laws.proofs.Along.{along}
 use Rattle.laws.specs.Laws.{ReadGives}
 use Rattle.laws.specs.Words.{allApplied}
-use Rattle.rules.specs.Access.{changeLine, logged, needsLog, read, stored, storedIn, write}
+use Rattle.rules.specs.Access.{changeLine, logged, needsLog, stored, storedIn, write}
 use Rattle.rules.specs.Acknowledge.{dataAck, logAck}
 use Rattle.rules.specs.Claim.{boardAfter, isByte, isByteMemory}
 use Rattle.rules.specs.End.{endRegion}

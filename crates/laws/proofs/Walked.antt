@@ -18,7 +18,7 @@ use Rattle.rules.proofs.Codec.Valid.{Valid}
 use Rattle.rules.proofs.Lists.{any-none}
 use Rattle.rules.specs.Claim.{entriesIn, isByte}
 use Rattle.rules.specs.Contradiction.{anyBroken, anyClash, clash, contradicts, inOrder, isAstray, isCircle, isLeftOver, isListed, isUnknownState, isUnnumbered}
-use Rattle.rules.specs.Image.{Logged, Persistent}
+use Rattle.rules.specs.Image.{Logged, Persistent, noLogged}
 use Rattle.rules.specs.declared.Listed.{Listed}
 use Rattle.rules.specs.Lists.{all, count}
 use Rattle.rules.specs.Reader.{Reads, Refuses, Verdict, readImage}
@@ -102,7 +102,7 @@ walk-is-whole bs p y e =
     let c = calm p (read-records bs p e .1) in
     record {
       whole = walk-whole p v c;
-      once = λ i h. walk-whole p v c (isEntry (loggedIs i p)) ∙ counted-once (p .regions) (p .log) i (record { key = 0; line = 0; old = [] }) (c .clashes) h;
+      once = λ i h. walk-whole p v c (isEntry (loggedIs i p)) ∙ counted-once (p .regions) (p .log) i noLogged (c .clashes) h;
     }
 
 -- ---- 'finished'

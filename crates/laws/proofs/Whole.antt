@@ -13,7 +13,7 @@ use Rattle.rules.proofs.Recover.Rising.{Rises, higher, no-more}
 use Rattle.rules.proofs.Recover.Walk.{at-in, needed, nextOf, without-gone, without-left, without-length, without-rises, without-was}
 use Rattle.rules.proofs.Lists.{any-map, place-map}
 use Rattle.rules.specs.Contradiction.{isCircle, isListed, isUnnumbered}
-use Rattle.rules.specs.Image.{Logged}
+use Rattle.rules.specs.Image.{Logged, noListed}
 use Rattle.rules.specs.Lists.{count, place}
 use Rattle.rules.specs.Tables.{numberOf}
 use Rattle.rules.specs.Walk.{entriesFrom, entriesOf, isNeeded, nextPlace, walkFrom, without}
@@ -23,23 +23,20 @@ use Rattle.undo.specs.Table.{any, isIn, keep}
 
 -- ---- regions are known by their keys
 
-abbrev pub nobody : Listed
-nobody = record { key = 0; state = 0; deps = [] }
-
 abbrev pub lookup : ℕ → List Listed → Listed
-lookup k rs = getD rs (place (λ r. eqb (r .key) k) rs) nobody
+lookup k rs = getD rs (place (λ r. eqb (r .key) k) rs) noListed
 
 abbrev pub keyed : List Listed → ℕ → Listed
 keyed rs k = record { key = k; state = lookup k rs .state; deps = lookup k rs .deps }
 
 here : (k : ℕ) (r : Listed) (rs : List Listed) → eqb (r .key) k ≡ true → lookup k (r ∷ rs) ≡ r
 unfolding place
-here k r rs e = ap (λ i. getD (r ∷ rs) i nobody) (let z : place (λ r. eqb (r .key) k) (r ∷ rs) ≡ 0 = rw e in z)
+here k r rs e = ap (λ i. getD (r ∷ rs) i noListed) (let z : place (λ r. eqb (r .key) k) (r ∷ rs) ≡ 0 = rw e in z)
 
 there : (k : ℕ) (r : Listed) (rs : List Listed) → eqb (r .key) k ≡ false → lookup k (r ∷ rs) ≡ lookup k rs
 unfolding place
 there k r rs e =
-    ap (λ i. getD (r ∷ rs) i nobody)
+    ap (λ i. getD (r ∷ rs) i noListed)
     (let z : place (λ r. eqb (r .key) k) (r ∷ rs) ≡ suc (place (λ r. eqb (r .key) k) rs) = rw e in z)
 
 same-from : (f : ℕ → Listed) (k : ℕ) (rs : List Listed) → rises keyOfListed 1 k rs ≡ true → ((j : ℕ) → k ≤ j → f j ≡ keyed rs j) → map f (keysIn rs) ≡ rs
@@ -156,7 +153,7 @@ module _ (rs : List Listed) where
       place-map (λ r. not (isNeeded (rest ks) (r .key))) (λ k. not (needed (depsIn rs) ks k)) (keyed rs) ks
       (λ k. ap not (any-map (λ r. any (eqb k) (r .deps)) (λ a. isIn k (depsIn rs a)) (keyed rs) ks (λ a. refl)))
 
-  key-same : (i : ℕ) (ks : List ℕ) → getD (rest ks) i nobody .key ≡ getD ks i 0
+  key-same : (i : ℕ) (ks : List ℕ) → getD (rest ks) i noListed .key ≡ getD ks i 0
   key-same i [] = refl
   key-same zero (k ∷ ks) = refl
   key-same (suc i) (k ∷ ks) = key-same i ks
@@ -187,7 +184,7 @@ module _ (rs : List Listed) where
         shape =
             let i = nextOf (depsIn rs) ks in
             let t : ltb (nextPlace (rest ks)) (length (rest ks)) ≡ ltb i (length ks) = rw (next-same ks, length-map ks (keyed rs)) in
-            let k : getD (rest ks) (nextPlace (rest ks)) nobody .key ≡ getD ks i 0 = rw (next-same ks) (key-same i ks) in
+            let k : getD (rest ks) (nextPlace (rest ks)) noListed .key ≡ getD ks i 0 = rw (next-same ks) (key-same i ks) in
             let q : walkFrom n (without (nextPlace (rest ks)) (rest ks)) ≡ walkFrom n (rest (without i ks)) = rw (next-same ks, without-same i ks) in
             λ j. elim (t j) [ false ↦ [] | true ↦ k j ∷ q j ]
 

@@ -7,7 +7,7 @@ use mathlib.Core.List.{List, [], _∷_}
 use lib.Dec.{eqb, leb}
 use lib.ListN.{getD, length}
 use Rattle.rules.specs.Claim.{entriesIn, isByte}
-use Rattle.rules.specs.Image.{Logged, Persistent}
+use Rattle.rules.specs.Image.{Logged, Persistent, noLogged}
 use Rattle.rules.specs.Lists.{all, count}
 use Rattle.rules.specs.Reader.{Reads, readImage}
 use Rattle.rules.specs.Recovery.{isFinished, recoveryCall, restore}
@@ -33,7 +33,7 @@ RecoveryAnswers = (bs : List ℕ) → ((n : ℕ) → Answers (restore (record { 
 -- ---- "a circle" is refused, so the walk takes every region and has every log entry once
 
 abbrev pub loggedIs : ℕ → Persistent → Logged
-loggedIs i p = getD (p .log) i (record { key = 0; line = 0; old = [] })
+loggedIs i p = getD (p .log) i noLogged
 
 -- a region logs a line once: the two tell which entry it is
 abbrev pub isEntry : Logged → Logged → Bool

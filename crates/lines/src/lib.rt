@@ -1,5 +1,8 @@
 // A line is eight words, taken and given by value. Words and lines as bytes, little-endian, in a lent slice: what does not lie wholly in the slice is
 // read as 0, and is not written.
+use measures::LINE_WORDS;
+use measures::Line;
+use measures::Lines;
 ghost use Prim.Native.Nat.{_+_, _*_, _%_, _<_, _≤_};
 ghost use mathlib.Core.Path.{_≡_};
 ghost use lib.Dec.{leb};
@@ -11,25 +14,25 @@ ghost use Rattle.rules.specs.Tables.{lineOf};
 ghost use Rattle.lines.specs.Room.{lineIn, putAt, wordIn};
 
 // The line with the word w changed; there are eight.
-pub fn store_word(line: [u64; 8], w: usize, v: u64) -> [u64; 8]
+pub fn store_word(line: Line, w: usize, v: u64) -> Line
     ensures { λ r. ⌜ r ≡ set line w v ⌝ }
 {
     let mut l = line;
-    if w < 8 {
+    if w < LINE_WORDS {
         l[w] = v;
     }
     l
 }
 
 // Line l of a memory, taken whole.
-pub fn line_of(m: &[[u64; 8]; 256], l: u8) -> [u64; 8]
+pub fn line_of(m: &Lines, l: u8) -> Line
     ensures { λ r. ⌜ r ≡ lineOf l (now (m .entry)) ⌝ }
 {
     m[l as usize]
 }
 
 // Line l of a memory, given whole.
-pub fn set_line(m: &mut [[u64; 8]; 256], l: u8, line: [u64; 8])
+pub fn set_line(m: &mut Lines, l: u8, line: Line)
     ensures { λ _. ⌜ now (m .exit) ≡ set (now (m .entry)) l line ⌝ }
 {
     m[l as usize] = line;
@@ -119,18 +122,18 @@ pub fn take_word(src: &[u8], at: usize) -> u64
 // ---- a line
 
 // A line's 64 bytes at the front of a part of a buffer.
-fn put_line(dst: &mut [u8], line: [u64; 8])
+fn put_line(dst: &mut [u8], line: Line)
     requires { ⌜ 64 ≤ length (now dst) ⌝ }
     ensures { λ _. ⌜ now (dst .exit) ≡ sets (now (dst .entry)) 0 (lineBytes line) ⌝ }
 {
     let mut w: usize = 0;
-    while w < 8 {
+    while w < LINE_WORDS {
         set_word(dst, 8 * w, line[w]);
         w += 1;
     }
 }
 
-fn line_at(src: &[u8], at: usize) -> [u64; 8]
+fn line_at(src: &[u8], at: usize) -> Line
     requires { ⌜ at + 64 ≤ length (now src) ⌝ }
     ensures { λ r. ⌜ r ≡ lineAt (now (src .entry)) at ⌝ }
 {
@@ -147,18 +150,18 @@ fn line_at(src: &[u8], at: usize) -> [u64; 8]
 }
 
 // The line whose 64 bytes stand from `at` on.
-pub fn take_line(src: &[u8], at: usize) -> [u64; 8]
+pub fn take_line(src: &[u8], at: usize) -> Line
     ensures { λ r. ⌜ r ≡ lineIn (now (src .entry)) at ⌝ }
 {
     if has_room(src.len(), at, 64) {
         line_at(src, at)
     } else {
-        [0; 8]
+        [0; LINE_WORDS]
     }
 }
 
 // The 64 bytes from `a` on, in the middle of a buffer, lent on to be overwritten.
-pub fn put_line_at(dst: &mut [u8], a: usize, line: [u64; 8])
+pub fn put_line_at(dst: &mut [u8], a: usize, line: Line)
     ensures { λ _. ⌜ now (dst .exit) ≡ putAt 64 (now (dst .entry)) a (lineBytes line) ⌝ }
 {
     if has_room(dst.len(), a, 64) {

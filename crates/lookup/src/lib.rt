@@ -1,41 +1,36 @@
-// Searches in a region, by value. Each function's contract is one term of the definitions of `rules`, on every value; where a search finds nothing, its
-// place is the length of the list. The bounds that callers need are laws about these terms, in proofs/.
+// Small tests and searches in a region, by value. Each function's contract is one term of the definitions of `rules`, on every value; where a search
+// finds nothing, its place is the length of the list. The bounds that callers need are laws about these terms, in proofs/.
 use measures::MOST_DEPS;
+use measures::MOST_LINES;
 use measures::MOST_SLOTS;
+use measures::MOST_THREADS;
 use rules::Found;
-use rules::Region;
 use rules::Slot;
 use rules::SlotState;
 ghost use mathlib.Core.Path.{_≡_};
 ghost use lib.Dec.{eqb};
 ghost use Rattle.rules.specs.Lists.{place};
-ghost use Rattle.rules.specs.Tables.{noRegion, noSlot};
+ghost use Rattle.rules.specs.Tables.{noSlot, withLine, withState};
 ghost use Rattle.rules.specs.Slots.{carries, isEmpty, names, orAt, slotFor};
 ghost use Rattle.rules.specs.Access.{isHad, joined};
+ghost use Rattle.rules.specs.Refusal.{inRange};
 
-// ---- what a free place holds
+// ---- the numbers of a setup
 
-pub fn no_slot() -> Slot
-    ensures { λ r. ⌜ r ≡ noSlot ⌝ }
+// Numbers T and L that a setup can have.
+pub fn in_range(n: u8, l: u16) -> bool
+    ensures { λ r. ⌜ r ≡ inRange n l ⌝ }
 {
-    Slot {
-        line: 0,
-        state: SlotState::Empty,
+    if n < 1 {
+        return false;
     }
-}
-
-pub fn no_region() -> Region
-    ensures { λ r. ⌜ r ≡ noRegion ⌝ }
-{
-    let s = no_slot();
-    Region {
-        key: 0,
-        ended: false,
-        done: false,
-        stamp: 0,
-        deps: [0; MOST_DEPS],
-        slots: [s; MOST_SLOTS],
+    if MOST_THREADS < n as usize {
+        return false;
     }
+    if l < 1 {
+        return false;
+    }
+    l as usize <= MOST_LINES
 }
 
 // ---- dependences
@@ -84,6 +79,23 @@ pub fn join(deps: [u32; MOST_DEPS], d: u32) -> [u32; MOST_DEPS]
 }
 
 // ---- slots
+
+// A slot of line l.
+pub fn slot(l: u8, state: SlotState) -> Slot
+    ensures { λ r. ⌜ r ≡ withState state (withLine l noSlot) ⌝ }
+{
+    Slot {
+        line: l,
+        state: state,
+    }
+}
+
+// What a free place holds.
+pub fn no_slot() -> Slot
+    ensures { λ r. ⌜ r ≡ noSlot ⌝ }
+{
+    slot(0, SlotState::Empty)
+}
 
 // Whether the slot is in flight with the line l.
 pub fn slot_carries(s: Slot, l: u8) -> bool

@@ -14,6 +14,9 @@ pub const MOST_MODIFIED: u8 = 4;
 
 pub const MOST_ENTRIES: usize = 32;
 
+// The log entries of all threads.
+pub const MOST_LOGGED: usize = MOST_THREADS * MOST_ENTRIES;
+
 pub const MOST_DEPTH: u8 = 15;
 
 pub const MOST_NUMBER: u16 = 65535;
@@ -37,7 +40,9 @@ pub const RIPE_COUNT: u8 = 4;
 // A region as a row of numbers: key, ended, done, stamp, its dependences, its slots from SLOTS_AT on.
 pub const SLOTS_AT: usize = 8;
 
-pub type RegionRow = [u32; SLOTS_AT + MOST_SLOTS];
+pub const REGION_NUMBERS: usize = SLOTS_AT + MOST_SLOTS;
+
+pub type RegionRow = [u32; REGION_NUMBERS];
 
 pub type Regions = [RegionRow; MOST_REGIONS];
 
@@ -46,7 +51,9 @@ pub const DEPTH_AT: usize = MOST_ENTRIES;
 
 pub const LAST_AT: usize = MOST_ENTRIES + 1;
 
-pub type ThreadRow = [u64; MOST_ENTRIES + 2];
+pub const THREAD_NUMBERS: usize = MOST_ENTRIES + 2;
+
+pub type ThreadRow = [u64; THREAD_NUMBERS];
 
 pub type Threads = [ThreadRow; MOST_THREADS];
 
@@ -55,4 +62,6 @@ pub type Owners = [u32; MOST_LINES];
 
 pub type Locks = [bool; MOST_LINES];
 
-pub type Lines = [[u64; LINE_WORDS]; MOST_LINES];
+pub type Line = [u64; LINE_WORDS];
+
+pub type Lines = [Line; MOST_LINES];

@@ -8,7 +8,7 @@ use lib.ListN.{getD, length, length-append}
 use native.Mathlib.Omega.{arith}
 use borrow.Author.Tests.{eq-eqb, eqb-false, eqb-true, ne-eqb}
 use lib.Seq.{getD-at}
-use Rattle.rules.specs.Image.{Logged}
+use Rattle.rules.specs.Image.{Logged, noListed, noLogged}
 use Rattle.rules.specs.Lists.{count}
 use Rattle.rules.specs.Reader.{isLoggedBy, lastListed, lastLogged}
 use Rattle.rules.specs.Tables.{threadOf}
@@ -24,10 +24,10 @@ module _ {A : Type 0} where
   last-more xs x z = let e : length xs ≡ length (xs ++ (x ∷ [])) - 1 = rw (length-more xs x) (omega arith) in getD-at xs x [] z (length (xs ++ (x ∷ [])) - 1) e
 
 pub last-listed : (rs : List Listed) (r : Listed) → lastListed (rs ++ (r ∷ [])) ≡ r .key
-last-listed rs r = ap (λ x. x .key) (last-more rs r (record { key = 0; state = 0; deps = [] }))
+last-listed rs r = ap (λ x. x .key) (last-more rs r noListed)
 
 pub last-logged : (es : List Logged) (e : Logged) → lastLogged (es ++ (e ∷ [])) ≡ e .key
-last-logged es e = ap (λ x. x .key) (last-more es e (record { key = 0; line = 0; old = [] }))
+last-logged es e = ap (λ x. x .key) (last-more es e noLogged)
 
 -- the entries of a thread
 abbrev pub loggedBy : ℕ → List Logged → ℕ

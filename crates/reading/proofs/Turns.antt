@@ -8,13 +8,12 @@ use lib.ListN.{drop, getD, length, take}
 use native.Mathlib.Omega.{arith}
 use borrow.Author.Tests.{eqb-true, leb-true}
 use Rattle.rules.specs.Bytes.{lineAt, numOf}
-use Rattle.rules.specs.Image.{Persistent}
+use Rattle.rules.specs.Image.{Persistent, sized, withListed, withLogged, withMedium}
 use Rattle.rules.specs.Lists.{all}
 use Rattle.rules.specs.Reader.{Last, Next, Stop, Turn, endTurn, fieldsTurn, headTurn, imageBody, isImageKind, isKnownThread, isPlaced, keyAt, lastListed, lastLogged, lineTurn, listedAt, listedTurn, loggedAt, loggedTurn, turnBy, turnOf}
 use Rattle.rules.specs.Refusal.{inRange}
 use Rattle.rules.specs.Tables.{threadOf}
 use Rattle.rules.specs.declared.Listed.{Listed}
-use Rattle.rules.proofs.Codec.Turns.{persistentOf}
 use Rattle.undo.proofs.Laws.{and-true, test}
 use Rattle.reading.specs.Item.{countFor, endItem, entryItem, fieldsItem, headItem, itemOf, placed, regionItem, tallyOf}
 use Rattle.reading.specs.declared.Item.{Item}
@@ -25,12 +24,10 @@ use Rattle.reading.proofs.Counts.{Few, count-of}
 -- what a record with this body adds
 abbrev pub added : Persistent → List ℕ → Item → Persistent
 added p bs (Refused n) = p
-added p bs (Head t l) = persistentOf t l [] [] []
-added p bs Line = persistentOf (p .threads) (p .lines) (p .medium ++ (lineAt bs 0 ∷ [])) (p .regions) (p .log)
-added p bs (Region k s a b c d) =
-    persistentOf (p .threads) (p .lines) (p .medium) (p .regions ++ (record { key = k; state = s; deps = a ∷ b ∷ c ∷ d ∷ [] } ∷ [])) (p .log)
-added p bs (Entry k l) =
-    persistentOf (p .threads) (p .lines) (p .medium) (p .regions) (p .log ++ (record { key = k; line = l; old = lineAt bs 4 } ∷ []))
+added p bs (Head t l) = sized t l
+added p bs Line = withMedium (p .medium ++ (lineAt bs 0 ∷ [])) p
+added p bs (Region k s a b c d) = withListed (p .regions ++ (record { key = k; state = s; deps = a ∷ b ∷ c ∷ d ∷ [] } ∷ [])) p
+added p bs (Entry k l) = withLogged (p .log ++ (record { key = k; line = l; old = lineAt bs 4 } ∷ [])) p
 added p bs End = p
 
 -- the record as a turn

@@ -22,7 +22,7 @@ use Rattle.rules.proofs.Recover.Entries.{Headed, entriesAt, log-adds, log-ends}
 use Rattle.lines.proofs.Paste.{sets-join, sets-paste}
 use Rattle.undo.proofs.Laws.{and-true, test}
 use Rattle.reading.specs.Item.{afterEntry, afterHead, afterLine, afterRegion, countFor, itemOf, tabled, tallyOf}
-use Rattle.reading.specs.Scan.{filled, noListed, readOf, scanOf}
+use Rattle.reading.specs.Scan.{filled, freeListed, readOf, scanOf}
 use Rattle.reading.specs.declared.Item.{Item}
 use Rattle.reading.specs.declared.Item.the-variants.{End, Entry, Head, Line, Refused, Region}
 use Rattle.reading.specs.declared.Tally.{Tally}
@@ -188,7 +188,7 @@ pub record Reached (src : List ℕ) (s : Tally) (rs : List Listed) (es : List Ma
   pub state : Persistent
   pub kept : Kept state
   pub tally : s ≡ tallyOf state
-  pub regions : rs ≡ filled 32 noListed (state .regions)
+  pub regions : rs ≡ filled 32 freeListed (state .regions)
   pub log : es ≡ filled 256 noMark (marksOf (oldsIn src) (state .log))
   pub ahead : Ahead src state at (drop at src)
   pub inside : at ≤ length src
@@ -201,7 +201,7 @@ pub record Went (src : List ℕ) (s : Tally) (rs : List Listed) (es : List Mark)
   pub within : at + 1 + imageBody (getD src at 0) ≤ length src
   pub on : Reached src s rs es (at + 1 + imageBody (getD src at 0))
 
-pub reached-none : (src : List ℕ) → Reached src (afterHead 0 0) (replicate 32 noListed) (replicate 256 noMark) 0
+pub reached-none : (src : List ℕ) → Reached src (afterHead 0 0) (replicate 32 freeListed) (replicate 256 noMark) 0
 unfolding tallyOf count
 reached-none src = record { state = nothing; kept = kept-none; tally = refl; regions = refl; log = refl; ahead = refl; inside = omega arith; reads = refl }
 
@@ -213,7 +213,7 @@ here-ahead {src} {at = at} r h = r .ahead ∙ ap (oldsFrom 0 at) (drop-cons src 
 pub went : {src : List ℕ} {s t : Tally} {rs qs : List Listed} {es fs : List Mark} {at : ℕ} (r : Reached src s rs es at) (i : Item)
     → itemOf s (drop at src) ≡ i → isOn i ≡ true
     → t ≡ tallyOf (added (r .state) (drop (suc at) src) i)
-    → qs ≡ filled 32 noListed (added (r .state) (drop (suc at) src) i .regions)
+    → qs ≡ filled 32 freeListed (added (r .state) (drop (suc at) src) i .regions)
     → fs ≡ filled 256 noMark (marksOf (oldsIn src) (added (r .state) (drop (suc at) src) i .log))
     → Went src t qs fs at
 went {src} {s} {t} {rs} {qs} {es} {fs} {at} r i e on a b c =
@@ -267,7 +267,7 @@ module _ {src : List ℕ} {s : Tally} {rs : List Listed} {es : List Mark} {at : 
       let p = r .state in
       let z = and-true (eqb (p .threads) 0) (leb 1 t && leb t 8) (sound-item (Head t l) e) .0 in
       let n = r .kept .start (eqb-true (p .threads) 0 z) in
-      went r (Head t l) e refl (after-head p (drop (suc at) src) t l) (r .regions ∙ ap (filled 32 noListed) (n .0)) (r .log ∙ ap (λ x. filled 256 noMark (marksOf (oldsIn src) x)) (n .1))
+      went r (Head t l) e refl (after-head p (drop (suc at) src) t l) (r .regions ∙ ap (filled 32 freeListed) (n .0)) (r .log ∙ ap (λ x. filled 256 noMark (marksOf (oldsIn src) x)) (n .1))
 
   pub went-line : itemOf s (drop at src) ≡ Line → Went src (afterLine s) rs es at
   went-line e = went r Line e refl (ap afterLine (r .tally) ∙ after-line (r .state) (drop (suc at) src)) (r .regions) (r .log)
@@ -279,7 +279,7 @@ module _ {src : List ℕ} {s : Tally} {rs : List Listed} {es : List Mark} {at : 
       let p = r .state in
       let x : Listed = record { key = k; state = q; deps = a ∷ b ∷ c ∷ d ∷ [] } in
       went r (Region k q a b c d) e refl (ap (λ t. afterRegion t k) (r .tally) ∙ after-region p (drop (suc at) src) k q a b c d)
-      (rw (r .regions, r .tally) (filled-more 32 noListed (p .regions) x)) (r .log)
+      (rw (r .regions, r .tally) (filled-more 32 freeListed (p .regions) x)) (r .log)
 
   -- the kind of a log entry's record, and the place of its old line
   entry-kind : (k l : ℕ) → itemOf s (drop at src) ≡ Entry k l → eqb (getD src at 0) 35 ≡ true

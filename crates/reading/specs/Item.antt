@@ -7,6 +7,7 @@ use lib.ListN.{drop, getD, length, take}
 use Rattle.rules.specs.Bytes.{numOf}
 use Rattle.rules.specs.Image.{Persistent}
 use Rattle.rules.specs.Lists.{all, count}
+use Rattle.rules.specs.Measures.{mostEntries, mostRegions}
 use Rattle.rules.specs.Reader.{imageBody, isImageKind, isKnownThread, isLoggedBy, keyAt, lastListed, lastLogged, listedAt}
 use Rattle.rules.specs.Refusal.{inRange}
 use Rattle.rules.specs.Tables.{threadOf}
@@ -52,7 +53,7 @@ unfoldable pub regionItem : Tally → Listed → Item
 regionItem s r =
     cond (all (isKnownThread (s .threads)) (r .key ∷ r .deps))
     (cond (eqb (s .held) 0 || ltb (s .last) (r .key))
-    (cond (ltb (s .held) 32) (itemOfListed r) (Refused 7)) (Refused 7)) (Refused 3)
+    (cond (ltb (s .held) mostRegions) (itemOfListed r) (Refused 7)) (Refused 7)) (Refused 3)
 
 -- the log entries of the key's thread, where no later thread has one
 abbrev pub countFor : Tally → ℕ → ℕ
@@ -63,7 +64,7 @@ entryItem s k l =
     cond (isKnownThread (s .threads) k)
     (cond (ltb l (s .lines))
     (cond (leb (s .mark) k)
-    (cond (ltb (countFor s k) 32) (Entry k l) (Refused 7)) (Refused 7)) (Refused 4)) (Refused 3)
+    (cond (ltb (countFor s k) mostEntries) (Entry k l) (Refused 7)) (Refused 7)) (Refused 4)) (Refused 3)
 
 unfoldable pub endItem : List ℕ → Item
 endItem bs = cond (eqb (length bs) 0) End (Refused 7)

@@ -5,14 +5,15 @@ use lib.ListN.{length, replicate}
 use lib.Seq.{sets}
 use Rattle.rules.specs.Image.{Persistent}
 use Rattle.rules.specs.Marks.{marksOf, noMark, oldsIn}
+use Rattle.rules.specs.Measures.{mostDeps, mostLogged, mostRegions}
 use Rattle.rules.specs.Reader.{Reads, Refuses, Verdict, nothing}
 use Rattle.rules.specs.declared.Listed.{Listed}
 use Rattle.reading.specs.declared.Read.{Read}
 use Rattle.reading.specs.declared.Scan.{Scan}
 
 -- what a free place of the regions holds
-abbrev pub noListed : Listed
-noListed = record { key = 0; state = 0; deps = replicate 4 0 }
+abbrev pub freeListed : Listed
+freeListed = record { key = 0; state = 0; deps = replicate mostDeps 0 }
 
 -- a table of n places with the elements of a list from its front on
 abbrev pub filled : {A : Type 0} → ℕ → A → List A → List A
@@ -26,9 +27,9 @@ scanOf ps p =
       lines = p .lines;
       seen = length (p .medium);
       held = length (p .regions);
-      regions = filled 32 noListed (p .regions);
+      regions = filled mostRegions freeListed (p .regions);
       logged = length (p .log);
-      log = filled 256 noMark (marksOf ps (p .log));
+      log = filled mostLogged noMark (marksOf ps (p .log));
     }
 
 -- the answer of the reader: a refusal with empty tables, or 0 with what was read of the bytes

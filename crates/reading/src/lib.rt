@@ -1,4 +1,10 @@
 // One pass over the records of an image: 32 head, then L records 33, any 34, any 35, then 36.
+use measures::MOST_ENTRIES;
+use measures::MOST_LOGGED;
+use measures::MOST_REGIONS;
+use measures::NUMBERS;
+use rules::Listed;
+use rules::Mark;
 ghost use Prim.Native.Nat.{_+_, _<_, _≤_};
 ghost use mathlib.Core.Bool.{_||_};
 ghost use lib.Dec.{eqb, ltb};
@@ -7,12 +13,9 @@ ghost use mathlib.Core.List.{[], _∷_};
 ghost use lib.ListN.{length};
 ghost use Rattle.rules.specs.Reader.{nothing, imageBody, isKnownThread, keyAt, listedAt, recordsRead};
 ghost use Rattle.rules.specs.Lists.{all};
-ghost use Rattle.rules.specs.Refusal.{inRange};
-ghost use Rattle.reading.specs.Scan.{noListed, readOf, refusedWith};
+ghost use Rattle.reading.specs.Scan.{freeListed, readOf, refusedWith};
 ghost use Rattle.reading.specs.Item.{placed, headItem, regionItem, countFor, entryItem, endItem, fieldsItem, itemOf};
 ghost use Rattle.reading.specs.Item.{afterHead, afterLine, afterRegion, afterEntry, tabled};
-use rules::Listed;
-use rules::Mark;
 
 // What was read: T and L (0 before the head), the number of line records, the regions, the log entries.
 pub struct Scan {
@@ -20,9 +23,9 @@ pub struct Scan {
     pub lines: u16,
     pub seen: usize,
     pub held: usize,
-    pub regions: [Listed; 32],
+    pub regions: [Listed; MOST_REGIONS],
     pub logged: usize,
-    pub log: [Mark; 256],
+    pub log: [Mark; MOST_LOGGED],
 }
 
 // The answer: a refusal with empty tables, or 0 with what was read.
@@ -92,21 +95,6 @@ fn key_at(body: &[u8], i: usize) -> u32
     lines::join16(n, body[i] as u16)
 }
 
-fn in_range(t: u8, l: u16) -> bool
-    ensures { λ r. ⌜ r ≡ inRange t l ⌝ }
-{
-    if t == 0 {
-        return false;
-    }
-    if 8 < t {
-        return false;
-    }
-    if l == 0 {
-        return false;
-    }
-    l <= 256
-}
-
 // The head: 6 for T or L out of range.
 fn head(body: &[u8]) -> Item
     requires { ⌜ 3 ≤ length (now body) ⌝ }
@@ -114,10 +102,21 @@ fn head(body: &[u8]) -> Item
 {
     let t = body[0];
     let l = lines::join8(body[1], body[2]);
-    if in_range(t, l) {
+    if lookup::in_range(t, l) {
         return Item::Head(t, l);
     }
     Item::Refused(6)
+}
+
+// A region out of the numbers of its record.
+fn listed_of(key: u32, state: u8, a: u32, b: u32, c: u32, d: u32) -> Listed
+    ensures { λ r. ⌜ r ≡ record { key = key; state = state; deps = a ∷ b ∷ c ∷ d ∷ [] } ⌝ }
+{
+    Listed {
+        key: key,
+        state: state,
+        deps: [a, b, c, d],
+    }
 }
 
 fn listed_at(body: &[u8]) -> Listed
@@ -129,18 +128,14 @@ fn listed_at(body: &[u8]) -> Listed
     let b = key_at(body, 7);
     let c = key_at(body, 10);
     let d = key_at(body, 13);
-    Listed {
-        key: key,
-        state: body[3],
-        deps: [a, b, c, d],
-    }
+    listed_of(key, body[3], a, b, c, d)
 }
 
 // Whether the thread of a key is below T.
 fn is_known(t: u8, k: u32) -> bool
     ensures { λ r. ⌜ r ≡ isKnownThread t k ⌝ }
 {
-    k / 65536 < t as u32
+    k / NUMBERS < t as u32
 }
 
 // Whether the thread of the region and those of its dependences are below T.
@@ -183,7 +178,7 @@ fn region(s: Tally, r: Listed) -> Item
     if !rises(s, r.key) {
         return Item::Refused(7);
     }
-    if 32 <= s.held {
+    if MOST_REGIONS <= s.held {
         return Item::Refused(7);
     }
     let d = r.deps;
@@ -194,7 +189,7 @@ fn region(s: Tally, r: Listed) -> Item
 fn count_for(s: Tally, k: u32) -> usize
     ensures { λ r. ⌜ r ≡ countFor s k ⌝ }
 {
-    if s.mark / 65536 == k / 65536 {
+    if s.mark / NUMBERS == k / NUMBERS {
         return s.count;
     }
     0
@@ -213,7 +208,7 @@ fn entry(s: Tally, k: u32, l: u8) -> Item
     if k < s.mark {
         return Item::Refused(7);
     }
-    if 32 <= count_for(s, k) {
+    if MOST_ENTRIES <= count_for(s, k) {
         return Item::Refused(7);
     }
     Item::Entry(k, l)
@@ -292,69 +287,36 @@ fn after_line(s: Tally) -> Tally
     requires { ⌜ s .seen < s .lines ⌝ }
     ensures { λ r. ⌜ r ≡ afterLine s ⌝ }
 {
-    Tally {
-        threads: s.threads,
-        lines: s.lines,
-        seen: s.seen + 1,
-        held: s.held,
-        last: s.last,
-        logged: s.logged,
-        mark: s.mark,
-        count: s.count,
-    }
+    let mut q = s;
+    q.seen = s.seen + 1;
+    q
 }
 
 fn after_region(s: Tally, k: u32) -> Tally
     requires { ⌜ s .held < 32 ⌝ }
     ensures { λ r. ⌜ r ≡ afterRegion s k ⌝ }
 {
-    Tally {
-        threads: s.threads,
-        lines: s.lines,
-        seen: s.seen,
-        held: s.held + 1,
-        last: k,
-        logged: s.logged,
-        mark: s.mark,
-        count: s.count,
-    }
+    let mut q = s;
+    q.held = s.held + 1;
+    q.last = k;
+    q
 }
 
 fn after_entry(s: Tally, k: u32) -> Tally
     requires { ⌜ (s .logged < 256) × (countFor s k < 32) ⌝ }
     ensures { λ r. ⌜ r ≡ afterEntry s k ⌝ }
 {
-    Tally {
-        threads: s.threads,
-        lines: s.lines,
-        seen: s.seen,
-        held: s.held,
-        last: s.last,
-        logged: s.logged + 1,
-        mark: k,
-        count: count_for(s, k) + 1,
-    }
+    let mut q = s;
+    q.logged = s.logged + 1;
+    q.mark = k;
+    q.count = count_for(s, k) + 1;
+    q
 }
 
 fn no_listed() -> Listed
-    ensures { λ r. ⌜ r ≡ noListed ⌝ }
+    ensures { λ r. ⌜ r ≡ freeListed ⌝ }
 {
-    Listed {
-        key: 0,
-        state: 0,
-        deps: [0; 4],
-    }
-}
-
-// A region out of the numbers of its record.
-fn listed_of(key: u32, state: u8, a: u32, b: u32, c: u32, d: u32) -> Listed
-    ensures { λ r. ⌜ r ≡ record { key = key; state = state; deps = a ∷ b ∷ c ∷ d ∷ [] } ⌝ }
-{
-    Listed {
-        key: key,
-        state: state,
-        deps: [a, b, c, d],
-    }
+    listed_of(0, 0, 0, 0, 0, 0)
 }
 
 // A log entry out of the numbers of its record and the place of its old line.
@@ -369,7 +331,7 @@ fn mark_of(key: u32, line: u8, at: u16) -> Mark
 }
 
 // The answer with the tables as they are filled.
-fn read_of(refusal: u8, s: Tally, regions: [Listed; 32], log: [Mark; 256]) -> Read
+fn read_of(refusal: u8, s: Tally, regions: [Listed; MOST_REGIONS], log: [Mark; MOST_LOGGED]) -> Read
     ensures { λ r. ⌜ r ≡ record { refusal = refusal; scan = tabled s regions log } ⌝ }
 {
     Read {
@@ -390,8 +352,8 @@ fn read_of(refusal: u8, s: Tally, regions: [Listed; 32], log: [Mark; 256]) -> Re
 pub fn refused(n: u8) -> Read
     ensures { λ r. ⌜ r ≡ refusedWith n ⌝ }
 {
-    let regions = [no_listed(); 32];
-    let log = [mark_of(0, 0, 0); 256];
+    let regions = [no_listed(); MOST_REGIONS];
+    let log = [mark_of(0, 0, 0); MOST_LOGGED];
     read_of(n, after_head(0, 0), regions, log)
 }
 
@@ -400,8 +362,8 @@ pub fn read_records(src: &[u8]) -> Read
     ensures { λ r. ⌜ r ≡ readOf (now (src .entry)) (recordsRead nothing 0 (now (src .entry))) ⌝ }
 {
     let mut s = after_head(0, 0);
-    let mut regions = [no_listed(); 32];
-    let mut log = [mark_of(0, 0, 0); 256];
+    let mut regions = [no_listed(); MOST_REGIONS];
+    let mut log = [mark_of(0, 0, 0); MOST_LOGGED];
     let mut at: usize = 0;
     loop {
         let item = one_record(&src[at..], s);

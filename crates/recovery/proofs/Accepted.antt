@@ -11,7 +11,7 @@ use Rattle.judging.proofs.Judged.{contradicts-marks}
 use Rattle.judging.specs.Marks.{contradictsIn}
 use Rattle.reading.proofs.Walk.{read-few, take-filled}
 use Rattle.reading.proofs.Olds.{length-marks}
-use Rattle.reading.specs.Scan.{noListed, readOf, scanOf}
+use Rattle.reading.specs.Scan.{freeListed, readOf, scanOf}
 use Rattle.reading.specs.declared.Scan.{Scan}
 use Rattle.rules.proofs.Codec.Records.{readOr}
 use Rattle.rules.proofs.Codec.Refusals.{ImageRefusals, image-refuses, records-refuse, refusesBy}
@@ -64,7 +64,7 @@ module _ (ps : List ℕ) (s : Scan) (p : Persistent) (e : s ≡ scanOf ps p) (fe
 
   pub regions-front : take (s .held) (s .regions) ≡ p .regions
   unfolding scanOf
-  regions-front = rw e (take-filled 32 noListed (p .regions) (few .0))
+  regions-front = rw e (take-filled 32 freeListed (p .regions) (few .0))
 
   pub log-front : take (s .logged) (s .log) ≡ marksOf ps (p .log)
   unfolding scanOf

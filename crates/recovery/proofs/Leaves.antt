@@ -21,7 +21,7 @@ use Rattle.recovery.specs.Places.{foundAt, moreOf}
 use Rattle.rules.proofs.Codec.Image.{only-image, read-records, read-valid}
 use Rattle.rules.specs.Bytes.{lineAt, lineBytes, paste}
 use Rattle.rules.specs.Claim.{isByte}
-use Rattle.rules.specs.Image.{Logged, Persistent}
+use Rattle.rules.specs.Image.{Logged, Persistent, noListed, noLogged}
 use Rattle.rules.specs.Lists.{all}
 use Rattle.rules.specs.Marks.{markAt, marksOf, oldsIn}
 use Rattle.rules.specs.Reader.{Reads, nothing, readImage, recordsRead}
@@ -32,7 +32,7 @@ use Rattle.rules.specs.declared.Found.{Found}
 use Rattle.rules.specs.declared.Listed.{Listed}
 use Rattle.rules.specs.declared.Mark.{Mark}
 use Rattle.undo.proofs.Laws.{test}
-use Rattle.walking.proofs.Walked.{entry-found, entry-none, found-below, indicesIn, keysOf, noLogged, walk-entries}
+use Rattle.walking.proofs.Walked.{entry-found, entry-none, found-below, indicesIn, keysOf, walk-entries}
 use Rattle.walking.specs.Indices.{indicesOf, lastFirst, nth, walkIndices}
 
 -- ---- marks
@@ -68,7 +68,7 @@ walk-short zero rs = omega arith
 walk-short (suc n) rs = go (ltb (nextPlace rs) (length rs)) (walk-short n (without (nextPlace rs) rs))
   where
     go : (b : Bool) → length (walkFrom n (without (nextPlace rs) rs)) ≤ n
-        → length {A = ℕ} (elim b [ false ↦ [] | true ↦ getD rs (nextPlace rs) (record { key = 0; state = 0; deps = [] }) .key ∷ walkFrom n (without (nextPlace rs) rs) ]) ≤ suc n
+        → length {A = ℕ} (elim b [ false ↦ [] | true ↦ getD rs (nextPlace rs) noListed .key ∷ walkFrom n (without (nextPlace rs) rs) ]) ≤ suc n
     go false h = omega arith
     go true h = omega arith
 

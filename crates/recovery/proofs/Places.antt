@@ -1,6 +1,6 @@
 -- Records of one length, one behind the other, and the lines of an image that is accepted.
 use Prim.Native.Nat.{_*_, _+_, _<_, _≤_, suc, zero, ℕ}
-use mathlib.Core.Path.{_≡_, ap, refl}
+use mathlib.Core.Path.{_≡_, refl}
 use mathlib.Core.Bool.{Bool, _&&_, true}
 use mathlib.Core.List.{List, [], _++_, _∷_, append-assoc}
 use lib.Dec.{eqb, ltb}
@@ -10,16 +10,15 @@ use borrow.Author.Tests.{eqb-true, lt-ltb, ltb-true}
 use lib.Seq.{drop-append-add}
 use Rattle.rules.proofs.Codec.Bytes.{all-at, isLine}
 use Rattle.rules.proofs.Codec.Store.{length-head, length-line}
-use Rattle.rules.proofs.Codec.Turns.{length-entry, length-region, size-lines}
+use Rattle.rules.proofs.Codec.Turns.{entry-long, region-long, size-lines}
 use Rattle.rules.proofs.Codec.Valid.{Valid, fitsEntry, fitsRegion}
 use Rattle.rules.specs.Claim.{isByte}
-use Rattle.rules.specs.Image.{Logged, Persistent, encode, entryRecord, headRecord, lineRecord, regionRecord}
+use Rattle.rules.specs.Image.{Persistent, encode, entryRecord, headRecord, lineRecord, noLogged, regionRecord}
 use Rattle.rules.specs.Lists.{all, flat}
 use Rattle.rules.specs.Reader.{isKnownThread}
 use Rattle.rules.specs.Recovery.{lineStart}
 use Rattle.rules.specs.declared.Listed.{Listed}
 use Rattle.undo.proofs.Laws.{and-true}
-use Rattle.walking.proofs.Walked.{noLogged}
 
 -- ---- a list of bytes
 
@@ -54,16 +53,11 @@ pub no-test : {A : Type 0} (xs : List A) → all (λ x. true) xs ≡ true
 no-test [] = refl
 no-test (x ∷ xs) = no-test xs
 
-region-long : (n : ℕ) (r : Listed) → fitsRegion n r ≡ true → length (regionRecord r) ≡ 17
-unfolding regionRecord
-region-long n r e =
+fit-long : (n : ℕ) (r : Listed) → fitsRegion n r ≡ true → length (regionRecord r) ≡ 17
+fit-long n r e =
     let a = and-true (all (isKnownThread n) (r .key ∷ r .deps)) (eqb (length (r .deps)) 4 && isByte (r .state)) e in
     let b = and-true (eqb (length (r .deps)) 4) (isByte (r .state)) (a .1) in
-    ap suc (length-region r (eqb-true (length (r .deps)) 4 (b .0)))
-
-entry-long : (e : Logged) → length (entryRecord e) ≡ 69
-unfolding entryRecord
-entry-long e = ap suc (length-entry e)
+    region-long r (eqb-true (length (r .deps)) 4 (b .0))
 
 -- no image is longer than that of 256 lines, 32 regions and 256 log entries
 pub image-short : (p : Persistent) → Valid p → length (p .log) ≤ 256 → length (encode p) ≤ 34853
@@ -84,7 +78,7 @@ image-short p v h =
       length-append r (e ++ (36 ∷ [])),
       length-append e (36 ∷ []),
       flat-length lineRecord 65 (λ x. true) (λ x _. length-line x) (p .medium) (no-test (p .medium)),
-      flat-length regionRecord 17 (fitsRegion (p .threads)) (region-long (p .threads)) (p .regions) (v .regions),
+      flat-length regionRecord 17 (fitsRegion (p .threads)) (fit-long (p .threads)) (p .regions) (v .regions),
       flat-length entryRecord 69 (λ x. true) (λ x _. entry-long x) (p .log) (no-test (p .log)),
     )
 

@@ -57,7 +57,7 @@ fn is_set_up(h: Head) -> bool
     ensures { λ r. ⌜ r ≡ inRange (h .size .threads) (h .size .lines) ⌝ }
 {
     let z = h.size;
-    rows::in_range(z.threads, z.lines)
+    lookup::in_range(z.threads, z.lines)
 }
 
 fn no_such_thread(h: Head, t: u8) -> bool
@@ -195,13 +195,13 @@ fn access_refusal(h: Head, threads: &Threads, t: u8, l: u8, w: u8) -> u8
 pub fn setup_refusal(z: Size, n: u8, l: u16) -> u8
     ensures { λ r. ⌜ ((ts : Tables) → ts .size ≡ z → r ≡ refusal ts (Setup n l)) ⌝ }
 {
-    if !rows::in_range(n, l) {
+    if !lookup::in_range(n, l) {
         return 6;
     }
     if !memory_fits(z, l) {
         return 6;
     }
-    if rows::in_range(z.threads, z.lines) {
+    if lookup::in_range(z.threads, z.lines) {
         6
     } else {
         0

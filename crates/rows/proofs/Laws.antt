@@ -18,7 +18,7 @@ use Rattle.undo.specs.Table.{any}
 use Rattle.lookup.proofs.Map.{map-end, map-more, mapped}
 use Rattle.rules.specs.Refusal.{noRoomForDep}
 use Rattle.rules.specs.Slots.{carries, isEmpty, isFull, names, orAt, slotFor, slotFrom}
-use Rattle.rules.specs.Tables.{noEntry, noRegion, noSlot, noThread, withSlots}
+use Rattle.rules.specs.Tables.{noEntry, noRegion, noSlot, noThread, withDepth, withLast, withLog, withSlots}
 use Rattle.rules.specs.declared.Entry.{Entry}
 use Rattle.rules.specs.declared.Found.{Found}
 use Rattle.rules.specs.declared.Found.the-variants.{At, Full}
@@ -26,7 +26,7 @@ use Rattle.rules.specs.declared.Thread.{Thread}
 use Rattle.rules.specs.declared.Region.{Region}
 use Rattle.rules.specs.declared.Slot.{Slot}
 use Rattle.rules.specs.declared.SlotState.the-variants.{Waiting}
-use Rattle.rows.specs.Row.{entryOf, logOf, regionOf, regionsOf, slotOf, stateOf, suits, threadOf, threadsOf, withLog, word}
+use Rattle.rows.specs.Row.{entryOf, logOf, regionOf, regionsOf, slotOf, stateOf, suits, threadOf, threadsOf, word}
 
 -- ---- a list of rows
 
@@ -176,7 +176,7 @@ entry-stored w i x h =
     rw (log-set w i x h, getD-set-other w i 32 x 0 (λ e. omega arith), getD-set-other w i 33 x 0 (λ e. omega arith))
 
 pub place-stored : (w : List ℕ) (d n : ℕ) → length w ≡ 34 → d < 256 → n < 65536
-    → _≡_ {A = Thread} (threadOf (set (set w 32 d) 33 n)) (record { depth = d; last = n; log = threadOf w .log })
+    → _≡_ {A = Thread} (threadOf (set (set w 32 d) 33 n)) (withDepth d (withLast n (threadOf w)))
 unfolding threadOf
 place-stored w d n h hd hn =
     rw (

@@ -12,6 +12,7 @@ use Rattle.rules.specs.declared.Slot.{Slot}
 use Rattle.rules.specs.declared.SlotState.{SlotState}
 use Rattle.rules.specs.declared.SlotState.the-variants.{Empty, InFlight, Waiting}
 use Rattle.rules.specs.declared.Thread.{Thread}
+use Rattle.rules.specs.Measures.{mostEntries}
 
 abbrev pub word : List ℕ → ℕ → ℕ
 word w i = getD w i 0
@@ -66,14 +67,10 @@ entryOf n =
 -- ---- a thread
 
 abbrev pub logOf : List ℕ → List Entry
-logOf w = map entryOf (take 32 w)
+logOf w = map entryOf (take mostEntries w)
 
 unfoldable pub threadOf : List ℕ → Thread
 threadOf w = record { depth = word w 32 % 256; last = word w 33 % 65536; log = logOf w }
-
--- a thread with another log
-abbrev pub withLog : List Entry → Thread → Thread
-withLog es th = record { depth = th .depth; last = th .last; log = es }
 
 abbrev pub threadsOf : List (List ℕ) → List Thread
 threadsOf ws = map threadOf ws

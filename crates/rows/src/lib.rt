@@ -4,9 +4,8 @@ use measures::LAST_AT;
 use measures::LINE_WORDS;
 use measures::Lines;
 use measures::MOST_ENTRIES;
-use measures::MOST_LINES;
 use measures::MOST_SLOTS;
-use measures::MOST_THREADS;
+use measures::REGION_NUMBERS;
 use measures::RegionRow;
 use measures::Regions;
 use measures::SLOTS_AT;
@@ -28,32 +27,16 @@ ghost use Rattle.rules.specs.Slots.{carries, isFull, slotFor};
 ghost use Rattle.rules.specs.Access.{isOf};
 ghost use Rattle.rules.specs.Acknowledge.{kept, keptEntry, landed};
 ghost use Rattle.rules.specs.Commit.{freed, freedEntry};
-ghost use Rattle.rules.specs.Refusal.{inRange, noRoomForDep};
-ghost use Rattle.rules.specs.declared.Thread.{Thread};
+ghost use Rattle.rules.specs.Refusal.{noRoomForDep};
+ghost use Rattle.rules.specs.Tables.{noEntry, noRegion, withDepth, withLast, withLog};
 ghost use Rattle.measures.specs.Loan.{left, was};
-ghost use Rattle.rows.specs.Row.{entryOf, regionOf, slotOf, stateOf, suits, threadOf, withLog};
+ghost use Rattle.rows.specs.Row.{entryOf, regionOf, slotOf, stateOf, suits, threadOf};
 
 // The few numbers beside the lists.
 pub struct Head {
     pub size: Size,
     pub cut: bool,
     pub clock: u32,
-}
-
-// Numbers T and L that a setup can have.
-pub fn in_range(n: u8, l: u16) -> bool
-    ensures { λ r. ⌜ r ≡ inRange n l ⌝ }
-{
-    if n < 1 {
-        return false;
-    }
-    if MOST_THREADS < n as usize {
-        return false;
-    }
-    if l < 1 {
-        return false;
-    }
-    l as usize <= MOST_LINES
 }
 
 // ---- lengths of what is lent: no code, and the fact for the callers
@@ -125,27 +108,22 @@ pub fn lines256(m: &Lines)
 
 // ---- a slot
 
+fn state_of(n: u32) -> SlotState
+    ensures { λ r. ⌜ r ≡ stateOf n ⌝ }
+{
+    if n == 0 {
+        return SlotState::Empty;
+    }
+    if n == 1 {
+        return SlotState::InFlight;
+    }
+    SlotState::Waiting((n % 256) as u8)
+}
+
 fn slot_of(n: u32) -> Slot
     ensures { λ r. ⌜ r ≡ slotOf n ⌝ }
 {
-    let line = (n % 256) as u8;
-    let state = n / 256;
-    if state == 0 {
-        return Slot {
-            line: line,
-            state: SlotState::Empty,
-        };
-    }
-    if state == 1 {
-        return Slot {
-            line: line,
-            state: SlotState::InFlight,
-        };
-    }
-    Slot {
-        line: line,
-        state: SlotState::Waiting((state % 256) as u8),
-    }
+    lookup::slot((n % 256) as u8, state_of(n / 256))
 }
 
 fn state_word(s: Slot) -> u32
@@ -187,6 +165,14 @@ pub fn region_of(w: RegionRow) -> Region
         deps: [w[4], w[5], w[6], w[7]],
         slots: [s0, s1, s2, s3, s4, s5, s6, s7],
     }
+}
+
+// What a free place of the list holds.
+pub fn no_region() -> Region
+    ensures { λ r. ⌜ r ≡ noRegion ⌝ }
+{
+    let w: RegionRow = [0; REGION_NUMBERS];
+    region_of(w)
 }
 
 fn flag(b: bool) -> u32
@@ -372,6 +358,13 @@ fn entry_of(n: u64) -> Entry
     }
 }
 
+// What a free place of a log holds.
+pub fn no_entry() -> Entry
+    ensures { λ r. ⌜ r ≡ noEntry ⌝ }
+{
+    entry_of(0)
+}
+
 fn entry_word(e: Entry) -> u64
     ensures { λ r. ⌜ entryOf r ≡ e ⌝ }
 {
@@ -395,7 +388,7 @@ pub fn last_in(row: &ThreadRow) -> u16
 
 // The depth becomes d, and the last number n.
 pub fn set_place(row: &mut ThreadRow, d: u8, n: u16)
-    ensures { λ _. ⌜ _≡_ {A = Thread} (threadOf (left row)) (record { depth = d; last = n; log = threadOf (was row) .log }) ⌝ }
+    ensures { λ _. ⌜ threadOf (left row) ≡ withDepth d (withLast n (threadOf (was row))) ⌝ }
 {
     words34(row);
     row[DEPTH_AT] = d as u64;

@@ -31,8 +31,6 @@ use Rattle.rules.specs.Recovery.{Act, restore}
 use Rattle.rules.specs.Tables.{Memory, lineOf, startLines}
 use Rattle.undo.proofs.Laws.{and-true}
 use Rattle.undo.proofs.Shape.{rest}
-use Rattle.undo.specs.History.{History}
-use Rattle.undo.specs.Machine.{State}
 
 -- what is proved of the events: after every list of records some state of the undo log has the board's tables
 abbrev pub EveryKept : Type 0

@@ -1,4 +1,5 @@
--- Laws of the definitions: a refusal changes nothing, answers lie in the list of document 01, and what commits in a step does not depend on the order of choice.
+-- Laws of the definitions: a refusal changes nothing, answers lie in the list of document 01, what commits in a step does not depend on the order of choice,
+-- and a record holds bytes of its file.
 use Prim.Native.Nat.{suc, zero, ℕ}
 use mathlib.Core.Path.{_≡_, refl}
 use mathlib.Core.Logic.{_≢_}
@@ -6,8 +7,9 @@ use mathlib.Core.Bool.{Bool, _&&_, _||_, true}
 use mathlib.Core.List.{List, [], _∷_}
 use lib.Dec.{leb, ltb}
 use lib.ListN.{length}
+use Rattle.rules.specs.Kinds.{lastKind}
 use Rattle.rules.specs.Lists.{all}
-use Rattle.rules.specs.Record.{bodyLength, eventOf, readRecord}
+use Rattle.rules.specs.Record.{bodyLength, eventOf, isWhole, readRecord, recordsFrom}
 use Rattle.rules.specs.Refusal.{Test, firstBad, refusal, testsOf}
 use Rattle.rules.specs.Step.{step, stepBy, stepEvent, stepRead}
 use Rattle.rules.specs.Tables.{Board}
@@ -17,6 +19,7 @@ use Rattle.rules.specs.declared.Reading.{Reading}
 use Rattle.rules.specs.declared.Reading.the-variants.{Refused, Whole}
 use Rattle.rules.specs.declared.Tables.{Tables}
 use Rattle.undo.proofs.Laws.{and-true, test}
+use Rattle.rules.specs.Claim.{isByte}
 
 -- ---- a refusal leaves the board and has the value 0
 
@@ -70,6 +73,17 @@ pub answers : (b : Board) (bs : List ℕ) → isAnswer (step b bs .answer .refus
 unfolding step readRecord
 answers b [] = refl
 answers b (k ∷ body) =
-    test (ltb 8 k)
+    test (ltb lastKind k)
     (λ e. rw e)
     (λ e. test (ltb (length body) (bodyLength k)) (λ f. rw (e, f)) (λ f. rw (e, f) (event-answer b (eventOf k body))))
+
+-- ---- a record holds bytes of its file
+
+pub records-bytes : (k : ℕ) (bs : List ℕ) → all isByte bs ≡ true → all (all isByte) (recordsFrom k bs) ≡ true
+unfolding recordsFrom
+records-bytes zero [] h = refl
+records-bytes (suc k) [] h = refl
+records-bytes (suc k) (b ∷ bs) h = records-bytes k bs (and-true (isByte b) (all isByte bs) h .1)
+records-bytes zero (b ∷ bs) h =
+    let r = records-bytes (bodyLength b) bs (and-true (isByte b) (all isByte bs) h .1) in
+    test (isWhole (readRecord (b ∷ bs))) (λ w. rw (w, h) r) (λ w. rw (w, h) refl)

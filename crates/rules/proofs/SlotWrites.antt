@@ -12,6 +12,7 @@ use Rattle.rules.proofs.Sim.State.{Distinct, more}
 use Rattle.rules.proofs.Views.{stateOf}
 use Rattle.rules.specs.Lists.{all, place}
 use Rattle.rules.specs.Slots.{counted, countedSlot, isEmpty, isFull, orAt, slotFor, slotFrom, written, writtenAt}
+use Rattle.rules.specs.Tables.{noSlot, withLine, withState}
 use Rattle.rules.specs.declared.Found.{Found}
 use Rattle.rules.specs.declared.Found.the-variants.{At, Full}
 use Rattle.rules.specs.declared.Slot.{Slot}
@@ -107,7 +108,7 @@ search-free l i (s ∷ ss) e =
 
 -- a slot that waits with count 0
 abbrev pub waiting : ℕ → Slot
-waiting l = record { line = l; state = Waiting 0 }
+waiting l = withState (Waiting 0) (withLine l noSlot)
 
 -- the slots after a write
 data Wrote (l : ℕ) (ss : List Slot) : Type 0 where

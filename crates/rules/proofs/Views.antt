@@ -3,10 +3,9 @@ use Rattle.undo.specs.Machine as u
 use Prim.Native.Nat.{ℕ}
 use mathlib.Core.Bool.{Bool, _&&_, cond, not}
 use mathlib.Core.List.{List, [], _∷_}
-use lib.Dec.{eqb, leb, ltb}
-use lib.ListN.{getD, length}
+use lib.Dec.{eqb, leb}
+use lib.ListN.{getD}
 use Rattle.rules.specs.History.{Account, openedIn}
-use Rattle.rules.specs.Lists.{all}
 use Rattle.rules.specs.Slots.{names}
 use Rattle.rules.specs.Tables.{Board, lineOf, noEntry, numberOf, regionAt, threadAt, threadOf}
 use Rattle.rules.specs.declared.Entry.{Entry}
@@ -14,7 +13,6 @@ use Rattle.rules.specs.declared.Slot.{Slot}
 use Rattle.rules.specs.declared.SlotState.{SlotState}
 use Rattle.rules.specs.declared.SlotState.the-variants.{Empty, InFlight, Waiting}
 use Rattle.rules.specs.declared.Tables.{Tables}
-use Rattle.undo.specs.Machine.{Carry, Clear, Flies, Waits}
 use Rattle.undo.specs.Table.{any}
 
 -- what region slots say of line l: the state of the slot that names it

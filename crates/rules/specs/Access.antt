@@ -1,6 +1,6 @@
 -- "Read and write" and "Write".
 use Prim.Native.Nat.{_*_, _+_, ℕ}
-use mathlib.Core.Bool.{Bool, _||_, cond, false, not, true}
+use mathlib.Core.Bool.{Bool, _||_, cond, not, true}
 use mathlib.Core.List.{List}
 use lib.Dec.{eqb}
 use lib.ListN.{getD, set}
@@ -8,7 +8,7 @@ use Rattle.rules.specs.Flight.{flown}
 use Rattle.rules.specs.Lists.{count, place}
 use Rattle.rules.specs.Slots.{written}
 use Rattle.rules.specs.Measures.{mostEntries}
-use Rattle.rules.specs.Tables.{Board, current, lineOf, ownerOf, regionAt, threadAt, withCur, withDeps, withLock, withLog, withOld, withOwner, withRegion, withSlots, withTables, withThread}
+use Rattle.rules.specs.Tables.{Board, current, lineOf, noEntry, ownerOf, regionAt, threadAt, withCur, withDeps, withLock, withLog, withOld, withOwner, withRegion, withSlots, withTables, withThread, withWrite}
 use Rattle.rules.specs.declared.Entry.{Entry}
 use Rattle.rules.specs.declared.Region.{Region}
 use Rattle.rules.specs.declared.Tables.{Tables}
@@ -44,7 +44,7 @@ abbrev pub freeEntry : ℕ → Tables → ℕ
 freeEntry t ts = place (isOf 0) (threadAt t ts .log)
 
 abbrev pub freshEntry : ℕ → ℕ → ℕ → Tables → Entry
-freshEntry t k l ts = record { key = k; line = l; rank = count (isOf k) (threadAt t ts .log); persistent = false }
+freshEntry t k l ts = withWrite k l (count (isOf k) (threadAt t ts .log)) noEntry
 
 -- region k of thread t logs line l
 unfoldable pub logged : ℕ → ℕ → ℕ → Board → Board

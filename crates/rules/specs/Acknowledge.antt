@@ -7,7 +7,7 @@ use lib.ListN.{getD, set}
 use Rattle.rules.specs.Flight.{flown}
 use Rattle.rules.specs.Lists.{place}
 use Rattle.rules.specs.Slots.{carries}
-use Rattle.rules.specs.Tables.{Board, isKey, lineOf, noRegion, noSlot, threadAt, threadOf, withLock, withLog, withMed, withRegions, withSlots, withTables, withThread}
+use Rattle.rules.specs.Tables.{Board, isKey, lineOf, noRegion, noSlot, threadAt, threadOf, withLock, withLog, withMed, withPersistent, withRegions, withSlots, withTables, withThread}
 use Rattle.rules.specs.declared.Entry.{Entry}
 use Rattle.rules.specs.declared.Region.{Region}
 use Rattle.rules.specs.declared.Slot.{Slot}
@@ -27,7 +27,7 @@ abbrev pub isEntry : ℕ → ℕ → Entry → Bool
 isEntry k l e = eqb (e .key) k && eqb (e .line) l
 
 unfoldable pub keptEntry : ℕ → ℕ → Entry → Entry
-keptEntry k l e = cond (isEntry k l e) (record { key = e .key; line = e .line; rank = e .rank; persistent = true }) e
+keptEntry k l e = cond (isEntry k l e) (withPersistent true e) e
 
 unfoldable pub kept : ℕ → ℕ → Thread → Thread
 kept k l th = withLog (map (keptEntry k l) (th .log)) th

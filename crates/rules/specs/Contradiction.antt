@@ -4,7 +4,7 @@ use mathlib.Core.Bool.{Bool, _&&_, _||_, cond, false, not, true}
 use mathlib.Core.List.{List, [], _∷_}
 use lib.Dec.{eqb, ltb}
 use lib.ListN.{getD, length}
-use Rattle.rules.specs.Image.{Logged, Persistent}
+use Rattle.rules.specs.Image.{Logged, Persistent, noListed}
 use Rattle.rules.specs.Lists.{all, place}
 use Rattle.rules.specs.Tables.{numberOf, threadOf}
 use Rattle.rules.specs.declared.Listed.{Listed}
@@ -44,7 +44,7 @@ anyBroken (r ∷ rs) = brokenBefore r rs || anyBroken rs
 
 -- region a reaches region b through dependences, one or more, at most n
 abbrev pub depsOf : ℕ → List Listed → List ℕ
-depsOf k rs = getD rs (place (λ r. eqb (r .key) k) rs) (record { key = 0; state = 0; deps = [] }) .deps
+depsOf k rs = getD rs (place (λ r. eqb (r .key) k) rs) noListed .deps
 
 unfoldable pub reachesIn : ℕ → List Listed → ℕ → ℕ → Bool
 reachesIn zero rs a b = false

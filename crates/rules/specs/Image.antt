@@ -28,6 +28,26 @@ pub record Persistent : Type 0 where
   pub regions : List Listed
   pub log : List Logged
 
+-- what stands behind the list of regions, and behind the log
+abbrev pub noListed : Listed
+noListed = record { key = 0; state = 0; deps = [] }
+
+abbrev pub noLogged : Logged
+noLogged = record { key = 0; line = 0; old = [] }
+
+-- nothing is held yet, of T threads and L lines
+abbrev pub sized : ℕ → ℕ → Persistent
+sized n l = record { threads = n; lines = l; medium = []; regions = []; log = [] }
+
+abbrev pub withMedium : List (List ℕ) → Persistent → Persistent
+withMedium m p = record { threads = p .threads; lines = p .lines; medium = m; regions = p .regions; log = p .log }
+
+abbrev pub withListed : List Listed → Persistent → Persistent
+withListed rs p = record { threads = p .threads; lines = p .lines; medium = p .medium; regions = rs; log = p .log }
+
+abbrev pub withLogged : List Logged → Persistent → Persistent
+withLogged es p = record { threads = p .threads; lines = p .lines; medium = p .medium; regions = p .regions; log = es }
+
 -- ---- the persistent state of a board
 
 unfoldable pub savedRegion : Region → Listed

@@ -1,5 +1,5 @@
 -- "Measures (all numbers decimal)." Crate measures has the same numbers for programs.
-use Prim.Native.Nat.{ℕ}
+use Prim.Native.Nat.{_*_, ℕ}
 
 -- "Threads T: 1 to 8. Lines L: 1 to 256. A line is eight words of 8 bytes"
 abbrev pub mostThreads : ℕ
@@ -17,6 +17,10 @@ mostModified = 4
 
 abbrev pub mostEntries : ℕ
 mostEntries = 32
+
+-- the log entries of all threads
+abbrev pub mostLogged : ℕ
+mostLogged = mostThreads * mostEntries
 
 abbrev pub mostDepth : ℕ
 mostDepth = 15

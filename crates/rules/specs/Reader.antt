@@ -6,7 +6,7 @@ use lib.Dec.{eqb, leb, ltb}
 use lib.ListN.{drop, getD, length, take}
 use Rattle.rules.specs.Bytes.{lineAt, numOf}
 use Rattle.rules.specs.Contradiction.{contradicts}
-use Rattle.rules.specs.Image.{Logged, Persistent}
+use Rattle.rules.specs.Image.{Logged, Persistent, noListed, noLogged, sized, withListed, withLogged, withMedium}
 use Rattle.rules.specs.Lists.{all, count}
 use Rattle.rules.specs.Measures.{mostEntries, mostRegions}
 use Rattle.rules.specs.Refusal.{inRange}
@@ -43,7 +43,7 @@ module _ {S : Type 0} where
 
 -- nothing read yet; T is 0 until the head is read
 abbrev pub nothing : Persistent
-nothing = record { threads = 0; lines = 0; medium = []; regions = []; log = [] }
+nothing = sized 0 0
 
 -- the lengths of the bodies of 32 to 36
 abbrev pub imageBody : ℕ → ℕ
@@ -68,12 +68,11 @@ keyAt bs i = keyOf (getD bs i 0) (numOf (take 2 (drop (i + 1) bs)))
 unfoldable pub headTurn : List ℕ → Turn Persistent
 headTurn bs =
     cond (inRange (getD bs 0 0) (numOf (take 2 (drop 1 bs))))
-    (Next (record { threads = getD bs 0 0; lines = numOf (take 2 (drop 1 bs)); medium = []; regions = []; log = [] }))
+    (Next (sized (getD bs 0 0) (numOf (take 2 (drop 1 bs)))))
     (Stop 6)
 
 unfoldable pub lineTurn : Persistent → List ℕ → Turn Persistent
-lineTurn p bs =
-    Next (record { threads = p .threads; lines = p .lines; medium = p .medium ++ (lineAt bs 0 ∷ []); regions = p .regions; log = p .log })
+lineTurn p bs = Next (withMedium (p .medium ++ (lineAt bs 0 ∷ [])) p)
 
 -- the entry that a body of kind 34 holds
 unfoldable pub listedAt : List ℕ → Listed
@@ -84,7 +83,7 @@ abbrev pub isKnownThread : ℕ → ℕ → Bool
 isKnownThread n k = ltb (threadOf k) n
 
 abbrev pub lastListed : List Listed → ℕ
-lastListed rs = getD rs (length rs - 1) (record { key = 0; state = 0; deps = [] }) .key
+lastListed rs = getD rs (length rs - 1) noListed .key
 
 -- 7 "thread and number not rising, over 32 entries of kind 34"
 unfoldable pub listedTurn : Persistent → Listed → Turn Persistent
@@ -92,7 +91,7 @@ listedTurn p r =
     cond (all (isKnownThread (p .threads)) (r .key ∷ r .deps))
     (cond (eqb (length (p .regions)) 0 || ltb (lastListed (p .regions)) (r .key))
     (cond (ltb (length (p .regions)) mostRegions)
-    (Next (record { threads = p .threads; lines = p .lines; medium = p .medium; regions = p .regions ++ (r ∷ []); log = p .log }))
+    (Next (withListed (p .regions ++ (r ∷ [])) p))
     (Stop 7)) (Stop 7)) (Stop 3)
 
 -- the entry that a body of kind 35 holds
@@ -100,7 +99,7 @@ unfoldable pub loggedAt : List ℕ → Logged
 loggedAt bs = record { key = keyAt bs 0; line = getD bs 3 0; old = lineAt bs 4 }
 
 abbrev pub lastLogged : List Logged → ℕ
-lastLogged es = getD es (length es - 1) (record { key = 0; line = 0; old = [] }) .key
+lastLogged es = getD es (length es - 1) noLogged .key
 
 abbrev pub isLoggedBy : ℕ → Logged → Bool
 isLoggedBy t e = eqb (threadOf (e .key)) t
@@ -112,7 +111,7 @@ loggedTurn p e =
     (cond (ltb (e .line) (p .lines))
     (cond (leb (lastLogged (p .log)) (e .key))
     (cond (ltb (count (isLoggedBy (threadOf (e .key))) (p .log)) mostEntries)
-    (Next (record { threads = p .threads; lines = p .lines; medium = p .medium; regions = p .regions; log = p .log ++ (e ∷ []) }))
+    (Next (withLogged (p .log ++ (e ∷ [])) p))
     (Stop 7)) (Stop 7)) (Stop 4)) (Stop 3)
 
 -- 7 "bytes after the end"

@@ -5,7 +5,7 @@ use mathlib.Core.List.{List, [], _∷_, map}
 use lib.Dec.{eqb}
 use lib.ListN.{getD, set}
 use Rattle.rules.specs.Measures.{ripeCount}
-use Rattle.rules.specs.Tables.{lineOf}
+use Rattle.rules.specs.Tables.{lineOf, noSlot, withLine, withState}
 use Rattle.rules.specs.declared.Found.{Found}
 use Rattle.rules.specs.declared.Found.the-variants.{At, Full}
 use Rattle.rules.specs.declared.Region.{Region}
@@ -65,11 +65,11 @@ counted (Waiting c) = Waiting (min (c + 1) ripeCount)
 counted InFlight = InFlight
 
 abbrev pub countedSlot : Slot → Slot
-countedSlot s = record { line = s .line; state = counted (s .state) }
+countedSlot s = withState (counted (s .state)) s
 
 -- "that slot waits with count 0, and if it was in flight the flight is taken back"
 abbrev pub writtenAt : ℕ → Found → List Slot → List Slot
-writtenAt l (At k) ss = set (map countedSlot ss) k (record { line = l; state = Waiting 0 })
+writtenAt l (At k) ss = set (map countedSlot ss) k (withState (Waiting 0) (withLine l noSlot))
 writtenAt l Full ss = ss
 
 -- the slots after a write of line l
@@ -87,7 +87,7 @@ abbrev pub flies : List Bool → Bool → Slot → Bool
 flies lock ended s = isRipe ended (s .state) && not (getD lock (s .line) false)
 
 abbrev pub flownSlot : List Bool → Bool → Slot → Slot
-flownSlot lock ended s = cond (flies lock ended s) (record { line = s .line; state = InFlight }) s
+flownSlot lock ended s = cond (flies lock ended s) (withState InFlight s) s
 
 unfoldable pub flownSlots : List Bool → Bool → List Slot → List Slot
 flownSlots lock ended ss = map (flownSlot lock ended) ss

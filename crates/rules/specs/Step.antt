@@ -12,7 +12,7 @@ use Rattle.rules.specs.End.{endRegion, shallower}
 use Rattle.rules.specs.Lists.{count}
 use Rattle.rules.specs.Record.{readRecord}
 use Rattle.rules.specs.Refusal.{depthOf, isOfThread, refusal}
-use Rattle.rules.specs.Tables.{Board, current, isHeld, lineOf, withCut, withSize, withTables}
+use Rattle.rules.specs.Tables.{Board, current, isHeld, lineOf, withCut, withNumbers, withSize, withTables}
 use Rattle.rules.specs.declared.Answer.{Answer}
 use Rattle.rules.specs.declared.Event.{Event}
 use Rattle.rules.specs.declared.Event.the-variants.{Begin, Cut, DataAck, End, Fence, LogAck, Read, Setup, Write}
@@ -35,7 +35,7 @@ settledBoard b = did (length (settled (b .tables) .keys)) (withTables (settled (
 
 -- "0 setup": T and L stand
 unfoldable pub setup : ℕ → ℕ → Tables → Tables
-setup n l ts = withSize (record { threads = n; lines = l; zero = ts .size .zero; lent = ts .size .lent }) ts
+setup n l ts = withSize (withNumbers n l (ts .size)) ts
 
 -- "Fence gives 1 if the thread has no uncommitted region (also if it never began one), else 0"
 unfoldable pub fence : ℕ → Tables → ℕ

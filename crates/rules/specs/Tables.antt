@@ -6,11 +6,12 @@ use lib.Dec.{eqb, leb}
 use lib.ListN.{getD, length, replicate, set}
 use Rattle.rules.specs.Bytes.{lineAt}
 use Rattle.rules.specs.Lists.{place}
-use Rattle.rules.specs.Measures.{lineWords, mostDeps, mostEntries, mostLines, mostRegions, mostSlots, mostThreads}
+use Rattle.rules.specs.Measures.{lineWords, mostDeps, mostEntries, mostLines, mostLogged, mostRegions, mostSlots, mostThreads}
 use Rattle.rules.specs.declared.Entry.{Entry}
 use Rattle.rules.specs.declared.Region.{Region}
 use Rattle.rules.specs.declared.Size.{Size}
 use Rattle.rules.specs.declared.Slot.{Slot}
+use Rattle.rules.specs.declared.SlotState.{SlotState}
 use Rattle.rules.specs.declared.SlotState.the-variants.{Empty}
 use Rattle.rules.specs.declared.Tables.{Tables}
 use Rattle.rules.specs.declared.Thread.{Thread}
@@ -42,6 +43,10 @@ noEntry = record { key = 0; line = 0; rank = 0; persistent = false }
 abbrev pub noThread : Thread
 noThread = record { depth = 0; last = 0; log = replicate mostEntries noEntry }
 
+-- no numbers T and L before setup
+abbrev pub noSize : Bool → ℕ → Size
+noSize zeroed n = record { threads = 0; lines = 0; zero = zeroed; lent = n }
+
 -- ---- the starting memory: "a program starts with zero memory, a library caller lends the starting memory"
 
 pub data Memory : Type 0 where
@@ -72,7 +77,7 @@ startLines (Lent bs) = lentFrom bs 0 mostLines
 abbrev pub freshTables : Bool → ℕ → Tables
 freshTables zeroed n =
     record {
-      size = record { threads = 0; lines = 0; zero = zeroed; lent = n };
+      size = noSize zeroed n;
       cut = false;
       clock = 0;
       threads = replicate mostThreads noThread;
@@ -88,7 +93,7 @@ fresh m =
       tables = freshTables (isZero m) (lentLength m);
       cur = startLines m;
       med = startLines m;
-      old = replicate (mostThreads * mostEntries) noLine;
+      old = replicate mostLogged noLine;
       car = replicate mostLines noLine;
     }
 
@@ -160,6 +165,9 @@ withOwners os ts = record { size = ts .size; cut = ts .cut; clock = ts .clock; t
 abbrev pub withLocks : List Bool → Tables → Tables
 withLocks ls ts = record { size = ts .size; cut = ts .cut; clock = ts .clock; threads = ts .threads; regions = ts .regions; owner = ts .owner; lock = ls }
 
+abbrev pub withNumbers : ℕ → ℕ → Size → Size
+withNumbers n l z = record { threads = n; lines = l; zero = z .zero; lent = z .lent }
+
 abbrev pub withKey : ℕ → Region → Region
 withKey k r = record { key = k; ended = r .ended; done = r .done; stamp = r .stamp; deps = r .deps; slots = r .slots }
 
@@ -174,6 +182,18 @@ withDeps ds r = record { key = r .key; ended = r .ended; done = r .done; stamp =
 
 abbrev pub withSlots : List Slot → Region → Region
 withSlots ss r = record { key = r .key; ended = r .ended; done = r .done; stamp = r .stamp; deps = r .deps; slots = ss }
+
+abbrev pub withState : SlotState → Slot → Slot
+withState x s = record { line = s .line; state = x }
+
+abbrev pub withLine : ℕ → Slot → Slot
+withLine l s = record { line = l; state = s .state }
+
+abbrev pub withWrite : ℕ → ℕ → ℕ → Entry → Entry
+withWrite k l n e = record { key = k; line = l; rank = n; persistent = e .persistent }
+
+abbrev pub withPersistent : Bool → Entry → Entry
+withPersistent p e = record { key = e .key; line = e .line; rank = e .rank; persistent = p }
 
 abbrev pub withDepth : ℕ → Thread → Thread
 withDepth d th = record { depth = d; last = th .last; log = th .log }

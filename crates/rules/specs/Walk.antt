@@ -4,7 +4,7 @@ use mathlib.Core.Bool.{Bool, false, not, true}
 use mathlib.Core.List.{List, [], _++_, _∷_, reverse}
 use lib.Dec.{eqb, ltb}
 use lib.ListN.{drop, getD, length, take}
-use Rattle.rules.specs.Image.{Logged, Persistent}
+use Rattle.rules.specs.Image.{Logged, Persistent, noListed}
 use Rattle.rules.specs.Lists.{place}
 use Rattle.rules.specs.declared.Listed.{Listed}
 use Rattle.undo.specs.Table.{any, keep}
@@ -27,7 +27,7 @@ walkFrom zero rs = []
 walkFrom (suc n) rs =
     elim (ltb (nextPlace rs) (length rs)) [
       | false ↦ []
-      | true ↦ getD rs (nextPlace rs) (record { key = 0; state = 0; deps = [] }) .key ∷ walkFrom n (without (nextPlace rs) rs)
+      | true ↦ getD rs (nextPlace rs) noListed .key ∷ walkFrom n (without (nextPlace rs) rs)
     ]
 
 unfoldable pub walk : Persistent → List ℕ

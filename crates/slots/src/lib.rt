@@ -12,43 +12,35 @@ ghost use mathlib.Core.Bool.{_&&_, cond, not};
 ghost use mathlib.Core.List.{map};
 ghost use lib.ListN.{set};
 ghost use Rattle.measures.specs.Loan.{left, was};
-ghost use Rattle.rules.specs.Tables.{lineOf};
-ghost use Rattle.rules.specs.Slots.{carried, carries, countedSlot, flownSlots, isRipe, written};
+ghost use Rattle.rules.specs.Tables.{lineOf, withState};
+ghost use Rattle.rules.specs.Slots.{carried, counted, countedSlot, flownSlots, isRipe, written};
 ghost use Rattle.rules.specs.Acknowledge.{dropped, droppedSlot};
 ghost use Rattle.rules.specs.declared.SlotState.the-variants.{InFlight};
-ghost use Rattle.rules.specs.declared.Slot.{Slot};
 
 // ---- "Every other waiting slot of the region counts one more, to at most 4"
+
+fn counted(st: SlotState) -> SlotState
+    ensures { λ r. ⌜ r ≡ counted st ⌝ }
+{
+    match st {
+        SlotState::Empty => SlotState::Empty,
+        SlotState::Waiting(c) => {
+            if c < RIPE_COUNT {
+                SlotState::Waiting(c + 1)
+            } else {
+                SlotState::Waiting(RIPE_COUNT)
+            }
+        }
+        SlotState::InFlight => SlotState::InFlight,
+    }
+}
 
 // A waiting slot counts one more, to at most 4.
 fn counted_slot(s: Slot) -> Slot
     ensures { λ r. ⌜ r ≡ countedSlot s ⌝ }
 {
-    let l = s.line;
     let st = s.state;
-    match st {
-        SlotState::Empty => Slot {
-            line: l,
-            state: SlotState::Empty,
-        },
-        SlotState::Waiting(c) => {
-            if c < RIPE_COUNT {
-                Slot {
-                    line: l,
-                    state: SlotState::Waiting(c + 1),
-                }
-            } else {
-                Slot {
-                    line: l,
-                    state: SlotState::Waiting(RIPE_COUNT),
-                }
-            }
-        }
-        SlotState::InFlight => Slot {
-            line: l,
-            state: SlotState::InFlight,
-        },
-    }
+    lookup::slot(s.line, counted(st))
 }
 
 // Every waiting slot counts one more.
@@ -72,10 +64,7 @@ pub fn written(slots: [Slot; MOST_SLOTS], l: u8) -> [Slot; MOST_SLOTS]
     match lookup::slot_for(slots, l) {
         Found::At(k) => {
             let mut q = counted_slots(slots);
-            q[k] = Slot {
-                line: l,
-                state: SlotState::Waiting(0),
-            };
+            q[k] = lookup::slot(l, SlotState::Waiting(0));
             q
         }
         Found::Full => slots,
@@ -145,14 +134,10 @@ fn flies(s: Slot, ended: bool, locked: bool) -> bool
 
 // The slot, in flight if it flies.
 fn flown_slot(s: Slot, f: bool) -> Slot
-    ensures { λ r. ⌜ r ≡ cond {A = Slot} f (record { line = s .line; state = InFlight }) s ⌝ }
+    ensures { λ r. ⌜ r ≡ cond f (withState InFlight s) s ⌝ }
 {
     if f {
-        let l = s.line;
-        Slot {
-            line: l,
-            state: SlotState::InFlight,
-        }
+        lookup::slot(s.line, SlotState::InFlight)
     } else {
         s
     }

@@ -4,7 +4,7 @@ use mathlib.Core.Bool.{cond}
 use lib.Dec.{ltb}
 use lib.ListN.{length, set}
 use Rattle.rules.specs.Slots.{carried, flownSlots}
-use Rattle.rules.specs.Tables.{Board, withRegions, withSlots, withTables}
+use Rattle.rules.specs.Tables.{Board, withCar, withRegions, withSlots, withTables}
 use Rattle.rules.specs.declared.Region.{Region}
 
 -- the board with the region r at place i
@@ -15,11 +15,6 @@ placed i r b = withTables (withRegions (set (b .tables .regions) i r) (b .tables
 unfoldable pub flownAt : ℕ → Region → Board → Board
 flownAt i r b =
     cond (ltb i (length (b .tables .regions)))
-    (record {
-      tables = withRegions (set (b .tables .regions) i (withSlots (flownSlots (b .tables .lock) (r .ended) (r .slots)) r)) (b .tables);
-      cur = b .cur;
-      med = b .med;
-      old = b .old;
-      car = carried (b .tables .lock) (r .ended) (r .slots) (b .cur) (b .car);
-    })
+    (withCar (carried (b .tables .lock) (r .ended) (r .slots) (b .cur) (b .car))
+    (placed i (withSlots (flownSlots (b .tables .lock) (r .ended) (r .slots)) r) b))
     b

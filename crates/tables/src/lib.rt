@@ -35,7 +35,7 @@ pub fn get(regions: &Regions, i: usize) -> Region
         let w = regions[i];
         rows::region_of(w)
     } else {
-        lookup::no_region()
+        rows::no_region()
     }
 }
 

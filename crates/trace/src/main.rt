@@ -1,9 +1,15 @@
 // Reads an event file on standard input, runs it over zero memory, and prints the text of each event. The file may have any length: it is read in pieces,
 // and in whatever pieces it comes the texts that `tracing::trace_piece` gives make the text of the file (`Traces`).
+use measures::LINE_WORDS;
 use measures::Lines;
 use measures::Locks;
+use measures::MOST_LINES;
+use measures::MOST_REGIONS;
+use measures::MOST_THREADS;
 use measures::Owners;
+use measures::REGION_NUMBERS;
 use measures::Regions;
+use measures::THREAD_NUMBERS;
 use measures::Threads;
 use rows::Head;
 ghost use mathlib.Core.Path.{_≡_};
@@ -101,14 +107,14 @@ fn turn(
 fn trace(buffer: &mut [u8], out: &mut [u8]) -> State
     ensures { λ r. ⌜ Traces (now (buffer .entry)) (now (buffer .exit)) (now (out .entry)) (now (out .exit)) r ⌝ }
 {
-    let mut threads = [[0u64; 34]; 8];
-    let mut regions = [[0u32; 16]; 32];
-    let mut owner = [0u32; 256];
-    let mut lock = [false; 256];
-    let mut cur = [[0u64; 8]; 256];
-    let mut med = [[0u64; 8]; 256];
-    let mut old = [[0u64; 8]; 256];
-    let mut car = [[0u64; 8]; 256];
+    let mut threads = [[0u64; THREAD_NUMBERS]; MOST_THREADS];
+    let mut regions = [[0u32; REGION_NUMBERS]; MOST_REGIONS];
+    let mut owner = [0u32; MOST_LINES];
+    let mut lock = [false; MOST_LINES];
+    let mut cur = [[0u64; LINE_WORDS]; MOST_LINES];
+    let mut med = [[0u64; LINE_WORDS]; MOST_LINES];
+    let mut old = [[0u64; LINE_WORDS]; MOST_LINES];
+    let mut car = [[0u64; LINE_WORDS]; MOST_LINES];
     let mut s = State {
         head: starting::fresh_head(true, 0),
         held: 0,

@@ -1,8 +1,7 @@
 -- P1: the whole output of the trace program on the bytes of samples/p1.events, computed from the definitions.
 use Prim.Native.Nat.{ℕ}
-use mathlib.Core.Bool.{Bool, _&&_, false, true}
 use mathlib.Core.List.{List, [], _∷_}
-use lib.Dec.{T, eqb}
+use lib.Dec.{T}
 use Rattle.rules.specs.Access.{joined, logged, read, stored, write, wrote}
 use Rattle.rules.specs.Acknowledge.{dataAck, dropped, kept, keptEntry, landed, logAck, unlocked}
 use Rattle.rules.specs.Begin.{begin, opened}
@@ -25,6 +24,7 @@ use Rattle.rules.specs.Walk.{entriesFrom, entriesOf, nextPlace, walk, walkEntri
 use Rattle.output.specs.Decimal.{decimal, digits}
 use Rattle.tracing.specs.Text.{behindText, eventText, traceText}
 use Rattle.wording.specs.Text.{answerText, cutText, finish, flatTo, imageBuffer, lineText, memoryText, numberText, recoveredText, wordText}
+use Rattle.rules.proofs.Cases.{same}
 
 pub file : List ℕ
 file =
@@ -38,12 +38,6 @@ output =
     ∷ 51 ∷ 32 ∷ 49 ∷ 55 ∷ 32 ∷ 48 ∷ 10 ∷ 53 ∷ 32 ∷ 48 ∷ 32 ∷ 48 ∷ 10 ∷ 50 ∷ 32 ∷ 48 ∷ 32 ∷ 48 ∷ 10 ∷ 52 ∷ 32 ∷ 48 ∷ 32 ∷ 48
     ∷ 10 ∷ 50 ∷ 32 ∷ 48 ∷ 32 ∷ 48 ∷ 10 ∷ 54 ∷ 32 ∷ 48 ∷ 32 ∷ 49 ∷ 10 ∷ 56 ∷ 32 ∷ 48 ∷ 32 ∷ 49 ∷ 10 ∷ 77 ∷ 32 ∷ 48 ∷ 32 ∷ 48
     ∷ 32 ∷ 55 ∷ 10 ∷ []
-
-pub same : List ℕ → List ℕ → Bool
-same [] [] = true
-same [] (y ∷ ys) = false
-same (x ∷ xs) [] = false
-same (x ∷ xs) (y ∷ ys) = eqb x y && same xs ys
 
 pub prints : T (same (traceText (fresh Zero) (recordsOf file)) output)
 unfolding file output same joined read logged wrote stored write dropped keptEntry kept unlocked logAck landed dataAck opened begin bytesOf numOf wordsBytes wordsOf doneRegion commits earlier earliestFrom afterCommit freed commit settle settled inOrder anyBroken reachesIn reaches anyClash contradicts closed endRegion flown savedRegion savedRegions savedEntry savedThread savedLog saved headRecord lineRecord regionRecord entryRecord encode image count place flat aboveFrom risingFrom headTurn lineTurn listedAt listedTurn loggedAt loggedTurn endTurn fieldsTurn turnBy readBy readImage eventOf readRecord restoreBy restore testsOf refusal slotFrom written flownSlots carried settledBoard setup fence apply stepBy stepEvent step lentLine lentFrom startLines fresh ownerOf nextPlace without walkFrom walk entriesOf entriesFrom walkEntries save wroteInto recordsFrom digits decimal numberText answerText wordText flatTo lineText memoryText finish recoveredText imageBuffer cutText behindText eventText traceText

@@ -10,8 +10,8 @@ use native.Mathlib.Numerals.{add-one}
 use native.Mathlib.Omega.{arith}
 use borrow.Author.Tests.{le-ltb, lt-ltb}
 use Rattle.judging.proofs.Search.{left-nil, take-least}
-use Rattle.judging.specs.Marks.{noListed}
 use Rattle.rules.proofs.Lists.{any-map, place-map}
+use Rattle.rules.specs.Image.{noListed}
 use Rattle.rules.specs.Lists.{place}
 use Rattle.rules.specs.Walk.{nextPlace, walkFrom, without}
 use Rattle.rules.specs.declared.Listed.{Listed}

@@ -8,16 +8,13 @@ use lib.ListN.{List·getD-map, drop, getD, length, length-map, take}
 use lib.Seq.{drop-nil, take-length, take-suc}
 use native.Mathlib.Omega.{arith}
 use borrow.Author.Tests.{ltb-false, ltb-true}
-use Rattle.rules.specs.Image.{Logged, Persistent}
+use Rattle.rules.specs.Image.{Logged, Persistent, noLogged}
 use Rattle.rules.specs.Walk.{entriesFrom, entriesOf, walk, walkEntries}
 use Rattle.rules.specs.declared.Found.the-variants.{At, Full}
 use Rattle.undo.proofs.Laws.{test}
 use Rattle.undo.specs.Table.{keep}
 use Rattle.walking.proofs.Indices.{nth-behind, nth-front}
 use Rattle.walking.specs.Indices.{indicesOf, lastFirst, nth, walkIndices}
-
-abbrev pub noLogged : Logged
-noLogged = record { key = 0; line = 0; old = [] }
 
 -- ---- lists
 

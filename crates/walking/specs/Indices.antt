@@ -8,6 +8,7 @@ use Rattle.rules.specs.declared.Found.the-variants.{At, Full}
 use Rattle.rules.specs.declared.Found.{Found}
 use Rattle.rules.specs.declared.Mark.{Mark}
 use Rattle.walking.specs.declared.Order.{Order}
+use Rattle.rules.specs.Measures.{mostRegions}
 
 -- the regions in the order of the walk, as the program holds them
 abbrev pub orderOf : Order → List ℕ
@@ -15,7 +16,7 @@ orderOf o = take (o .count) (o .keys)
 
 -- and as it makes them: behind the keys there are zeros
 abbrev pub heldOrder : List ℕ → Order
-heldOrder ks = record { count = length ks; keys = ks ++ replicate (32 - length ks) 0 }
+heldOrder ks = record { count = length ks; keys = ks ++ replicate (mostRegions - length ks) 0 }
 
 -- the indices below n of the entries of region k, last entry first, in a log with these keys
 unfoldable pub lastFirst : ℕ → ℕ → List ℕ → List ℕ

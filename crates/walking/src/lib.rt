@@ -2,6 +2,9 @@
 use faults::depends;
 use judging::keys_of;
 use judging::least;
+use measures::MOST_DEPS;
+use measures::MOST_LOGGED;
+use measures::MOST_REGIONS;
 use rules::Found;
 use rules::Listed;
 use rules::Mark;
@@ -20,17 +23,17 @@ ghost use Rattle.walking.specs.Rest.{Removed};
 // The keys of the regions in the order of the walk: the first `count` of them.
 pub struct Order {
     pub count: usize,
-    pub keys: [u32; 32],
+    pub keys: [u32; MOST_REGIONS],
 }
 
 // ---- the order of the regions
 
 // The dependences of the first n regions.
-fn deps_of(n: usize, regions: [Listed; 32]) -> [[u32; 4]; 32]
+fn deps_of(n: usize, regions: [Listed; MOST_REGIONS]) -> [[u32; MOST_DEPS]; MOST_REGIONS]
     requires { ⌜ n ≤ 32 ⌝ }
     ensures { λ r. ⌜ take n r ≡ map (λ x. x .deps) (take n regions) ⌝ }
 {
-    let mut deps = [[0u32; 4]; 32];
+    let mut deps = [[0u32; MOST_DEPS]; MOST_REGIONS];
     let mut i: usize = 0;
     while i < n {
         let x = regions[i];
@@ -42,7 +45,7 @@ fn deps_of(n: usize, regions: [Listed; 32]) -> [[u32; 4]; 32]
 }
 
 // Whether some region depends on region `key`.
-fn is_needed(deps: &[[u32; 4]], key: u32) -> bool
+fn is_needed(deps: &[[u32; MOST_DEPS]], key: u32) -> bool
     ensures { λ b. ⌜ b ≡ any (any (eqb key)) (now (deps .entry)) ⌝ }
 {
     let mut i: usize = 0;
@@ -57,7 +60,7 @@ fn is_needed(deps: &[[u32; 4]], key: u32) -> bool
 }
 
 // The place of the first region on which none depends; the number of regions where there is none.
-fn next_place(keys: &[u32], deps: &[[u32; 4]]) -> usize
+fn next_place(keys: &[u32], deps: &[[u32; MOST_DEPS]]) -> usize
     ensures { λ r. ⌜ r ≡ place (λ k. not (any (any (eqb k)) (now (deps .entry)))) (now (keys .entry)) ⌝ }
 {
     let mut first: usize = 0;
@@ -75,7 +78,12 @@ fn next_place(keys: &[u32], deps: &[[u32; 4]]) -> usize
 }
 
 // The region at `at` taken out of the first n: those behind it move up.
-fn remove(keys: &mut [u32; 32], deps: &mut [[u32; 4]; 32], n: usize, at: usize)
+fn remove(
+    keys: &mut [u32; MOST_REGIONS],
+    deps: &mut [[u32; MOST_DEPS]; MOST_REGIONS],
+    n: usize,
+    at: usize,
+)
     requires { ⌜ (at < n) × ((n ≤ 32) × ((length (now keys) ≡ 32) × (length (now deps) ≡ 32))) ⌝ }
     ensures { λ _. ⌜ Removed n at (now (keys .entry)) (now (keys .exit)) × Removed n at (now (deps .entry)) (now (deps .exit)) ⌝ }
 {
@@ -90,13 +98,13 @@ fn remove(keys: &mut [u32; 32], deps: &mut [[u32; 4]; 32], n: usize, at: usize)
 }
 
 // The regions in the order of the walk: always the first on which no remaining region depends.
-pub fn walk_order(held: usize, regions: [Listed; 32]) -> Order
+pub fn walk_order(held: usize, regions: [Listed; MOST_REGIONS]) -> Order
     ensures { λ r. ⌜ r ≡ heldOrder (walkFrom (length (take held regions)) (take held regions)) ⌝ }
 {
-    let mut left = least(held, 32);
+    let mut left = least(held, MOST_REGIONS);
     let mut keys = keys_of(regions);
     let mut deps = deps_of(left, regions);
-    let mut order = [0u32; 32];
+    let mut order = [0u32; MOST_REGIONS];
     let mut count: usize = 0;
     while 0 < left {
         let at = next_place(&keys[..left], &deps[..left]);
@@ -114,11 +122,11 @@ pub fn walk_order(held: usize, regions: [Listed; 32]) -> Order
 // ---- the log entry at a place of the walk
 
 // The keys of the first n log entries.
-fn log_keys(n: usize, log: [Mark; 256]) -> [u32; 256]
+fn log_keys(n: usize, log: [Mark; MOST_LOGGED]) -> [u32; MOST_LOGGED]
     requires { ⌜ n ≤ 256 ⌝ }
     ensures { λ r. ⌜ take n r ≡ map (λ m. m .key) (take n log) ⌝ }
 {
-    let mut keys = [0u32; 256];
+    let mut keys = [0u32; MOST_LOGGED];
     let mut i: usize = 0;
     while i < n {
         let m = log[i];
@@ -180,11 +188,11 @@ fn entry_among(order: &[u32], log: &[u32], n: usize) -> Found
 }
 
 // The index of log entry number `place` of the walk.
-pub fn entry_at(order: Order, logged: usize, log: [Mark; 256], place: usize) -> Found
+pub fn entry_at(order: Order, logged: usize, log: [Mark; MOST_LOGGED], place: usize) -> Found
     ensures { λ r. ⌜ r ≡ entryAt (orderOf order) (take logged log) place ⌝ }
 {
-    let n = least(order.count, 32);
-    let m = least(logged, 256);
+    let n = least(order.count, MOST_REGIONS);
+    let m = least(logged, MOST_LOGGED);
     let regions = order.keys;
     let entries = log_keys(m, log);
     entry_among(&regions[..n], &entries[..m], place)

@@ -13,7 +13,7 @@ use native.Mathlib.Omega.{arith}
 use borrow.Author.Tests.{le-leb}
 use Rattle.recovery.proofs.Places.{flat-at, image-short, no-test}
 use Rattle.rules.proofs.Codec.Bytes.{all-at, isLine, length-words, line-back}
-use Rattle.rules.proofs.Codec.Store.{found, length-head, length-line, withMedium}
+use Rattle.rules.proofs.Codec.Store.{found, length-head, length-line}
 use Rattle.rules.proofs.Codec.Turns.{size-lines}
 use Rattle.rules.proofs.Codec.Valid.{Valid}
 use Rattle.rules.proofs.Cuts.{cut-is}
@@ -27,7 +27,7 @@ use Rattle.rules.specs.Bytes.{lineBytes, wordsOf}
 use Rattle.rules.specs.Claim.{boardAfter, isByte, isByteMemory}
 use Rattle.rules.specs.Contradiction.{contradicts}
 use Rattle.rules.specs.History.{Account, acceptedIn, expected, expectedBytes, hasCut, linesIn, memoryFound}
-use Rattle.rules.specs.Image.{Persistent, encode, entryRecord, headRecord, image, lineRecord, regionRecord, save, saved}
+use Rattle.rules.specs.Image.{Persistent, encode, entryRecord, headRecord, image, lineRecord, regionRecord, save, saved, withMedium}
 use Rattle.rules.specs.Lists.{all, flat}
 use Rattle.rules.specs.Recovery.{Recovering, lineStart, restore}
 use Rattle.rules.specs.Refusal.{isSetUp}

@@ -9,9 +9,10 @@ use lib.ListN.{getD, length, replicate, take}
 use Rattle.rules.specs.Bytes.{lineAt}
 use Rattle.rules.specs.Recovery.{Recovering, lineStart, restore}
 use Rattle.rules.specs.Run.{Wrote}
-use Rattle.rules.specs.Tables.{Board}
+use Rattle.rules.specs.Tables.{Board, noLine}
 use Rattle.rules.specs.declared.Answer.{Answer}
 use Rattle.output.specs.Decimal.{decimal}
+use Rattle.rules.specs.Measures.{lineWords, mostLogged}
 
 -- a number and the byte that ends it
 unfoldable pub numberText : ℕ → ℕ → List ℕ
@@ -32,11 +33,11 @@ flatTo f i (suc n) = f i ++ flatTo f (suc i) n
 
 -- the words of line l
 unfoldable pub lineText : ℕ → List ℕ → List ℕ
-lineText l ws = flatTo (λ w. wordText l w (getD ws w 0)) 0 8
+lineText l ws = flatTo (λ w. wordText l w (getD ws w 0)) 0 lineWords
 
 -- line l of an image, out of its record; zero where the image does not hold it
 abbrev pub imageLine : List ℕ → ℕ → List ℕ
-imageLine bs l = cond (leb (lineStart l + 64) (length bs)) (lineAt bs (lineStart l)) (replicate 8 0)
+imageLine bs l = cond (leb (lineStart l + 64) (length bs)) (lineAt bs (lineStart l)) noLine
 
 -- the words of the first n lines of an image
 unfoldable pub memoryText : ℕ → List ℕ → List ℕ
@@ -48,7 +49,7 @@ finish zero r = restore r .after .bytes
 finish (suc n) r = cond (eqb (restore r .answer .value) 1) (finish n (restore r .after)) (restore r .after .bytes)
 
 abbrev pub recovered : List ℕ → List ℕ
-recovered bs = finish 256 (record { bytes = bs; at = 0 })
+recovered bs = finish mostLogged (record { bytes = bs; at = 0 })
 
 -- what recovery makes of a saved image of n lines; nothing where the save is refused
 unfoldable pub recoveredText : ℕ → Wrote → List ℕ

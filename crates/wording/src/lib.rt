@@ -1,5 +1,8 @@
 // The lines of a trace: that of an answer, and those of the words that recovery leaves in an image.
 // Every writer puts its bytes behind the cursor. Bytes that find no room are dropped, and the cursor says so.
+use measures::LINE_WORDS;
+use measures::Line;
+use measures::MOST_LOGGED;
 use output::Cursor;
 use rules::Answer;
 ghost use mathlib.Core.Path.{_≡_};
@@ -39,12 +42,12 @@ fn word_line(out: &mut [u8], c: Cursor, l: u16, w: usize, v: u64) -> Cursor
 }
 
 // The lines of the words of line l.
-fn line_words(out: &mut [u8], c: Cursor, l: u16, line: [u64; 8]) -> Cursor
+fn line_words(out: &mut [u8], c: Cursor, l: u16, line: Line) -> Cursor
     ensures { λ r. ⌜ Adds (now (out .entry)) c (now (out .exit)) r (lineText l line) ⌝ }
 {
     let mut q = c;
     let mut w: usize = 0;
-    while w < 8 {
+    while w < LINE_WORDS {
         q = word_line(out, q, l, w, line[w]);
         w += 1;
     }
@@ -52,7 +55,7 @@ fn line_words(out: &mut [u8], c: Cursor, l: u16, line: [u64; 8]) -> Cursor
 }
 
 // Line l of an image, out of its record; zero where the image does not hold it.
-fn image_line(image: &[u8], l: u16) -> [u64; 8]
+fn image_line(image: &[u8], l: u16) -> Line
     ensures { λ r. ⌜ r ≡ imageLine (now (image .entry)) l ⌝ }
 {
     lines::take_line(image, 4 + (65 * (l as usize) + 1))
@@ -76,7 +79,7 @@ fn recover(image: &mut [u8])
     ensures { λ _. ⌜ now (image .exit) ≡ recovered (now (image .entry)) ⌝ }
 {
     let mut at: u64 = 0;
-    let mut n: usize = 256;
+    let mut n: usize = MOST_LOGGED;
     loop {
         let s = recovery::step_at(image, at);
         let a = s.answer;

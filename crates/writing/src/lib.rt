@@ -1,5 +1,7 @@
 // The records of an image into a lent buffer. Every writer has one contract shape, `Puts`: where there is room for its bytes from `at` on, the buffer has
 // them there and nothing else changed, and the answer is the place behind them; where there is none, buffer and place stay.
+use measures::Line;
+use measures::MOST_DEPS;
 ghost use Prim.Native.Nat.{_+_, _/_, _%_, _≤_};
 ghost use mathlib.Core.Path.{_≡_};
 ghost use mathlib.Core.List.{[], _∷_};
@@ -60,20 +62,20 @@ fn put_key(dst: &mut [u8], at: usize, key: u64) -> usize
     put_two(dst, a, number_of(key))
 }
 
-fn put_deps(dst: &mut [u8], at: usize, deps: [u64; 4]) -> usize
+fn put_deps(dst: &mut [u8], at: usize, deps: [u64; MOST_DEPS]) -> usize
     requires { ⌜ at + length (flat keyBytes deps) ≤ length (now dst) ⌝ }
     ensures { λ r. ⌜ Put (now (dst .entry)) (now (dst .exit)) at r (flat keyBytes deps) ⌝ }
 {
     let mut p = at;
     let mut i: usize = 0;
-    while i < 4 {
+    while i < MOST_DEPS {
         p = put_key(dst, p, deps[i]);
         i += 1;
     }
     p
 }
 
-fn put_line(dst: &mut [u8], at: usize, line: [u64; 8]) -> usize
+fn put_line(dst: &mut [u8], at: usize, line: Line) -> usize
     requires { ⌜ at + length (lineBytes line) ≤ length (now dst) ⌝ }
     ensures { λ r. ⌜ Put (now (dst .entry)) (now (dst .exit)) at r (lineBytes line) ⌝ }
 {
@@ -92,7 +94,7 @@ fn set_head(dst: &mut [u8], at: usize, threads: u8, lines: u16) -> usize
     put_two(dst, b, lines)
 }
 
-fn set_line(dst: &mut [u8], at: usize, line: [u64; 8]) -> usize
+fn set_line(dst: &mut [u8], at: usize, line: Line) -> usize
     requires { ⌜ at + length (lineRecord line) ≤ length (now dst) ⌝ }
     ensures { λ r. ⌜ Put (now (dst .entry)) (now (dst .exit)) at r (lineRecord line) ⌝ }
 {
@@ -100,7 +102,7 @@ fn set_line(dst: &mut [u8], at: usize, line: [u64; 8]) -> usize
     put_line(dst, a, line)
 }
 
-fn set_region(dst: &mut [u8], at: usize, key: u32, state: u8, deps: [u64; 4]) -> usize
+fn set_region(dst: &mut [u8], at: usize, key: u32, state: u8, deps: [u64; MOST_DEPS]) -> usize
     requires { ⌜ at + length (regionRecord (record { key = key; state = state; deps = deps })) ≤ length (now dst) ⌝ }
     ensures { λ r. ⌜ Put (now (dst .entry)) (now (dst .exit)) at r (regionRecord (record { key = key; state = state; deps = deps })) ⌝ }
 {
@@ -110,7 +112,7 @@ fn set_region(dst: &mut [u8], at: usize, key: u32, state: u8, deps: [u64; 4]) ->
     put_deps(dst, c, deps)
 }
 
-fn set_entry(dst: &mut [u8], at: usize, key: u32, line: u8, old: [u64; 8]) -> usize
+fn set_entry(dst: &mut [u8], at: usize, key: u32, line: u8, old: Line) -> usize
     requires { ⌜ at + length (entryRecord (record { key = key; line = line; old = old })) ≤ length (now dst) ⌝ }
     ensures { λ r. ⌜ Put (now (dst .entry)) (now (dst .exit)) at r (entryRecord (record { key = key; line = line; old = old })) ⌝ }
 {
@@ -131,7 +133,7 @@ pub fn put_head(dst: &mut [u8], at: usize, threads: u8, lines: u16) -> usize
     set_head(dst, at, threads, lines)
 }
 
-pub fn put_line_record(dst: &mut [u8], at: usize, line: [u64; 8]) -> usize
+pub fn put_line_record(dst: &mut [u8], at: usize, line: Line) -> usize
     ensures { λ r. ⌜ Puts (now (dst .entry)) (now (dst .exit)) at r (lineRecord line) ⌝ }
 {
     if !lines::has_room(dst.len(), at, 65) {
@@ -141,7 +143,7 @@ pub fn put_line_record(dst: &mut [u8], at: usize, line: [u64; 8]) -> usize
 }
 
 // A region with its four dependences as they are.
-pub fn put_region(dst: &mut [u8], at: usize, key: u32, state: u8, deps: [u64; 4]) -> usize
+pub fn put_region(dst: &mut [u8], at: usize, key: u32, state: u8, deps: [u64; MOST_DEPS]) -> usize
     ensures { λ r. ⌜ Puts (now (dst .entry)) (now (dst .exit)) at r (regionRecord (record { key = key; state = state; deps = deps })) ⌝ }
 {
     if !lines::has_room(dst.len(), at, 17) {
@@ -150,7 +152,7 @@ pub fn put_region(dst: &mut [u8], at: usize, key: u32, state: u8, deps: [u64; 4]
     set_region(dst, at, key, state, deps)
 }
 
-pub fn put_entry(dst: &mut [u8], at: usize, key: u32, line: u8, old: [u64; 8]) -> usize
+pub fn put_entry(dst: &mut [u8], at: usize, key: u32, line: u8, old: Line) -> usize
     ensures { λ r. ⌜ Puts (now (dst .entry)) (now (dst .exit)) at r (entryRecord (record { key = key; line = line; old = old })) ⌝ }
 {
     if !lines::has_room(dst.len(), at, 69) {

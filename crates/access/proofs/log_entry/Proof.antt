@@ -34,6 +34,9 @@ index-1-free-entry c = search needs
 free-entry-requires : tie.Need-free-entry-requires
 free-entry-requires c κs = search needs
 
+no-entry-requires : tie.Need-no-entry-requires
+no-entry-requires c κs = search needs
+
 mul-entry-count : tie.Need-mul-entry-count
 mul-entry-count c = search needs
 
@@ -54,15 +57,15 @@ put-entry-requires c κs = search needs
 
 returns-2 : tie.Need-returns-2
 returns-2 c =
-    let f = c .before .before .before .before .free-entry in
-    let s = c .before .before .before .before .before .before .before .before .before .args in
+    let f = c .before .before .before .before .before .free-entry in
+    let s = c .before .before .before .before .before .before .before .before .before .before .args in
     let ws = s .threads .now in
-    let h : s .t < length ws = omega (arith, c .before .before .before .before .before .before .if1 .left, c .before .before .before .before .before .before .before .threads8 .ensures) in
+    let h : s .t < length ws = omega (arith, c .before .before .before .before .before .before .before .if1 .left, c .before .before .before .before .before .before .before .before .threads8 .ensures) in
     let e = thread-at ws (s .t) h in
     record {
       free = rw e (f .ensures);
       below = omega (arith, f .ensures, free-le (getD ws (s .t) []));
-      entry = rw (map-set threadOf _ _ _, c .put-entry .ensures, c .before .before .entry-count .ensures, f .ensures, e);
+      entry = rw (map-set threadOf _ _ _, c .put-entry .ensures, c .before .before .entry-count .ensures, c .before .before .before .before .no-entry .ensures, f .ensures, e);
     }
 
 pub log-entry-spec : {M : Type 1} → statement M
@@ -74,6 +77,7 @@ log-entry-spec =
     mul-free-entry
     index-1-free-entry
     free-entry-requires
+    no-entry-requires
     mul-entry-count
     index-1-entry-count
     entry-count-requires

@@ -1,7 +1,7 @@
 use mathlib.Core.Bool.{false}
 use lib.ListN.{length}
 use Rattle.rules.specs.Tables.{freshTables}
-use mathlib.Core.Path.{_∙_, refl, sym}
+use mathlib.Core.Path.{_∙_, ap, sym}
 use Rattle.board.proofs.Start.{many-lines, many-threads, start-answer, start-far}
 use borrow.Author.Needs.{needs}
 use Rattle.board.proofs.board_start.Statement.{statement}
@@ -19,6 +19,9 @@ answer-requires-2 c κs = search needs
 returns-2 : tie.Need-returns-2
 returns-2 c = let a = c .before .before .before .before .args in c .answer2 .ensures ∙ sym (start-far (a .threads) (a .lines) (a .memory .now) (many-lines (a .threads) (a .lines) (c .before .if2 .taken)))
 
+fresh-head-requires : tie.Need-fresh-head-requires
+fresh-head-requires c κs = search needs
+
 cast-setup-refusal : tie.Need-cast-setup-refusal
 cast-setup-refusal c = search needs
 
@@ -33,8 +36,10 @@ answer-requires-3 c κs = search needs
 
 returns-3 : tie.Need-returns-3
 returns-3 c =
-    let a = c .before .before .before .before .before .args in
-    rw (c .answer3 .ensures, c .before .setup-refusal .ensures (freshTables false (length (a .memory .now))) refl) (sym (start-answer (a .threads) (a .lines) (a .memory .now)))
+    let f = c .before .before .before .fresh-head in
+    let a = c .before .before .before .before .before .before .before .args in
+    let z = ap (λ ts. ts .size) (sym (f .ensures)) in
+    rw (c .answer3 .ensures, c .before .setup-refusal .ensures (freshTables false (length (a .memory .now))) z) (sym (start-answer (a .threads) (a .lines) (a .memory .now)))
 
 pub board-start-spec : {M : Type 1} → statement M
 board-start-spec =
@@ -44,6 +49,7 @@ board-start-spec =
     returns
     answer-requires-2
     returns-2
+    fresh-head-requires
     cast-setup-refusal
     cast-setup-refusal-2
     setup-refusal-requires

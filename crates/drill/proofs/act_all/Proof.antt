@@ -2,7 +2,6 @@
 use Prim.Native.Nat.{_-_, _≤_}
 use mathlib.Core.Path.{_∙_, _≡_, refl, sym}
 use lib.ListN.{drop, length}
-use native.Mathlib.Omega.{arith}
 use Rattle.drill.specs.Drilled.{afterActs}
 use Rattle.drill.proofs.Laws.{acts-more, acts-none}
 use borrow.Author.Needs.{needs}

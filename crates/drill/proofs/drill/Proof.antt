@@ -1,5 +1,5 @@
 -- `drill::drill` meets its contract: what the save and the last step return is what demand 3 speaks about.
-use mathlib.Core.Path.{_∙_, _≡_, ap}
+use mathlib.Core.Path.{_≡_}
 use lib.ListN.{length, take}
 use Rattle.recovery.proofs.Places.{all-bytes}
 use Rattle.drill.proofs.Laws.{drill-accepted, drill-refused, part-long, size-fits}

@@ -37,14 +37,14 @@ returns : tie.Need-returns
 unfolding closed
 returns c =
     λ owner med old.
-    let p = c .before .put-flown in
-    let q = c .before .before .before .before .ended-region in
-    let r = c .before .before .before .before .before .get in
-    let i = c .before .before .before .before .before .before .before .place-of in
-    let f = c .before .before .before .before .before .before .before .before .before .shallower in
-    let x = c .before .before .before .before .before .before .before .before .before .before .before .tick in
-    let k = c .before .before .before .before .before .before .before .before .before .before .before .before .current in
-    let s = c .before .before .before .before .before .before .before .before .before .before .before .before .before .before .args in
+    let p = c .put-flown in
+    let q = c .before .before .before .ended-region in
+    let r = c .before .before .before .before .get in
+    let i = c .before .before .before .before .before .before .place-of in
+    let f = c .before .before .before .before .before .before .before .before .shallower in
+    let x = c .before .before .before .before .before .before .before .before .before .before .tick in
+    let k = c .before .before .before .before .before .before .before .before .before .before .before .current in
+    let s = c .before .before .before .before .before .before .before .before .before .before .before .before .before .args in
     let ths = f .last .0 in
     let rs = regionsOf (s .regions .now) in
     let h : Head = record { size = s .h .size; cut = s .h .cut; clock = x .result } in

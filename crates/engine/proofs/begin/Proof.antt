@@ -1,6 +1,6 @@
 use Rattle.rules.specs.Begin.{begin}
 use native.Mathlib.Omega.{arith}
-use borrow.Author.Tests.{eq-eqb, eqb-true, leb-false, ne-eqb}
+use borrow.Author.Tests.{eq-eqb, leb-false, ne-eqb}
 use borrow.Author.Needs.{needs}
 use Rattle.engine.proofs.begin.Statement.{statement}
 use Rattle.engine.proofs.begin.Tie as tie

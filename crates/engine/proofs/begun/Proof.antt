@@ -2,11 +2,11 @@ use borrow.Author.Needs.{needs}
 use Rattle.engine.proofs.begun.Statement.{statement}
 use Rattle.engine.proofs.begun.Tie as tie
 
-no-slot-requires : tie.Need-no-slot-requires
-no-slot-requires c κs = search needs
+no-region-requires : tie.Need-no-region-requires
+no-region-requires c κs = search needs
 
 returns : tie.Need-returns
-returns c = rw (c .no-slot .ensures)
+returns c = rw (c .before .no-region .ensures)
 
 pub begun-spec : {M : Type 1} → statement M
-begun-spec = tie.close (tie.spec no-slot-requires returns)
+begun-spec = tie.close (tie.spec no-region-requires returns)

@@ -1,5 +1,5 @@
 use Rattle.engine.proofs.Laws.{record-refused, record-whole}
-use Rattle.rows.specs.Whole.{boardOf, stepped}
+use Rattle.rows.specs.Whole.{boardOf}
 use borrow.Author.Needs.{needs}
 use Rattle.engine.proofs.event.Statement.{statement}
 use Rattle.engine.proofs.event.Tie as tie

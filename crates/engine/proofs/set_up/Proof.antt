@@ -1,6 +1,5 @@
 use mathlib.Core.Path.{refl}
 use Rattle.rules.specs.Step.{apply, setup}
-use borrow.Author.Needs.{needs}
 use Rattle.engine.proofs.set_up.Statement.{statement}
 use Rattle.engine.proofs.set_up.Tie as tie
 

@@ -8,7 +8,7 @@ use native.Mathlib.Omega.{arith}
 use lib.Seq.{sets}
 use lib.ListN.{drop, length}
 use mathlib.Core.Path.{_∙_, _≡_, ap, refl, sym}
-use Prim.Native.Nat.{_*_, _+_, _-_, _≤_, ℕ}
+use Prim.Native.Nat.{_*_, _+_, _-_, _≤_}
 use Rattle.rules.specs.Lists.{flat}
 use borrow.Author.Needs.{needs}
 use Rattle.files.proofs.run_records.Statement.{statement}

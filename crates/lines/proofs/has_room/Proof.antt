@@ -4,7 +4,6 @@ use mathlib.Core.Path.{sym}
 use Prim.Native.Nat.{_-_, _+_}
 use lib.Dec.{leb}
 use Rattle.undo.proofs.Laws.{test}
-use borrow.Author.Needs.{needs}
 use Rattle.lines.proofs.has_room.Statement.{statement}
 use Rattle.lines.proofs.has_room.Tie as tie
 use Rattle.lines.proofs.has_room.Reads as reads

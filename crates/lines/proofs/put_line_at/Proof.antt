@@ -3,7 +3,6 @@ use mathlib.Core.Path.{_∙_, sym, _≡_}
 use lib.ListN.{length}
 use borrow.Author.Tests.{leb-true}
 use native.Mathlib.Omega.{arith}
-use lib.Seq.{sets}
 use Rattle.lines.proofs.Paste.{sets-part}
 use Rattle.rules.proofs.Codec.Bytes.{length-words}
 use Rattle.lines.proofs.Room.{put-room}

@@ -1,6 +1,5 @@
-use borrow.Rule.Slice.PartMut.{putMid}
 use Prim.Native.Nat.{_-_}
-use lib.ListN.{length, take}
+use lib.ListN.{take}
 use lib.Seq.{length-take-le, take-at}
 use native.Mathlib.Omega.{arith}
 use borrow.Author.Needs.{needs}

@@ -1,4 +1,3 @@
-use borrow.Author.Needs.{needs}
 use Rattle.refusals.proofs.is_foreign.Statement.{statement}
 use Rattle.refusals.proofs.is_foreign.Tie as tie
 

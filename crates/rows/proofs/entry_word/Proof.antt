@@ -1,5 +1,4 @@
 use native.Mathlib.Omega.{arith}
-use mathlib.Core.Path.{_∙_}
 use Rattle.rows.proofs.Laws.{entry-back}
 use borrow.Author.Needs.{needs}
 use Rattle.rows.proofs.entry_word.Statement.{statement}

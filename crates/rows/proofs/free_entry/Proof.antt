@@ -1,6 +1,6 @@
 use Prim.Native.Nat.{_+_, _-_, _≤_}
 use mathlib.Core.Path.{_∙_, _≡_, sym}
-use lib.ListN.{drop, length}
+use lib.ListN.{drop}
 use native.Mathlib.Omega.{arith}
 use Rattle.rules.specs.Lists.{place}
 use Rattle.rules.specs.Access.{isOf}

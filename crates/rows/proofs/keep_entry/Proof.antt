@@ -1,11 +1,9 @@
 use Rattle.rows.proofs.Laws.{worked, worked-end, worked-more}
-use Rattle.rows.specs.Row.{threadOf, withLog}
-use Rattle.rules.specs.Commit.{freed, freedEntry}
+use Rattle.rows.specs.Row.{threadOf}
 use Rattle.rules.specs.Acknowledge.{kept, keptEntry}
-use native.Mathlib.Omega.{arith}
 use lib.ListN.{length, length-set}
 use mathlib.Core.Path.{_∙_, _≡_, refl, sym}
-use Prim.Native.Nat.{_+_, _-_, _≤_}
+use Prim.Native.Nat.{_-_, _≤_}
 use borrow.Author.Needs.{needs}
 use Rattle.rows.proofs.keep_entry.Statement.{statement}
 use Rattle.rows.proofs.keep_entry.Tie as tie

@@ -1,5 +1,4 @@
 use Rattle.rules.proofs.Lists.{or-none}
-use borrow.Author.Needs.{needs}
 use Rattle.rows.proofs.one_of.Statement.{statement}
 use Rattle.rows.proofs.one_of.Tie as tie
 

@@ -1,6 +1,5 @@
 use lib.Seq.{set-out}
 use Rattle.rows.proofs.Laws.{entry-stored, log-length}
-use mathlib.Core.Path.{sym}
 use Rattle.rows.specs.Row.{threadOf}
 use borrow.Author.Needs.{needs}
 use Rattle.rows.proofs.put_entry.Statement.{statement}

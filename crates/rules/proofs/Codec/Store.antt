@@ -11,13 +11,9 @@ use Rattle.rules.proofs.Codec.Turns.{size-lines}
 use Rattle.rules.proofs.Codec.Valid.{Valid}
 use Rattle.rules.specs.Bytes.{bytesOf, lineBytes, numOf, paste}
 use Rattle.rules.specs.History.{foundFrom, memoryFound}
-use Rattle.rules.specs.Image.{Logged, Persistent, encode, entryRecord, headRecord, lineRecord, regionRecord}
+use Rattle.rules.specs.Image.{Logged, Persistent, encode, entryRecord, headRecord, lineRecord, regionRecord, withMedium}
 use Rattle.rules.specs.Lists.{flat}
 use Rattle.rules.specs.Recovery.{putBack}
-use Rattle.rules.specs.Walk.{walk}
-
-abbrev pub withMedium : List (List ℕ) → Persistent → Persistent
-withMedium m p = record { threads = p .threads; lines = p .lines; medium = m; regions = p .regions; log = p .log }
 
 -- bytes behind a front part
 paste-behind : (a d bs : List ℕ) (i : ℕ) → paste (a ++ d) (length a + i) bs ≡ a ++ paste d i bs

@@ -11,7 +11,7 @@ use lib.Seq.{take-at}
 use Rattle.rules.proofs.Codec.Records.{record-read}
 use Rattle.rules.proofs.Codec.Bytes.{isLine, key-back, length-bytes, length-words, line-back, num-bytes}
 use Rattle.rules.specs.Bytes.{bytesOf, lineBytes, numOf}
-use Rattle.rules.specs.Image.{Logged, Persistent, headRecord, keyBytes, lineRecord}
+use Rattle.rules.specs.Image.{Logged, Persistent, entryRecord, headRecord, keyBytes, lineRecord, regionRecord}
 use Rattle.rules.specs.Lists.{all, flat}
 use Rattle.rules.specs.Reader.{Next, fieldsTurn, headTurn, imageBody, isImageKind, isKnownThread, isPlaced, lineTurn, listedAt, loggedAt, nothing, recordsRead}
 use Rattle.rules.specs.Refusal.{inRange}
@@ -94,6 +94,10 @@ pub length-region : (r : Listed) → length (r .deps) ≡ 4 → length (regionBo
 length-region r h =
     simp (length-append, length-bytes, length-keys, h)
 
+pub region-long : (r : Listed) → length (r .deps) ≡ 4 → length (regionRecord r) ≡ 17
+unfolding regionRecord
+region-long r h = rw (length-region r h)
+
 pub listed-back : (n : ℕ) → n ≤ 8 → (r : Listed) (more : List ℕ) → all (isKnownThread n) (r .key ∷ r .deps) ≡ true → length (r .deps) ≡ 4 → listedAt (regionBody r ++ more) ≡ r
 listed-back n s r more g h = four n s (r .key) (r .state) (r .deps) more g h
 
@@ -104,6 +108,10 @@ entryBody e = keyBytes (e .key) ++ (e .line ∷ lineBytes (e .old))
 
 pub length-entry : (e : Logged) → length (entryBody e) ≡ 68
 length-entry e = simp (length-append, length-bytes, length-words)
+
+pub entry-long : (e : Logged) → length (entryRecord e) ≡ 69
+unfolding entryRecord
+entry-long e = rw (length-entry e)
 
 pub logged-back : (n : ℕ) → n ≤ 8 → (e : Logged) (more : List ℕ) → isKnownThread n (e .key) ≡ true → isLine (e .old) ≡ true → loggedAt (entryBody e ++ more) ≡ e
 unfolding bytesOf numOf loggedAt

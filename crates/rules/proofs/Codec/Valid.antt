@@ -9,7 +9,7 @@ use native.Mathlib.Omega.{arith}
 use borrow.Author.Tests.{le-leb, ne-eqb}
 use Rattle.rules.proofs.Codec.Bytes.{isLine}
 use Rattle.rules.specs.Claim.{isByte}
-use Rattle.rules.specs.Image.{Logged, Persistent}
+use Rattle.rules.specs.Image.{Logged, Persistent, noListed, noLogged}
 use Rattle.rules.specs.declared.Listed.{Listed}
 use Rattle.rules.specs.Lists.{all, count}
 use Rattle.rules.specs.Reader.{isKnownThread, isLoggedBy, lastListed, lastLogged}
@@ -78,13 +78,13 @@ pub listed-test : (rs : List Listed) (k : ℕ) → (eqb (length rs) 0 || ltb (la
 listed-test [] k = sym (le-leb 0 k (omega arith))
 listed-test (r ∷ rs) k =
     let e : eqb (suc (length rs)) 0 ≡ false = ne-eqb (suc (length rs)) 0 (λ e. omega arith) in
-    let b : bound keyOfListed 1 0 (r ∷ rs) ≡ suc (lastListed (r ∷ rs)) = bound-last keyOfListed 1 0 r rs (record { key = 0; state = 0; deps = [] }) ∙ omega arith in
+    let b : bound keyOfListed 1 0 (r ∷ rs) ≡ suc (lastListed (r ∷ rs)) = bound-last keyOfListed 1 0 r rs noListed ∙ omega arith in
     rw (e, b)
 
 pub logged-test : (es : List Logged) (k : ℕ) → leb (lastLogged es) k ≡ leb (bound keyOfLogged 0 0 es) k
 logged-test [] k = refl
 logged-test (e ∷ es) k =
-    let b : bound keyOfLogged 0 0 (e ∷ es) ≡ lastLogged (e ∷ es) = bound-last keyOfLogged 0 0 e es (record { key = 0; line = 0; old = [] }) ∙ omega arith in
+    let b : bound keyOfLogged 0 0 (e ∷ es) ≡ lastLogged (e ∷ es) = bound-last keyOfLogged 0 0 e es noLogged ∙ omega arith in
     rw b
 
 -- ---- counts

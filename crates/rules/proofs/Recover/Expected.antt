@@ -8,7 +8,7 @@ use mathlib.Core.Path.{_∙_, _≡_, refl, sym}
 use mathlib.Core.Bool.{Bool, _&&_, false, not, true}
 use mathlib.Core.List.{List, [], _∷_}
 use lib.Dec.{eqb}
-use lib.ListN.{length, length-set, set}
+use lib.ListN.{length, length-set}
 use native.Mathlib.Omega.{arith}
 use borrow.Author.Tests.{eqb-false, eqb-true}
 use lib.Seq.{getD-set-other, getD-set-same}
@@ -20,8 +20,6 @@ use Rattle.rules.proofs.Start.{start-length}
 use Rattle.rules.specs.Claim.{boardAfter}
 use Rattle.rules.specs.Tables.{Memory, lineOf, listed, startLines}
 use Rattle.undo.proofs.Laws.{is-same, or-right, test}
-use Rattle.undo.specs.History.{History}
-use Rattle.undo.specs.Machine.{State}
 use Rattle.undo.specs.Table.{isIn}
 
 -- ---- lengths

@@ -21,8 +21,6 @@ use Rattle.rules.specs.Tables.{Board, keyOf, listed, noThread, numberOf,
 use Rattle.undo.proofs.Laws.{and-true, is-same, never, or-right, test}
 use Rattle.undo.proofs.Main.{closes, structured}
 use Rattle.undo.proofs.Steps.{reached}
-use Rattle.undo.specs.History.{History, used}
-use Rattle.undo.specs.Machine.{State}
 use Rattle.undo.specs.Table.{isIn}
 
 -- ---- a region that was opened drew on its predecessor

@@ -13,7 +13,7 @@ use Rattle.rules.proofs.Recover.Rising.{Rises, higher, no-more, rising-
 use Rattle.rules.proofs.Lists.{any-map, or-none}
 use Rattle.rules.proofs.Places.{eqb-swap, key-at}
 use Rattle.rules.specs.Contradiction.{depsOf, inOrder, isListed}
-use Rattle.rules.specs.Image.{savedRegion, savedRegions}
+use Rattle.rules.specs.Image.{noListed, savedRegion, savedRegions}
 use Rattle.rules.specs.Lists.{all, place, rising}
 use Rattle.rules.specs.Tables.{isKey, listed, numberOf, regionAt}
 use Rattle.rules.specs.declared.Listed.{Listed}
@@ -192,7 +192,7 @@ module _ (st : ℕ → ℕ) (ds : ℕ → List ℕ) where
 
   -- the dependences of the entry at an index
   at-index : ℕ → List ℕ → List ℕ
-  at-index i ks = getD (map (listedBy st ds) ks) i (record { key = 0; state = 0; deps = [] }) .deps
+  at-index i ks = getD (map (listedBy st ds) ks) i noListed .deps
 
   pub deps-in : (k : ℕ) (ks : List ℕ) → isIn k ks ≡ true → depsOf k (map (listedBy st ds) ks) ≡ ds k
   unfolding place at-index

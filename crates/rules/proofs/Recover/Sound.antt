@@ -2,7 +2,7 @@
 use Rattle.undo.specs.Machine as u
 use Rattle.undo.specs.History as v
 use Rattle.undo.specs.Claim as claim
-use Rattle.undo.specs.Claim.{Reach, Structure, age, Path, direct, through, start}
+use Rattle.undo.specs.Claim.{Reach, age, Path, direct, through, start}
 use Prim.Native.Nat.{_+_, _<_, _≤_, suc, zero, ℕ}
 use mathlib.Core.Path.{_∙_, _≡_, refl, sym}
 use mathlib.Core.Logic.{⊎-elim}
@@ -32,8 +32,6 @@ use Rattle.rules.specs.declared.Listed.{Listed}
 use Rattle.undo.proofs.Inv.{held}
 use Rattle.undo.proofs.Laws.{and-true, cons-nil, is-same, never, or-right, or-true, test}
 use Rattle.undo.proofs.Shape.{rest}
-use Rattle.undo.specs.History.{History}
-use Rattle.undo.specs.Machine.{State}
 use Rattle.undo.specs.Table.{any, isIn}
 
 module _ {start : ℕ → List ℕ} {b : Board} {es : List Account} {s : u.State (List ℕ)} {h : v.History (List ℕ)} (rc : Reach start s h) (i : Sim b es s h) where

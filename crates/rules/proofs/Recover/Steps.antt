@@ -1,13 +1,13 @@
 -- Recovery steps and cuts on a saved image: its bytes stay the image of the saved state with another medium, and the medium is as the undo log has it.
 use Rattle.undo.specs.Machine as u
 use Rattle.undo.specs.History as v
-use Rattle.undo.specs.Claim.{Reach, Structure, age, start}
+use Rattle.undo.specs.Claim.{Reach, start}
 use Rattle.undo.specs.Recovery as w
-use Rattle.undo.specs.Recovery.{along, olds, persistent, Placed, begins, cuts, Image, Undo}
+use Rattle.undo.specs.Recovery.{along, Placed, begins, cuts}
 use Rattle.undo.proofs.Main.{finishes}
-use Rattle.rules.specs.Recovery.{Act, PowerCut, Recovering, Restore, act, acts, isFinished, putBack, restore, restoreBy}
+use Rattle.rules.specs.Recovery.{Act, PowerCut, Recovering, Restore, act, acts, isFinished, restore, restoreBy}
 use Rattle.rules.specs.Claim.{restores}
-use Rattle.rules.proofs.Codec.Store.{found, put-back, put-valid, withMedium}
+use Rattle.rules.proofs.Codec.Store.{found, put-back, put-valid}
 use Prim.Native.Nat.{_+_, _<_, _≤_, suc, zero, ℕ}
 use mathlib.Core.Path.{_∙_, _≡_, ap, refl, sym}
 use mathlib.Core.Bool.{Bool, false, true}
@@ -32,15 +32,13 @@ use Rattle.rules.proofs.Lists.{count-le}
 use Rattle.rules.proofs.Sim.State.{Sim}
 use Rattle.rules.specs.Bytes.{lineBytes}
 use Rattle.rules.specs.Contradiction.{contradicts}
-use Rattle.rules.specs.History.{Account, expected, memoryFound}
-use Rattle.rules.specs.Image.{Logged, encode, image, saved, savedLog}
+use Rattle.rules.specs.History.{Account, memoryFound}
+use Rattle.rules.specs.Image.{Logged, encode, image, saved, savedLog, withMedium}
 use Rattle.rules.specs.Lists.{flat}
 use Rattle.rules.specs.Refusal.{isSetUp}
 use Rattle.rules.specs.Tables.{Board, lineOf}
 use Rattle.rules.specs.Walk.{entriesFrom, entriesOf, walk, walkEntries}
 use Rattle.undo.proofs.Laws.{same, test}
-use Rattle.undo.specs.History.{History}
-use Rattle.undo.specs.Machine.{State}
 use Rattle.undo.specs.Table.{isIn, keep, put}
 
 -- ---- lists

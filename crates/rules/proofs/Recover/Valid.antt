@@ -26,8 +26,6 @@ use Rattle.rules.specs.Reader.{isKnownThread}
 use Rattle.rules.specs.Refusal.{isSetUp}
 use Rattle.rules.specs.Tables.{Board, listed, regionAt, threadOf}
 use Rattle.undo.proofs.Laws.{test}
-use Rattle.undo.specs.History.{History}
-use Rattle.undo.specs.Machine.{State}
 use Rattle.rules.specs.History.{Account}
 
 all-index : {A : Type 0} (p : A → Bool) (d : A) (xs : List A) → ((j : ℕ) → j < length xs → p (getD xs j d) ≡ true) → all p xs ≡ true

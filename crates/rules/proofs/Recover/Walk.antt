@@ -1,8 +1,8 @@
 -- The walk of a saved image is a walk over all uncommitted regions, in the sense of the undo log.
 use Rattle.undo.specs.Machine as u
 use Rattle.undo.specs.History as v
-use Rattle.undo.specs.Claim.{Reach, Structure, age}
-use Rattle.undo.specs.Recovery.{Undo, along, aimed, olds, persistent, Walk, next, finished, Image}
+use Rattle.undo.specs.Claim.{Structure, age}
+use Rattle.undo.specs.Recovery.{Undo, along, aimed, Walk, next, finished}
 use Prim.Native.Nat.{_+_, _<_, _≤_, suc, zero, ℕ}
 use mathlib.Core.Path.{_∙_, _≡_, ap, refl, sym}
 use mathlib.Core.Logic.{⊎-elim}
@@ -18,13 +18,11 @@ use Rattle.rules.proofs.Recover.Rising.{Rises, higher, no-more, rises-a
 use Rattle.rules.proofs.Recover.Saved.{any-of, listedBy, none-of}
 use Rattle.rules.proofs.Lists.{any-map, any-place, place-lt, place-map, place-true}
 use Rattle.rules.specs.Acknowledge.{kept}
-use Rattle.rules.specs.Image.{Logged}
+use Rattle.rules.specs.Image.{Logged, noListed}
 use Rattle.rules.specs.Lists.{count, place}
 use Rattle.rules.specs.Walk.{entriesFrom, entriesOf, isNeeded, nextPlace, walkFrom, without}
 use Rattle.undo.proofs.Laws.{is-same, never, or-right, or-true, same, test}
 use Rattle.undo.proofs.Pick.{least, least-in, picks}
-use Rattle.undo.specs.History.{History}
-use Rattle.undo.specs.Machine.{State}
 use Rattle.undo.specs.Table.{any, isIn, keep}
 
 -- ---- a list without the element at an index
@@ -92,7 +90,7 @@ module _ (ds : ℕ → List ℕ) where
         place-map (λ r. not (isNeeded (map (listedBy st ds) ks) (r .key))) (λ k. not (needed ks k)) (listedBy st ds) ks
         (λ k. ap not (any-map (λ r. any (eqb k) (r .deps)) (λ a. isIn k (ds a)) (listedBy st ds) ks (λ a. refl)))
 
-    key-same : (i : ℕ) (ks : List ℕ) → getD (map (listedBy st ds) ks) i (record { key = 0; state = 0; deps = [] }) .key ≡ getD ks i 0
+    key-same : (i : ℕ) (ks : List ℕ) → getD (map (listedBy st ds) ks) i noListed .key ≡ getD ks i 0
     key-same i [] = refl
     key-same zero (k ∷ ks) = refl
     key-same (suc i) (k ∷ ks) = key-same i ks
@@ -110,7 +108,7 @@ module _ (ds : ℕ → List ℕ) where
     walk-same (suc n) ks =
         let rs = map (listedBy st ds) ks in
         let t : ltb (nextPlace rs) (length rs) ≡ ltb (nextOf ks) (length ks) = rw (next-same ks, length-map ks (listedBy st ds)) in
-        let k : getD rs (nextPlace rs) (record { key = 0; state = 0; deps = [] }) .key ≡ getD ks (nextOf ks) 0 = rw (next-same ks) (key-same (nextOf ks) ks) in
+        let k : getD rs (nextPlace rs) noListed .key ≡ getD ks (nextOf ks) 0 = rw (next-same ks) (key-same (nextOf ks) ks) in
         let r : walkFrom n (without (nextPlace rs) rs) ≡ walkKeys n (without (nextOf ks) ks)
         = rw (next-same ks, without-same (nextOf ks) ks) (walk-same n (without (nextOf ks) ks)) in
         λ j. elim (t j) [ false ↦ [] | true ↦ k j ∷ r j ]

@@ -2,13 +2,12 @@
 use Rattle.undo.specs.Machine as u
 use Rattle.undo.specs.History as v
 use mathlib.Core.Option as o
-use Rattle.undo.specs.Machine.{act, Depend, Open, State, depends, follows, owns, reads}
-use Rattle.undo.specs.History.{note, History, drawing, used}
+use Rattle.undo.specs.Machine.{act}
+use Rattle.undo.specs.History.{note}
 use Prim.Native.Nat.{ℕ}
 use mathlib.Core.Path.{_∙_, _≡_, ap, refl, sym}
 use mathlib.Core.Logic.{_≢_, _⊎_, inl, inr, ⊎-elim}
 use mathlib.Core.Bool.{_&&_, _||_, cond, false, not, true}
-use mathlib.Core.Option.{Option, some}
 use mathlib.Core.List.{List, _∷_}
 use lib.Dec.{eqb, ltb}
 use lib.ListN.{List·getD-eq-default, getD, length, length-set, set}
@@ -17,7 +16,7 @@ use lib.Seq.{set-getD}
 use Rattle.rules.proofs.Recover.Sound.{sound}
 use Rattle.rules.proofs.Places.{Once, key-at, listed-key, listed-stored, region-stored}
 use Rattle.rules.proofs.Lists.{any-none, any-put, any-set, each-set, getD-set, place-lt, place-true}
-use Rattle.rules.proofs.Sim.State.{Finished, GoodRegion, Keeps, Kept, Rest, Sim, Simulated, Told, by, none}
+use Rattle.rules.proofs.Sim.State.{Finished, GoodRegion, Keeps, Kept, Rest, Sim, Simulated, Told, by}
 use Rattle.rules.proofs.Sim.Base.{orZero, writer-same}
 use Rattle.rules.proofs.Sim.Parts.{Owner, logs-kept, no-event, once-at, open-listed, owned, owner-is, owner-stored, part-stored, shape-stored, told-kept, unowned}
 use Rattle.rules.proofs.Views.{stateOf}
@@ -30,7 +29,6 @@ use Rattle.rules.specs.Reader.{nothing}
 use Rattle.rules.specs.Refusal.{depthOf, isForeignOpen, noRoomForDep, testsOf}
 use Rattle.rules.specs.Step.{apply}
 use Rattle.rules.specs.Tables.{Board, current, isHeld, lineOf, listed, noRegion, ownerOf, placeOf, regionAt, startLines, threadOf, withDeps, withTables}
-use Rattle.rules.specs.declared.Entry.{Entry}
 use Rattle.rules.specs.declared.Event.the-variants.{Read}
 use Rattle.rules.specs.declared.Region.{Region}
 use Rattle.rules.specs.declared.Tables.{Tables}

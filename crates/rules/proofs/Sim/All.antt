@@ -21,6 +21,7 @@ use Rattle.rules.proofs.Start.{initially}
 use Rattle.rules.specs.Bytes.{numOf}
 use Rattle.rules.specs.Claim.{boardAfter, isByte, isByteMemory}
 use Rattle.rules.specs.History.{Account, acceptedFrom, acceptedIn, noted}
+use Rattle.rules.specs.Kinds.{lastKind}
 use Rattle.rules.specs.Lists.{all}
 use Rattle.rules.specs.Record.{bodyLength, eventOf, readRecord}
 use Rattle.rules.specs.Refusal.{depthOf, refusal, testsOf}
@@ -70,7 +71,7 @@ pub sound-record : (bs : List ℕ) → all isByte bs ≡ true → isSoundReading
 unfolding readRecord
 sound-record [] e = refl
 sound-record (k ∷ body) e =
-    test (ltb 8 k)
+    test (ltb lastKind k)
     (λ d. rw d)
     (λ d. test (ltb (length body) (bodyLength k))
     (λ x. rw (d, x))

@@ -7,36 +7,27 @@ use Rattle.undo.proofs.Inv as n
 use Prim.Native.Nat.{_<_, _≤_, ℕ}
 use mathlib.Core.Path.{_∙_, _≡_, refl}
 use mathlib.Core.Logic.{_≢_, _⊎_, inl, inr}
-use mathlib.Core.Bool.{Bool, _&&_, cond, false, true}
-use mathlib.Core.Option.{Option, some}
+use mathlib.Core.Bool.{Bool, _&&_, cond, true}
 use mathlib.Core.List.{List, [], _∷_}
-use lib.Dec.{eqb, leb, ltb}
+use lib.Dec.{eqb, leb}
 use lib.ListN.{getD, length, length-set, set}
 use native.Mathlib.Omega.{arith}
-use borrow.Author.Tests.{leb-true, ltb-true, ne-eqb}
-use Rattle.rules.proofs.Recover.Live.{numbered}
+use borrow.Author.Tests.{leb-true, ne-eqb}
 use Rattle.rules.proofs.Places.{eqb-swap}
 use Rattle.rules.proofs.Lists.{getD-set}
-use Rattle.rules.proofs.Sim.State.{GoodEntry, GoodRegions, GoodThreads, Logs, Memories, Rest, Shape, Sim, Told, conv, none}
+use Rattle.rules.proofs.Sim.State.{GoodEntry, GoodRegions, GoodThreads, Logs, Memories, Rest, Shape, Sim, Told, conv}
 use Rattle.rules.proofs.Views.{entryAt}
-use Rattle.rules.specs.Access.{logged}
 use Rattle.rules.specs.History.{Account, Change, depthIn, endsIn, lastWriter, linesIn, openedIn, usesIn, writesIn}
-use Rattle.rules.specs.Lists.{all}
-use Rattle.rules.specs.Reader.{Last}
-use Rattle.rules.specs.Refusal.{Test, firstBad, isSetUp, refusal, testsOf}
-use Rattle.rules.specs.Tables.{Board, keyOf, noThread, numberOf, ownerOf, threadAt, threadOf, withTables, withThread}
+use Rattle.rules.specs.Refusal.{isSetUp}
+use Rattle.rules.specs.Tables.{Board, keyOf, noThread, numberOf, ownerOf, threadAt, threadOf, withClock, withCut, withSize, withTables, withThread, withThreads}
 use Rattle.rules.specs.declared.Entry.{Entry}
-use Rattle.rules.specs.declared.Event.{Event}
-use Rattle.rules.specs.declared.Event.the-variants.{Begin, Cut, DataAck, End, Fence, LogAck, Read, Setup, Write}
 use Rattle.rules.specs.declared.Size.{Size}
 use Rattle.rules.specs.declared.Tables.{Tables}
 use Rattle.rules.specs.declared.Thread.{Thread}
-use Rattle.undo.proofs.Inv.{owner, safe, unwritten}
+use Rattle.undo.proofs.Inv.{owner}
 use Rattle.undo.proofs.Laws.{and-true, is-same, test}
 use Rattle.undo.proofs.Steps.{reached}
 use Rattle.undo.specs.Claim.{Reach}
-use Rattle.undo.specs.History.{History}
-use Rattle.undo.specs.Machine.{Carry, Clear, State, Waits}
 
 -- ---- keys
 
@@ -71,7 +62,7 @@ thread-stored t th ts h k = getD-set (ts .threads) t k th noThread h
 -- ---- the tables with other sizes, clock and threads
 
 abbrev pub alter : Size → Bool → ℕ → List Thread → Tables → Tables
-alter z c n ths ts = record { size = z; cut = c; clock = n; threads = ths; regions = ts .regions; owner = ts .owner; lock = ts .lock }
+alter z c n ths ts = withSize z (withCut c (withClock n (withThreads ths ts)))
 
 pub memories-same : {b : Board} (ts : Tables) → Memories b → Memories (withTables ts b)
 memories-same ts m =

@@ -23,7 +23,7 @@ use Rattle.rules.specs.History.{Account, Opens, depthIn, drawsOn, endsIn
 use Rattle.rules.specs.Lists.{count}
 use Rattle.rules.specs.Refusal.{depthOf, testsOf}
 use Rattle.rules.specs.Step.{apply}
-use Rattle.rules.specs.Tables.{Board, current, isHeld, isKey, keyOf, listed, noRegion, noSlot, noThread, numberOf, ownerOf, placeOf, regionAt, threadAt, threadOf, withTables}
+use Rattle.rules.specs.Tables.{Board, current, isHeld, isKey, keyOf, listed, noRegion, noSlot, noThread, numberOf, ownerOf, placeOf, regionAt, threadAt, threadOf, withDepth, withLast, withTables}
 use Rattle.rules.specs.declared.Event.the-variants.{Begin}
 use Rattle.rules.specs.declared.Region.{Region}
 use Rattle.rules.specs.declared.SlotState.the-variants.{Empty, Waiting}
@@ -108,7 +108,7 @@ module _ {m : ℕ → List ℕ} {b : Board} {es : List Account} {s : u.State (Li
     listed-begun = listed-new (newKey t (b .tables)) (b .tables .regions) (newRegion t (b .tables)) new k-nz free refl
 
     abbrev opener : Thread
-    opener = record { depth = 1; last = threadAt t (b .tables) .last + 1; log = threadAt t (b .tables) .log }
+    opener = withDepth 1 (withLast (threadAt t (b .tables) .last + 1) (threadAt t (b .tables)))
 
     thread-begun : (j : ℕ) → threadAt j (opened t (b .tables)) ≡ cond (eqb j t) opener (threadAt j (b .tables))
     unfolding opened

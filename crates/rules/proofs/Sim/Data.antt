@@ -20,7 +20,6 @@ use Rattle.rules.proofs.SlotLaws.{distinct-dropped, dropped-none, fligh
 use Rattle.rules.proofs.Views.{carryOf, newest, slotView, stateOf}
 use Rattle.rules.specs.Acknowledge.{dataAck, droppedSlot, flightPlace, kept, landed}
 use Rattle.rules.specs.History.{Account, Nothing, depthIn, endsIn, linesIn, openedIn, usesIn, writesIn}
-use Rattle.rules.specs.Recovery.{act}
 use Rattle.rules.specs.Refusal.{inFlight, isSetUp, refusal, testsOf}
 use Rattle.rules.specs.Slots.{carries, isFlight}
 use Rattle.rules.specs.Step.{apply}
@@ -31,8 +30,6 @@ use Rattle.rules.specs.declared.SlotState.the-variants.{Empty, Waiting}
 use Rattle.undo.proofs.Inv.{flying}
 use Rattle.undo.proofs.Laws.{is-same, test}
 use Rattle.undo.specs.Claim.{Reach, then}
-use Rattle.undo.specs.History.{History, note}
-use Rattle.undo.specs.Machine.{Clear, Flies, State, Waits, data-acks}
 use Rattle.undo.specs.Table.{any, put}
 use Rattle.rules.proofs.Tests.{badAt, passed}
 

@@ -1,7 +1,7 @@
 -- Fence, cut, setup, and begin and end at other depths than 0 and 1 keep the relation.
 use Rattle.undo.specs.Machine as u
 use Rattle.undo.specs.History as v
-use Prim.Native.Nat.{_-_, _+_, _<_, zero, ℕ}
+use Prim.Native.Nat.{_-_, _+_, _<_, ℕ}
 use mathlib.Core.Path.{_∙_, _≡_, ap, refl}
 use mathlib.Core.Bool.{cond, false, true}
 use mathlib.Core.List.{List, _∷_}
@@ -19,7 +19,7 @@ use Rattle.rules.specs.Lists.{count}
 use Rattle.rules.specs.Reader.{nothing}
 use Rattle.rules.specs.Refusal.{depthOf, inRange, isSetUp, testsOf}
 use Rattle.rules.specs.Step.{apply, setup}
-use Rattle.rules.specs.Tables.{Board, Memory, noEntry, noThread, threadAt, withCut, withTables, withThread}
+use Rattle.rules.specs.Tables.{Board, Memory, noEntry, noThread, threadAt, withCut, withDepth, withNumbers, withTables, withThread}
 use Rattle.rules.specs.declared.Entry.{Entry}
 use Rattle.rules.specs.declared.Event.the-variants.{Cut, Fence, Setup}
 use Rattle.rules.specs.declared.Size.{Size}
@@ -79,7 +79,7 @@ keeps-cut m b es q r k =
 -- ---- setup
 
 abbrev size′ : ℕ → ℕ → Board → Size
-size′ n l b = record { threads = n; lines = l; zero = b .tables .size .zero; lent = b .tables .size .lent }
+size′ n l b = withNumbers n l (b .tables .size)
 
 pub keeps-setup : (n l : ℕ) → Keeps (Setup n l)
 unfolding apply setup testsOf depthIn linesIn
@@ -122,7 +122,7 @@ keeps-setup n l m b es q r k =
 -- ---- nested begin and end: a thread gets another depth, and nothing else changes
 
 abbrev deep : ℕ → ℕ → Tables → Tables
-deep t d ts = withThread t (record { depth = d; last = threadAt t ts .last; log = threadAt t ts .log }) ts
+deep t d ts = withThread t (withDepth d (threadAt t ts)) ts
 
 kept-depth : (m : Memory) (b : Board) (es : List Account) (e : Account) (t d : ℕ) → t < b .tables .size .threads → Alike es (e ∷ es)
     → ((k : ℕ) → depthIn k (e ∷ es) ≡ cond (eqb k t) d (depthIn k es)) → linesIn (e ∷ es) ≡ linesIn es → Kept m b es
@@ -135,11 +135,11 @@ kept-depth m b es e t d lt a f g k =
   where
     go : Simulated m b es → Simulated m (withTables (deep t d (b .tables)) b) (e ∷ es)
     go (by s h rc i) =
-        let at : (k : ℕ) → threadAt k (deep t d (b .tables)) ≡ cond (eqb k t) (record { depth = d; last = threadAt t (b .tables) .last; log = threadAt t (b .tables) .log }) (threadAt k (b .tables))
-        = thread-stored t (record { depth = d; last = threadAt t (b .tables) .last; log = threadAt t (b .tables) .log }) (b .tables) (omega (arith, threads-8 (b .tables) (i .shape), i .shape .threads .count)) in
+        let at : (k : ℕ) → threadAt k (deep t d (b .tables)) ≡ cond (eqb k t) (withDepth d (threadAt t (b .tables))) (threadAt k (b .tables))
+        = thread-stored t (withDepth d (threadAt t (b .tables))) (b .tables) (omega (arith, threads-8 (b .tables) (i .shape), i .shape .threads .count)) in
         by s h rc
         (sim-alter {b = b} (b .tables .size) (b .tables .cut) (b .tables .clock) (deep t d (b .tables) .threads)
-        (shape-thread t (record { depth = d; last = threadAt t (b .tables) .last; log = threadAt t (b .tables) .log }) (b .tables) lt (i .shape .threads .logs t) (i .shape))
+        (shape-thread t (withDepth d (threadAt t (b .tables))) (b .tables) lt (i .shape .threads .logs t) (i .shape))
         (logs-same {b = b} (λ k. rw (at k) (test (eqb k t) (λ y. rw (y, eqb-true k t y)) (λ y. rw y))) refl refl (i .logs))
         (told-alike {b = b} a
         (λ k. rw (at k, f k) (test (eqb k t) (λ y. rw y) (λ y. rw y (i .told .depth k))))

@@ -20,7 +20,7 @@ use Rattle.rules.specs.End.{closed, endRegion, endedRegion, shallower, t
 use Rattle.rules.specs.Flight.{flown}
 use Rattle.rules.specs.History.{Account, Closes, depthIn, endsIn, linesIn, openedIn, regionIn, usesIn, writesIn}
 use Rattle.rules.specs.Refusal.{depthOf, refusal, testsOf}
-use Rattle.rules.specs.Tables.{Board, Memory, current, listed, ownerOf, placeOf, regionAt, threadAt, threadOf, withTables}
+use Rattle.rules.specs.Tables.{Board, Memory, current, listed, ownerOf, placeOf, regionAt, threadAt, threadOf, withDepth, withTables}
 use Rattle.rules.specs.declared.Event.the-variants.{End}
 use Rattle.rules.specs.declared.Region.{Region}
 use Rattle.rules.specs.declared.SlotState.the-variants.{Waiting}
@@ -43,7 +43,7 @@ abbrev overRegion : ℕ → Tables → Region
 overRegion t ts = endedRegion (tick (ts .clock)) (regionAt (current t ts) (ts .regions))
 
 abbrev overThread : ℕ → Tables → Thread
-overThread t ts = record { depth = threadAt t ts .depth - 1; last = threadAt t ts .last; log = threadAt t ts .log }
+overThread t ts = withDepth (threadAt t ts .depth - 1) (threadAt t ts)
 
 module _ {m : ℕ → List ℕ} {b : Board} {es : List Account} {s : u.State (List ℕ)} {h : v.History (List ℕ)} (rc : Reach m s h) (i : Sim b es s h)
     (t : ℕ) (lt : t < b .tables .size .threads) (d1 : depthIn t es ≡ 1) where

@@ -1,8 +1,8 @@
 -- The flights of a region are an action `Launch` of the undo log.
 use Rattle.undo.specs.Machine as u
 use Rattle.undo.specs.History as v
-use Rattle.undo.specs.Machine.{act, Flies, Launch, State, Waits, launches}
-use Rattle.undo.specs.History.{note, History}
+use Rattle.undo.specs.Machine.{act}
+use Rattle.undo.specs.History.{note}
 use Prim.Native.Nat.{ℕ}
 use mathlib.Core.Path.{_∙_, _≡_, ap, refl, sym}
 use mathlib.Core.Bool.{Bool, _&&_, _||_, cond, false, false≢true, not, true}

@@ -62,7 +62,7 @@ module _ (t k l : ℕ) (b : Board) (inT : t < length (b .tables .threads)) (room
   free-lt = place-lt (isOf 0) (threadAt t (b .tables) .log) room
 
   thread-logged : (x : ℕ) → threadAt x (newLog t k l b .tables)
-      ≡ cond (eqb x t) (record { depth = threadAt t (b .tables) .depth; last = threadAt t (b .tables) .last; log = set (threadAt t (b .tables) .log) (freeEntry t (b .tables)) (freshEntry t k l (b .tables)) }) (threadAt x (b .tables))
+      ≡ cond (eqb x t) (withLog (set (threadAt t (b .tables) .log) (freeEntry t (b .tables)) (freshEntry t k l (b .tables))) (threadAt t (b .tables))) (threadAt x (b .tables))
   thread-logged x = getD-set (b .tables .threads) t x _ noThread inT
 
   entry-logged : (x j : ℕ) → entryAt x j (newLog t k l b .tables) ≡ cond (eqb x t && eqb j (freeEntry t (b .tables))) (freshEntry t k l (b .tables)) (entryAt x j (b .tables))

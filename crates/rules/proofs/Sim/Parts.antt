@@ -8,23 +8,19 @@ use mathlib.Core.Logic.{_≢_, _⊎_}
 use mathlib.Core.Bool.{_||_, false, true}
 use mathlib.Core.List.{List, [], _∷_}
 use lib.Dec.{eqb}
-use lib.ListN.{getD, length-set, set}
+use lib.ListN.{getD, set}
 use borrow.Author.Tests.{eqb-true}
 use Rattle.rules.proofs.Places.{Once, listed-stored, region-stored, regions-stored}
 use Rattle.rules.proofs.Sim.State.{GoodRegion, Logs, Shape, Sim, Told, conv}
 use Rattle.rules.proofs.Views.{stateOf}
-use Rattle.rules.specs.Access.{logged}
 use Rattle.rules.specs.History.{Account, depthIn, drawsOn, endsIn, lastWriter, linesIn, openedIn, regionIn, usesIn, writesIn}
-use Rattle.rules.specs.Tables.{Board, listed, ownerOf, placeOf, regionAt, threadAt, threadOf, withRegions}
-use Rattle.rules.specs.declared.Entry.{Entry}
+use Rattle.rules.specs.Tables.{Board, listed, ownerOf, placeOf, regionAt, threadAt, threadOf, withCar, withCur, withMed, withRegions, withTables}
 use Rattle.rules.specs.declared.Region.{Region}
 use Rattle.rules.specs.declared.SlotState.the-variants.{Waiting}
 use Rattle.rules.specs.declared.Tables.{Tables}
 use Rattle.undo.proofs.Laws.{is-same, never, test}
 use Rattle.undo.proofs.Main.{structured}
 use Rattle.undo.specs.Claim.{Reach}
-use Rattle.undo.specs.History.{History, used}
-use Rattle.undo.specs.Machine.{Open, State}
 use Rattle.rules.proofs.Sim.Base.{shape-kept}
 use Rattle.rules.specs.Measures.{ripeCount}
 use Rattle.rules.proofs.Recover.Live.{live-listed}
@@ -36,7 +32,7 @@ Flown b = (k l c : ℕ) → (eqb c ripeCount || regionAt k (b .tables .regions) 
 
 -- the board with other regions and other lines in current memory, the medium and the flights
 abbrev pub rebuilt : List Region → List (List ℕ) → List (List ℕ) → List (List ℕ) → Board → Board
-rebuilt rs cu me ca b = record { tables = withRegions rs (b .tables); cur = cu; med = me; old = b .old; car = ca }
+rebuilt rs cu me ca b = withTables (withRegions rs (b .tables)) (withCur cu (withMed me (withCar ca b)))
 
 -- an event that opens and ends no region
 pub record Quiet (es es′ : List Account) : Type 0 where

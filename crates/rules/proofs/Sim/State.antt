@@ -8,16 +8,15 @@ use mathlib.Core.Logic.{_≢_, _⊎_}
 use mathlib.Core.Bool.{Bool, _&&_, _||_, false, not, true}
 use mathlib.Core.List.{List, [], _∷_}
 use lib.Dec.{eqb, ltb}
-use lib.ListN.{getD, length, set}
+use lib.ListN.{getD, length}
 use Rattle.rules.proofs.Codec.Bytes.{isLine}
 use Rattle.rules.proofs.Views.{depView, entryAt, isOpened, newest, slotView, stateOf}
-use Rattle.rules.specs.Access.{isOf, logged}
+use Rattle.rules.specs.Access.{isOf}
 use Rattle.rules.specs.Acknowledge.{isEntry}
 use Rattle.rules.specs.Commit.{commits}
 use Rattle.rules.specs.History.{Account, Change, accountOf, depthIn, drawsOn, endsIn, lastWriter, linesIn, openedIn, regionIn, usesIn, writesIn}
 use Rattle.rules.specs.Lists.{count}
 use Rattle.rules.specs.Refusal.{isSetUp, refusal}
-use Rattle.rules.specs.Run.{Wrote}
 use Rattle.rules.specs.Slots.{hasSlot, isEmpty}
 use Rattle.rules.specs.Step.{apply}
 use Rattle.rules.specs.Tables.{Board, Memory, lineOf, listed, noEntry, noRegion, noSlot, noThread, ownerOf, placeOf, regionAt, startLines, threadAt, threadOf}
@@ -30,8 +29,6 @@ use Rattle.rules.specs.declared.SlotState.the-variants.{Empty, Waiting}
 use Rattle.rules.specs.declared.Tables.{Tables}
 use Rattle.rules.specs.declared.Thread.{Thread}
 use Rattle.undo.specs.Claim.{Reach}
-use Rattle.undo.specs.History.{History, used}
-use Rattle.undo.specs.Machine.{Open, State, Waits, owns}
 use Rattle.undo.specs.Recovery.{olds}
 use Rattle.undo.specs.Table.{any}
 use Rattle.rules.specs.Measures.{ripeCount}

@@ -25,18 +25,21 @@ enum-known-k c = search needs
 counted-slots-requires : tie.Need-counted-slots-requires
 counted-slots-requires c κs = search needs
 
+slot-requires : tie.Need-slot-requires
+slot-requires c κs = search needs
+
 mul-q : tie.Need-mul-q
-mul-q c = let h = found-below c in omega arith
+mul-q c = let h = found-below (c .before) in omega arith
 
 array-set-from-q : tie.Need-array-set-from-q
-array-set-from-q c = found-below c
+array-set-from-q c = found-below (c .before)
 
 enum-told : tie.Need-enum-told
 enum-told c = search needs
 
 returns : tie.Need-returns
 unfolding written
-returns c = let e = sym (c .before .before .before .before .slot-for .ensures) ∙ c .before .before .k .given .1 in rw (e, c .counted-slots .ensures) refl
+returns c = let e = sym (c .before .before .before .before .before .slot-for .ensures) ∙ c .before .before .before .k .given .1 in rw (e, c .before .counted-slots .ensures, c .slot .ensures) refl
 
 returns-2 : tie.Need-returns-2
 unfolding written
@@ -49,6 +52,7 @@ written-spec =
     slot-for-requires
     enum-known-k
     counted-slots-requires
+    slot-requires
     mul-q
     array-set-from-q
     enum-told

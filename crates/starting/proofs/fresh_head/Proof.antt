@@ -1,6 +1,5 @@
 use mathlib.Core.Path.{refl}
 use Rattle.rows.specs.Row.{entryOf, regionOf, threadOf}
-use borrow.Author.Needs.{needs}
 use Rattle.starting.proofs.fresh_head.Statement.{statement}
 use Rattle.starting.proofs.fresh_head.Tie as tie
 

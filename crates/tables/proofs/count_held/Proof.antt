@@ -5,7 +5,6 @@ use native.Mathlib.Omega.{arith}
 use Rattle.lookup.proofs.Search.{count-end, count-on, one-le}
 use Rattle.rules.specs.Lists.{count}
 use Rattle.rules.specs.Tables.{isHeld, noRegion}
-use Rattle.rules.specs.Refusal.{isModified}
 use Rattle.rows.specs.Row.{regionsOf}
 use Rattle.rows.proofs.Laws.{rows-length}
 use borrow.Author.Needs.{needs}

@@ -7,7 +7,7 @@ use Rattle.rules.specs.Acknowledge.{flightPlace}
 use Rattle.rules.specs.Slots.{carries}
 use Rattle.rules.specs.Lists.{place}
 use native.Mathlib.Omega.{arith}
-use lib.ListN.{drop, length}
+use lib.ListN.{drop}
 use mathlib.Core.Path.{_∙_, _≡_, sym}
 use Prim.Native.Nat.{_+_, _-_, _≤_}
 use borrow.Author.Needs.{needs}

@@ -5,7 +5,7 @@ use Rattle.rows.specs.Row.{regionsOf}
 use Rattle.rules.specs.Tables.{isKey, noRegion}
 use Rattle.rules.specs.Lists.{place}
 use native.Mathlib.Omega.{arith}
-use lib.ListN.{drop, length}
+use lib.ListN.{drop}
 use mathlib.Core.Path.{_∙_, _≡_, sym}
 use Prim.Native.Nat.{_+_, _-_, _≤_}
 use borrow.Author.Needs.{needs}

@@ -1,4 +1,3 @@
-use mathlib.Core.Path.{_∙_, sym}
 use borrow.Author.Needs.{needs}
 use Rattle.tables.proofs.uncommitted.Statement.{statement}
 use Rattle.tables.proofs.uncommitted.Tie as tie

@@ -5,8 +5,8 @@ use mathlib.Core.Path.{_≡_, refl}
 use mathlib.Core.List.{map}
 use lib.ListN.{length, length-set, take}
 use borrow.Author.Needs.{needs}
-use Rattle.judging.specs.Marks.{noListed}
 use Rattle.lookup.proofs.Map.{fill-end, fill-on}
+use Rattle.rules.specs.Image.{noListed}
 
 abbrev Inv-loop : tie.InvT-loop
 Inv-loop n regions deps₀ i₀ deps i = (i ≤ n) × ((length deps ≡ 32) × (take i deps ≡ map (λ x. x .deps) (take i regions)))

@@ -1,6 +1,3 @@
-use mathlib.Core.Path.{_∙_, ap}
-use Rattle.wording.specs.Text.{memoryText}
-use Rattle.output.specs.Room.{puts, room}
 use borrow.Author.Needs.{needs}
 use Rattle.wording.proofs.image_words.Statement.{statement}
 use Rattle.wording.proofs.image_words.Tie as tie

@@ -1,5 +1,4 @@
 use mathlib.Core.Path.{_≡_, _∙_, refl}
-use Prim.Native.Nat.{_+_}
 use lib.ListN.{length}
 use Rattle.wording.proofs.Finish.{finish-last, finish-more, finish-stop}
 use Rattle.wording.specs.Text.{finish, recovered}

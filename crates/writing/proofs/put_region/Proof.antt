@@ -1,10 +1,10 @@
 use Rattle.writing.proofs.put_region.Statement.{statement}
 use Rattle.writing.proofs.put_region.Tie as tie
-use mathlib.Core.Path.{_∙_, refl, sym}
+use mathlib.Core.Path.{_∙_, sym}
 use borrow.Author.Needs.{needs}
 use borrow.Author.Tests.{not-false, not-true}
 use Rattle.rules.specs.Image.{regionRecord}
-use Rattle.writing.proofs.Widths.{region-long}
+use Rattle.rules.proofs.Codec.Turns.{region-long}
 use Rattle.writing.proofs.Emit.{puts-none, puts-some, room-for}
 
 has-room-requires : tie.Need-has-room-requires

@@ -1,6 +1,6 @@
 use borrow.Author.Tests.{le-leb, lt-leb}
-use Rattle.rows.proofs.in_range.Statement.{statement}
-use Rattle.rows.proofs.in_range.Tie as tie
+use Rattle.lookup.proofs.in_range.Statement.{statement}
+use Rattle.lookup.proofs.in_range.Tie as tie
 
 returns : tie.Need-returns
 returns c = rw (lt-leb _ _ (c .if1 .taken))
