@@ -1,7 +1,7 @@
 -- The answer to a setup is its refusal alone, and numbers out of range are refused.
 use Prim.Native.Nat.{_<_, suc, zero, ℕ}
 use mathlib.Core.Path.{_∙_, _≡_, refl}
-use mathlib.Core.Bool.{Bool, _&&_, false, true}
+use mathlib.Core.Bool.{_&&_, and-false, false}
 use mathlib.Core.List.{List}
 use lib.Dec.{leb}
 use lib.ListN.{length}
@@ -25,10 +25,6 @@ module _ (n l : ℕ) where
   pub start-far : (memory : List ℕ) → inRange n l ≡ false → startCall n l memory ≡ record { refusal = 6; value = 0 }
   unfolding refusal testsOf
   start-far memory e = start-answer memory ∙ rw e
-
-and-false : (a : Bool) → a && false ≡ false
-and-false true = refl
-and-false false = refl
 
 module _ (n l : ℕ) where
   pub many-threads : 8 < n → inRange n l ≡ false

@@ -1,6 +1,6 @@
 -- The commits of a step, one after the other, n of them made.
 use Prim.Native.Nat.{_+_, _-_, _/_, _<_, _≤_, suc, zero, ℕ}
-use mathlib.Core.Bool.{Bool, _&&_, cond, false, not, true}
+use mathlib.Core.Bool.{Bool, _&&_, and-false, cond, false, not, true}
 use mathlib.Core.List.{List, [], _∷_, map}
 use mathlib.Core.Path.{_∙_, _≡_, ap, ap₂, refl, sym}
 use lib.ListN.{length}
@@ -76,14 +76,10 @@ unripe-same : (r : Region) → ripe r ≡ false → doneRegion r ≡ r
 unripe-same r e =
     done-same r (unripe (r .done) (commits r) (r .ended && not (hasSlot r)) e (λ d w. rw d) (λ d b. rw b (or-none (r .done))))
 
-and-none : (a : Bool) → (a && false) ≡ false
-and-none true = refl
-and-none false = refl
-
 -- and does not commit
 unripe-waits : (r : Region) → ripe r ≡ false → commits r ≡ false
 unfolding commits
-unripe-waits r e = unripe (r .done) (commits r) (r .ended && not (hasSlot r)) e (λ d w. w) (λ d b. rw d (and-none (isHeld r)))
+unripe-waits r e = unripe (r .done) (commits r) (r .ended && not (hasSlot r)) e (λ d w. w) (λ d b. rw d (and-false (isHeld r)))
 
 same : (rs : List Region) → any ripe rs ≡ false → map doneRegion rs ≡ rs
 same [] e = refl

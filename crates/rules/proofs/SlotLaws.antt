@@ -1,7 +1,7 @@
 -- The slots of a region, seen by line: what a write, a flight, a dropped and a landed flight make of them.
 use Prim.Native.Nat.{_<_, ℕ}
 use mathlib.Core.Path.{_∙_, _≡_, ap, refl, sym}
-use mathlib.Core.Bool.{Bool, _&&_, _||_, cond, false, false≢true, not, true, true≢false}
+use mathlib.Core.Bool.{Bool, _&&_, cond, false, false≢true, not, true, true≢false}
 use mathlib.Core.List.{List, [], _∷_, map}
 use lib.Dec.{eqb, lit<}
 use lib.ListN.{getD, length, length-map, length-set, set}
@@ -18,6 +18,7 @@ use Rattle.rules.specs.declared.SlotState.{SlotState}
 use Rattle.rules.specs.declared.SlotState.the-variants.{Empty, InFlight, Waiting}
 use Rattle.undo.proofs.Laws.{and-true, flip, is-same, never, or-false, test}
 use Rattle.undo.specs.Table.{any}
+use Rattle.rules.proofs.Lists.{or-none}
 
 -- ---- a slot that names a line
 
@@ -130,10 +131,6 @@ flight-carried l (more {s = s} {ss = ss} a n r ds) =
     rw (d, named-carries l s d, z) (or-none (isFlight (s .state))))
     (λ d. let f : carries l s ≡ false = test (carries l s) (λ e. never (carries-named l s e) d) (λ e. e) in
     rw (d, f) (flight-carried l ds))
-  where
-    or-none : (b : Bool) → (b || false) ≡ b
-    or-none true = refl
-    or-none false = refl
 
 -- ---- a change of each slot
 
