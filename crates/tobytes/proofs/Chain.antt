@@ -1,9 +1,8 @@
 -- The bytes that are handed over piece by piece are those of the text.
-use Prim.Native.Nat.{_+_, _-_, _<_, _≤_, suc, ℕ}
+use Prim.Native.Nat.{_+_, _-_, _<_, _≤_, ℕ}
 use mathlib.Core.Path.{_∙_, _≡_, refl, sym}
 use mathlib.Core.Bool.{Bool, _&&_, cond, false, false≢true, not, true}
 use mathlib.Core.List.{List, [], _++_, append-assoc, append-nil}
-use mathlib.Core.Logic.{inl, inr}
 use lib.Dec.{leb, ltb}
 use lib.ListN.{drop, length, length-append, take, take-append-drop}
 use native.Mathlib.Omega.{arith}
@@ -16,7 +15,9 @@ use Rattle.output.specs.Room.{Room, puts}
 use Rattle.parsing.proofs.Lines.{lines-in-pieces}
 use Rattle.parsing.specs.Claim.{LinesInPieces}
 use Rattle.parsing.specs.Read.{bytesOfText, goodBytes, goodOf, linesOf}
-use Rattle.tobytes.specs.Results.{Pieced, Ran, Run, complaint, complaintEnd, complaintStart, goesOn, lineEnd, linesIn, start, stop, turn}
+use Rattle.pieces.proofs.Chain.{Going, one-more}
+use Rattle.pieces.specs.Chain.{Chain, Chained, stop, turn}
+use Rattle.tobytes.specs.Results.{Between, Pieced, Ran, Turned, between, complaint, complaintEnd, complaintStart, follows, goesOn, lineEnd, start}
 use Rattle.tobytes.specs.declared.Left.{Left}
 use Rattle.undo.proofs.Laws.{and-true, test}
 
@@ -45,14 +46,15 @@ piece-right true p f h =
     rw (h refl, append-nil p, take-length p, drop-length p, no-bytes) (test (bytesOfText p .ok) (λ e. rw (e, append-nil)) (λ e. rw (e, append-nil)))
 piece-right false p f h = lines-in-pieces p f
 
-pub run-right : {d : List ℕ} {n : ℕ} {came sent e : List ℕ} {r : Left} → Run d start n came sent e r → (f : List ℕ) → (r .last ≡ true → f ≡ []) → goodBytes (came ++ f) ≡ sent ++ cond (r .form) (goodBytes (take (r .held) e ++ f)) []
+run-right : {d : List ℕ} {n : ℕ} {came sent : List ℕ} {r : Between} → Chain follows Turned (between d start) n came sent r → (f : List ℕ) → (r .left .last ≡ true → f ≡ [])
+    → goodBytes (came ++ f) ≡ sent ++ cond (r .left .form) (goodBytes (take (r .left .held) (r .buffer) ++ f)) []
 run-right stop f h = refl
-run-right (turn {n} {came} {sent} {e} {d′} {t} {r} c g p) f h =
-    let new = drop (t .held) (p .piece) in
-    let ih = run-right c (new ++ f) (λ z. absurd (false≢true (sym (on-more t (length e) g) ∙ z))) in
-    let joined : take (t .held) e ++ (new ++ f) ≡ p .piece ++ f = rw (← p .begins, ← append-assoc, take-append-drop) in
-    let last : leb (length (p .piece)) (t .held) ≡ true → f ≡ [] = λ z. h (p .ends ∙ z) in
-    rw (append-assoc came new f, ih, on-form t (length e) g, joined, piece-right (leb (length (p .piece)) (t .held)) (p .piece) f last, p .form, p .left, append-assoc)
+run-right (turn {came = came} {new = new} {t = a} c g t) f h =
+    let p = t .pieced in
+    let ih = run-right c (new ++ f) (λ z. absurd (false≢true (sym (on-more (a .left) (length (a .buffer)) g) ∙ z))) in
+    let joined : take (a .left .held) (a .buffer) ++ (new ++ f) ≡ p .piece ++ f = rw (t .comes, ← p .begins, ← append-assoc, take-append-drop) in
+    let last : leb (length (p .piece)) (a .left .held) ≡ true → f ≡ [] = λ z. h (p .ends ∙ z) in
+    rw (append-assoc came new f, ih, on-form (a .left) (length (a .buffer)) g, joined, piece-right (leb (length (p .piece)) (a .left .held)) (p .piece) f last, p .form, p .left, t .goes, append-assoc)
 
 -- the parts of a complaint, and its length
 pub complaint-puts : (r : Room) (n : ℕ) → puts r (complaint n) ≡ puts (puts (puts r complaintStart) (decimal n)) complaintEnd
@@ -65,22 +67,11 @@ complaint-short n = omega (arith, decimal-short n, length-append complaintStart 
 
 -- ---- a run that goes on, with `left` turns left to count
 
-pub record Going (d d′ : List ℕ) (r : Left) (left : ℕ) : Type 0 where
-  pub turns : ℕ
-  pub came : List ℕ
-  pub sent : List ℕ
-  pub run : Run d start turns came sent d′ r
-  pub counted : turns + left ≡ 18446744073709551615
+abbrev pub Running : List ℕ → List ℕ → Left → ℕ → Type 0
+Running d d′ r left = Going follows Turned (between d start) (between d′ r) left
 
-pub going-start : (d : List ℕ) → Going d d start 18446744073709551615
-going-start d = record { turns = 0; came = []; sent = []; run = stop; counted = refl }
+pub goes-on : (d e d′ : List ℕ) (t r : Left) (left : ℕ) → Running d e t left → 0 < left → goesOn t (length e) ≡ true → Pieced e d′ (t .held) (t .read) r → Running d d′ r (left - 1)
+goes-on d e d′ t r left g h o p = one-more g h o (record { pieced = p; comes = refl; goes = refl })
 
-pub going-on : (d e d′ : List ℕ) (t r : Left) (left : ℕ) → Going d e t left → 0 < left → goesOn t (length e) ≡ true → Pieced e d′ (t .held) (t .read) r → Going d d′ r (left - 1)
-going-on d e d′ t r left g h o p =
-    record { turns = suc (g .turns); came = g .came ++ drop (t .held) (p .piece); sent = g .sent ++ goodBytes (linesIn (t .held) (p .piece)); run = turn (g .run) o p; counted = omega (arith, g .counted) }
-
-pub ran-early : (d d′ : List ℕ) (r : Left) (left : ℕ) → Going d d′ r left → goesOn r (length d′) ≡ false → Ran d d′ r
-ran-early d d′ r left g e = record { turns = g .turns; came = g .came; sent = g .sent; run = g .run; ends = inl e; right = run-right (g .run) }
-
-pub ran-late : (d d′ : List ℕ) (r : Left) (left : ℕ) → Going d d′ r left → left ≡ 0 → Ran d d′ r
-ran-late d d′ r left g e = record { turns = g .turns; came = g .came; sent = g .sent; run = g .run; ends = inr (omega (arith, g .counted)); right = run-right (g .run) }
+pub ran : (d d′ : List ℕ) (r : Left) → Chained follows Turned (between d start) (between d′ r) → Ran d d′ r
+ran d d′ r c = record { run = c; right = run-right (c .run) }

@@ -1,12 +1,12 @@
 -- What a piece of a text leaves, and what the whole run does.
-use Prim.Native.Nat.{_%_, _+_, _^_, suc, ℕ}
+use Prim.Native.Nat.{_%_, _+_, _^_, ℕ}
 use mathlib.Core.Path.{_≡_}
 use mathlib.Core.Bool.{Bool, _&&_, _||_, cond, false, not, true}
 use mathlib.Core.List.{List, [], _++_, _∷_}
-use mathlib.Core.Logic.{_⊎_}
 use lib.Dec.{leb, ltb}
 use lib.ListN.{drop, length, take}
 use Rattle.output.specs.Decimal.{decimal}
+use Rattle.pieces.specs.Chain.{Chained}
 use Rattle.parsing.specs.Read.{Text, bytesOfText, goodBytes, lastLine}
 use Rattle.tobytes.specs.declared.Left.{Left}
 use Rattle.tobytes.specs.declared.Read.{Read}
@@ -46,24 +46,31 @@ goesOn s room = s .sent && (s .form && (not (s .last) && ltb (s .held) room))
 unfoldable pub isBad : Left → ℕ → Bool
 isBad s room = not (s .form) || (s .sent && (not (s .last) && leb room (s .held)))
 
--- n pieces, one after the other, from a buffer d and s to d′ and r: the text that came with them, and the bytes that were handed over to be written
-pub data Run (d : List ℕ) (s : Left) : ℕ → List ℕ → List ℕ → List ℕ → Left → Type 0 where
-  stop : Run d s 0 [] [] d s
-  turn : {n : ℕ} {came sent e d′ : List ℕ} {t r : Left} → Run d s n came sent e t → goesOn t (length e) ≡ true → (p : Pieced e d′ (t .held) (t .read) r)
-      → Run d s (suc n) (came ++ drop (t .held) (p .piece)) (sent ++ goodBytes (linesIn (t .held) (p .piece))) d′ r
+-- what stands between two pieces: the buffer of the text, and what is left
+pub record Between : Type 0 where
+  pub buffer : List ℕ
+  pub left : Left
+
+abbrev pub between : List ℕ → Left → Between
+between d s = record { buffer = d; left = s }
+
+abbrev pub follows : Between → Bool
+follows a = goesOn (a .left) (length (a .buffer))
+
+-- a piece: the text that came with it, and the bytes of its lines
+pub record Turned (a b : Between) (new out : List ℕ) : Type 0 where
+  pub pieced : Pieced (a .buffer) (b .buffer) (a .left .held) (a .left .read) (b .left)
+  pub comes : new ≡ drop (a .left .held) (pieced .piece)
+  pub goes : out ≡ goodBytes (linesIn (a .left .held) (pieced .piece))
 
 abbrev pub start : Left
 start = record { held = 0; read = 0; form = true; sent = true; last = false }
 
--- all pieces: they end where none follows (or after as many as a loop counts). Whatever comes behind, f, and nothing where the input has ended: the bytes
--- that were handed over are those of the text's lines in the form, and if all were, those of what is still held follow
+-- all pieces. Whatever comes behind, f, and nothing where the input has ended: the bytes that were handed over are those of the text's lines in the form, and
+-- if all were, those of what is still held follow
 pub record Ran (d d′ : List ℕ) (r : Left) : Type 0 where
-  pub turns : ℕ
-  pub came : List ℕ
-  pub sent : List ℕ
-  pub run : Run d start turns came sent d′ r
-  pub ends : (goesOn r (length d′) ≡ false) ⊎ (turns ≡ 18446744073709551615)
-  pub right : (f : List ℕ) → (r .last ≡ true → f ≡ []) → goodBytes (came ++ f) ≡ sent ++ cond (r .form) (goodBytes (take (r .held) d′ ++ f)) []
+  pub run : Chained follows Turned (between d start) (between d′ r)
+  pub right : (f : List ℕ) → (r .last ≡ true → f ≡ []) → goodBytes (run .came ++ f) ≡ run .sent ++ cond (r .form) (goodBytes (take (r .held) d′ ++ f)) []
 
 -- "line N is not in the form"
 abbrev pub complaintStart : List ℕ

@@ -1,34 +1,39 @@
 -- The text that is handed over piece by piece is that of the file.
 use Prim.Native.Nat.{_+_, _-_, _<_, _≤_, suc, zero, ℕ}
 use mathlib.Core.Path.{_≡_, refl}
-use mathlib.Core.Bool.{false, true}
-use mathlib.Core.List.{List, [], _++_, _∷_, append-assoc}
-use mathlib.Core.Logic.{inl, inr}
+use mathlib.Core.Bool.{true}
+use mathlib.Core.List.{List, [], _++_, _∷_, append-assoc, append-nil}
 use lib.Dec.{ltb}
-use lib.ListN.{drop, getD, length, take, take-append-drop}
+use lib.ListN.{getD, length, take, take-append-drop}
 use native.Mathlib.Omega.{arith}
-use borrow.Author.Tests.{ltb-false, ltb-true}
+use borrow.Author.Tests.{lt-ltb, ltb-false, ltb-true}
 use Rattle.events.proofs.Records.{length-empty, length-whole, whole-stop}
 use Rattle.events.specs.Whole.{recordLength}
+use Rattle.pieces.proofs.Chain.{Going, one-more}
+use Rattle.pieces.specs.Chain.{Chain, Chained, stop, turn}
 use Rattle.pieces.specs.Shift.{Refilled}
 use Rattle.printing.proofs.Pieces.{text-split}
-use Rattle.printing.specs.Text.{textOf, wholeText}
+use Rattle.printing.specs.Text.{textOf}
 use Rattle.rules.specs.Kinds.{bodyLengths, largest, lastKind, longestRecord}
-use Rattle.totext.specs.Results.{Parts, Pieced, Ran, Rested, Run, goesOn, none, part, start, stop, turn}
+use Rattle.totext.specs.Results.{Between, Parted, Pieced, Ran, Rest, Rested, Turned, between, follows, goesOn, isLeft, rest, start}
 use Rattle.totext.specs.declared.Left.{Left}
 use Rattle.undo.proofs.Laws.{test}
 
-run-right : {d : List ℕ} {n : ℕ} {came sent e : List ℕ} {r : Left} → Run d start n came sent e r → (f : List ℕ) → textOf (came ++ f) ≡ sent ++ textOf (take (r .held) e ++ f)
-run-right stop f = refl
-run-right (turn {n} {came} {sent} {e} {d′} {t} {r} c g p) f =
-    let new = drop (t .held) (p .piece) in
-    let ih = run-right c (new ++ f) in
-    let joined : take (t .held) e ++ (new ++ f) ≡ p .piece ++ f = rw (← p .begins, ← append-assoc, take-append-drop) in
-    rw (append-assoc came new f, ih, joined, text-split (p .piece) f, p .left, append-assoc)
+abbrev Pieces : ℕ → List ℕ → List ℕ → Between → List ℕ → Type 0
+Pieces n came sent r d = Chain follows Turned (between d start) n came sent r
 
-run-rests : {d : List ℕ} {n : ℕ} {came sent e : List ℕ} {r : Left} → Run d start n came sent e r → recordLength (take (r .held) e) ≡ 0
+run-right : {d : List ℕ} {n : ℕ} {came sent : List ℕ} {r : Between} → Pieces n came sent r d → (f : List ℕ)
+    → textOf (came ++ f) ≡ sent ++ textOf (take (r .left .held) (r .buffer) ++ f)
+run-right stop f = refl
+run-right (turn {came = came} {new = new} {t = a} c g t) f =
+    let p = t .pieced in
+    let ih = run-right c (new ++ f) in
+    let joined : take (a .left .held) (a .buffer) ++ (new ++ f) ≡ p .piece ++ f = rw (t .comes, ← p .begins, ← append-assoc, take-append-drop) in
+    rw (append-assoc came new f, ih, joined, text-split (p .piece) f, p .left, t .goes, append-assoc)
+
+run-rests : {d : List ℕ} {n : ℕ} {came sent : List ℕ} {r : Between} → Pieces n came sent r d → recordLength (take (r .left .held) (r .buffer)) ≡ 0
 run-rests stop = length-empty [] refl
-run-rests (turn c g p) = rw (p .left) (whole-stop (p .piece))
+run-rests (turn c g t) = rw (t .pieced .left) (whole-stop (t .pieced .piece))
 
 -- ---- as many bytes as the longest record has, and no whole record in front: an unknown kind
 
@@ -45,47 +50,32 @@ long-unknown r h e =
 
 -- ---- a run that goes on, with `left` turns left to count
 
-pub record Going (d d′ : List ℕ) (r : Left) (left : ℕ) : Type 0 where
-  pub turns : ℕ
-  pub came : List ℕ
-  pub sent : List ℕ
-  pub run : Run d start turns came sent d′ r
-  pub counted : turns + left ≡ 18446744073709551615
+abbrev pub Running : List ℕ → List ℕ → Left → ℕ → Type 0
+Running d d′ r left = Going follows Turned (between d start) (between d′ r) left
 
-pub going-start : (d : List ℕ) → Going d d start 18446744073709551615
-going-start d = record { turns = 0; came = []; sent = []; run = stop; counted = refl }
+pub goes-on : (d e d′ : List ℕ) (t r : Left) (left : ℕ) → Running d e t left → 0 < left → goesOn t ≡ true → Pieced e d′ (t .held) r → Running d d′ r (left - 1)
+goes-on d e d′ t r left g h o p = one-more g h o (record { pieced = p; comes = refl; goes = refl })
 
-pub going-on : (d e d′ : List ℕ) (t r : Left) (left : ℕ) → Going d e t left → 0 < left → goesOn t ≡ true → Pieced e d′ (t .held) r → Going d d′ r (left - 1)
-going-on d e d′ t r left g h o p =
-    record { turns = suc (g .turns); came = g .came ++ drop (t .held) (p .piece); sent = g .sent ++ wholeText (p .piece); run = turn (g .run) o p; counted = omega (arith, g .counted) }
-
-pub ran-early : (d d′ : List ℕ) (r : Left) (left : ℕ) → Going d d′ r left → goesOn r ≡ false → Ran d d′ r
-ran-early d d′ r left g e = record { turns = g .turns; came = g .came; sent = g .sent; run = g .run; ends = inl e; right = run-right (g .run); rests = run-rests (g .run); unknown = λ h. long-unknown (take (r .held) d′) h (run-rests (g .run)) }
-
-pub ran-late : (d d′ : List ℕ) (r : Left) (left : ℕ) → Going d d′ r left → left ≡ 0 → Ran d d′ r
-ran-late d d′ r left g e = record { turns = g .turns; came = g .came; sent = g .sent; run = g .run; ends = inr (omega (arith, g .counted)); right = run-right (g .run); rests = run-rests (g .run); unknown = λ h. long-unknown (take (r .held) d′) h (run-rests (g .run)) }
+pub ran : (d d′ : List ℕ) (r : Left) → Chained follows Turned (between d start) (between d′ r) → Ran d d′ r
+ran d d′ r c = record { run = c; right = run-right (c .run); rests = run-rests (c .run); unknown = λ h. long-unknown (take (r .held) d′) h (run-rests (c .run)) }
 
 -- nothing is left
 pub empty-kind : (rest : List ℕ) → length rest ≡ 0 → getD rest 0 0 ≡ 0
 empty-kind [] e = refl
 empty-kind (b ∷ bs) e = absurd (omega arith)
 
--- ---- the rest of a file, with `turns` turns left to count
+-- ---- the rest of a file, with `left` turns left to count
 
-pub record Resting (d d′ : List ℕ) (held n turns : ℕ) : Type 0 where
-  pub passed : ℕ
-  pub came : List ℕ
-  pub parts : Parts d held passed came d′ n
-  pub counted : passed + turns ≡ 18446744073709551615
+abbrev pub Resting : List ℕ → List ℕ → ℕ → ℕ → ℕ → Type 0
+Resting d d′ held n left = Going isLeft Parted (rest d held) (rest d′ n) left
 
-pub resting-start : (d : List ℕ) (held : ℕ) → Resting d d held held 18446744073709551615
-resting-start d held = record { passed = 0; came = []; parts = none; counted = refl }
+rest-right : {d : List ℕ} {held n : ℕ} {came sent : List ℕ} {r : Rest} → Chain isLeft Parted (rest d held) n came sent r → take held d ++ came ≡ sent ++ take (r .count) (r .buffer)
+rest-right {d} {held} stop = append-nil (take held d)
+rest-right {d} {held} (turn {came = came} {new = new} {t = a} c g t) =
+    rw (← append-assoc (take held d) came new, rest-right c, t .comes, t .goes, append-assoc)
 
-pub resting-on : (d e d′ : List ℕ) (held n n′ turns : ℕ) → Resting d e held n turns → 0 < turns → Refilled e d′ 0 n′ → Resting d d′ held n′ (turns - 1)
-resting-on d e d′ held n n′ turns g h r = record { passed = suc (g .passed); came = g .came ++ take n e; parts = part (g .parts) r; counted = omega (arith, g .counted) }
+pub rests-on : (d e d′ : List ℕ) (held n n′ left : ℕ) → Resting d e held n left → 0 < left → 0 < n → Refilled e d′ 0 n′ → Resting d d′ held n′ (left - 1)
+rests-on d e d′ held n n′ left g h o r = one-more g h (lt-ltb 0 n o) (record { refilled = r; comes = refl; goes = refl })
 
-pub rested-early : (d d′ : List ℕ) (held n turns : ℕ) → Resting d d′ held n turns → n ≡ 0 → Rested d d′ held
-rested-early d d′ held n turns g e = record { turns = g .passed; came = g .came; left = n; parts = g .parts; ends = inl e }
-
-pub rested-late : (d d′ : List ℕ) (held n turns : ℕ) → Resting d d′ held n turns → turns ≡ 0 → Rested d d′ held
-rested-late d d′ held n turns g e = record { turns = g .passed; came = g .came; left = n; parts = g .parts; ends = inr (omega (arith, g .counted)) }
+pub rested : (d d′ : List ℕ) (held n : ℕ) → Chained isLeft Parted (rest d held) (rest d′ n) → Rested d d′ held
+rested d d′ held n c = record { left = n; run = c; right = rest-right (c .run) }

@@ -1,12 +1,12 @@
 -- What a piece of a file leaves, and what the whole run does.
-use Prim.Native.Nat.{_<_, _≤_, suc, ℕ}
+use Prim.Native.Nat.{_<_, _≤_, ℕ}
 use mathlib.Core.Path.{_≡_}
-use mathlib.Core.Bool.{Bool, _&&_, false, true}
-use mathlib.Core.List.{List, [], _++_}
-use mathlib.Core.Logic.{_⊎_}
+use mathlib.Core.Bool.{Bool, _&&_, true}
+use mathlib.Core.List.{List, _++_}
 use lib.Dec.{leb, ltb}
 use lib.ListN.{drop, getD, length, take}
 use Rattle.events.specs.Whole.{recordLength, wholeLength}
+use Rattle.pieces.specs.Chain.{Chained}
 use Rattle.pieces.specs.Shift.{Refilled}
 use Rattle.printing.specs.Text.{textOf, wholeText}
 use Rattle.rules.specs.Kinds.{lastKind, longestRecord}
@@ -28,38 +28,53 @@ pub record Pieced (d d′ : List ℕ) (have : ℕ) (r : Left) : Type 0 where
 unfoldable pub goesOn : Left → Bool
 goesOn s = s .sent && s .more
 
--- n pieces, one after the other, from a buffer d and s to d′ and r: the bytes that came with them, and the text that was handed over to be written
-pub data Run (d : List ℕ) (s : Left) : ℕ → List ℕ → List ℕ → List ℕ → Left → Type 0 where
-  stop : Run d s 0 [] [] d s
-  turn : {n : ℕ} {came sent e d′ : List ℕ} {t r : Left} → Run d s n came sent e t → goesOn t ≡ true → (p : Pieced e d′ (t .held) r)
-      → Run d s (suc n) (came ++ drop (t .held) (p .piece)) (sent ++ wholeText (p .piece)) d′ r
+-- what stands between two pieces: the buffer of the file, and what is left
+pub record Between : Type 0 where
+  pub buffer : List ℕ
+  pub left : Left
+
+abbrev pub between : List ℕ → Left → Between
+between d s = record { buffer = d; left = s }
+
+abbrev pub follows : Between → Bool
+follows a = goesOn (a .left)
+
+-- a piece: the bytes that came with it, and the text of its whole records
+pub record Turned (a b : Between) (new out : List ℕ) : Type 0 where
+  pub pieced : Pieced (a .buffer) (b .buffer) (a .left .held) (b .left)
+  pub comes : new ≡ drop (a .left .held) (pieced .piece)
+  pub goes : out ≡ wholeText (pieced .piece)
 
 abbrev pub start : Left
 start = record { held = 0; more = true; sent = true }
 
--- all pieces: they end where none follows (or after as many as a loop counts). Whatever comes behind, f: the text of the file is the one that was handed
--- over, and then that of what is still held, which begins with no whole record. Where that is as long as the longest record, no record can come of it: its
--- kind is unknown
+-- all pieces. Whatever comes behind, f: the text of the file is the one that was handed over, and then that of what is still held, which begins with no whole
+-- record. Where that is as long as the longest record, no record can come of it: its kind is unknown
 pub record Ran (d d′ : List ℕ) (r : Left) : Type 0 where
-  pub turns : ℕ
-  pub came : List ℕ
-  pub sent : List ℕ
-  pub run : Run d start turns came sent d′ r
-  pub ends : (goesOn r ≡ false) ⊎ (turns ≡ 18446744073709551615)
-  pub right : (f : List ℕ) → textOf (came ++ f) ≡ sent ++ textOf (take (r .held) d′ ++ f)
+  pub run : Chained follows Turned (between d start) (between d′ r)
+  pub right : (f : List ℕ) → textOf (run .came ++ f) ≡ run .sent ++ textOf (take (r .held) d′ ++ f)
   pub rests : recordLength (take (r .held) d′) ≡ 0
   pub unknown : longestRecord ≤ length (take (r .held) d′) → lastKind < getD (take (r .held) d′) 0 0
 
--- what is left of a file, part by part: from a buffer d of which the first n bytes count to d′ and n′, and the bytes that were handed over to be written as
--- numbers
-pub data Parts (d : List ℕ) (n : ℕ) : ℕ → List ℕ → List ℕ → ℕ → Type 0 where
-  none : Parts d n 0 [] d n
-  part : {k m n′ : ℕ} {came e d′ : List ℕ} → Parts d n k came e m → Refilled e d′ 0 n′ → Parts d n (suc k) (came ++ take m e) d′ n′
+-- what is left of a file: a buffer of which the first bytes count
+pub record Rest : Type 0 where
+  pub buffer : List ℕ
+  pub count : ℕ
 
--- all parts: until nothing more is read (or as many as a loop counts)
+abbrev pub rest : List ℕ → ℕ → Rest
+rest d n = record { buffer = d; count = n }
+
+abbrev pub isLeft : Rest → Bool
+isLeft a = ltb 0 (a .count)
+
+-- a part of it: the bytes that count are handed over to be written as numbers, and those that are read then count
+pub record Parted (a b : Rest) (new out : List ℕ) : Type 0 where
+  pub refilled : Refilled (a .buffer) (b .buffer) 0 (b .count)
+  pub comes : new ≡ take (b .count) (b .buffer)
+  pub goes : out ≡ take (a .count) (a .buffer)
+
+-- all parts: until nothing more is read. The bytes that were there and those that came are the ones that were handed over, and then those that still count
 pub record Rested (d d′ : List ℕ) (held : ℕ) : Type 0 where
-  pub turns : ℕ
-  pub came : List ℕ
   pub left : ℕ
-  pub parts : Parts d held turns came d′ left
-  pub ends : (left ≡ 0) ⊎ (turns ≡ 18446744073709551615)
+  pub run : Chained isLeft Parted (rest d held) (rest d′ left)
+  pub right : take held d ++ run .came ≡ run .sent ++ take left d′

@@ -1,18 +1,18 @@
 -- The text that is handed over piece by piece is that of the file.
-use Prim.Native.Nat.{_+_, _-_, _<_, suc, ℕ}
+use Prim.Native.Nat.{_+_, _-_, _<_, ℕ}
 use mathlib.Core.Path.{_∙_, _≡_, refl}
 use mathlib.Core.Bool.{false, true}
 use mathlib.Core.List.{List, [], _++_, append-assoc}
-use mathlib.Core.Logic.{inl, inr}
 use lib.Dec.{leb}
 use lib.ListN.{drop, drop-of-length-le, length, replicate, take, take-append-drop}
-use native.Mathlib.Omega.{arith}
 use borrow.Author.Tests.{le-leb}
 use Rattle.rows.specs.Whole.{boardOf, tablesOf}
 use Rattle.rows.specs.declared.Head.{Head}
 use Rattle.rules.specs.Record.{recordsOf}
 use Rattle.rules.specs.Tables.{Board, Zero, fresh, freshTables, startLines}
-use Rattle.trace.specs.Results.{Between, Traces, Turned, Turns, between, pieceText, start, stop, turn}
+use Rattle.pieces.proofs.Chain.{Going, at-start, one-more}
+use Rattle.pieces.specs.Chain.{Chain, Chained, mostTurns, stop, turn}
+use Rattle.trace.specs.Results.{Between, Printed, Traces, Turned, between, follows, start}
 use Rattle.trace.specs.declared.State.{State}
 use Rattle.tracing.proofs.Pieces.{goes-on}
 use Rattle.tracing.specs.Pieces.{dueIn, fitting}
@@ -22,16 +22,17 @@ use Rattle.tracing.specs.Text.{traceText}
 no-more : (b c : Between) (t : Turned b c) (f : List ℕ) → (c .last ≡ true → f ≡ []) → b .last ≡ true → drop (b .held) (t .piece) ++ f ≡ []
 no-more b c t f h e = rw (drop-of-length-le (t .piece) (t .still e), h (t .ends ∙ le-leb (length (t .piece)) (b .held) (t .still e)))
 
-turns-right : {a : Between} {n : ℕ} {came text : List ℕ} {c : Between} → Turns a n came text c → a .held ≡ 0 → (f : List ℕ) → (c .last ≡ true → f ≡ []) → traceText (a .board) (recordsOf (came ++ f)) ≡ text ++ traceText (c .board) (recordsOf (take (c .held) (c .buffer) ++ f))
+turns-right : {a : Between} {n : ℕ} {came sent : List ℕ} {c : Between} → Chain follows Printed a n came sent c → a .held ≡ 0 → (f : List ℕ) → (c .last ≡ true → f ≡ [])
+    → traceText (a .board) (recordsOf (came ++ f)) ≡ sent ++ traceText (c .board) (recordsOf (take (c .held) (c .buffer) ++ f))
 turns-right stop z f h = rw z
-turns-right (turn {n} {came} {text} {b} {c} r m t) z f h =
+turns-right (turn {came = came} {new = new} {t = b} {r = c} r m q) z f h =
+    let t = q .turned in
     let p = t .piece in
     let last = leb (length p) (b .held) in
-    let new = drop (b .held) p in
     let k = fitting (length (b .out)) 0 (b .board) (dueIn last p) in
-    let ih = turns-right r z (new ++ f) (no-more b c t f h) in
-    let joined : take (b .held) (b .buffer) ++ (new ++ f) ≡ p ++ f = rw (← t .begins, ← append-assoc, take-append-drop) in
-    rw (append-assoc came new f, ih, joined, goes-on last (b .board) p f k (λ e. h (t .ends ∙ e)), ← t .ran .stands, ← t .ran .leaves, ← t .left, append-assoc)
+    let ih = turns-right r z (new ++ f) (λ e. rw (q .comes) (no-more b c t f h e)) in
+    let joined : take (b .held) (b .buffer) ++ (new ++ f) ≡ p ++ f = rw (q .comes, ← t .begins, ← append-assoc, take-append-drop) in
+    rw (append-assoc came new f, ih, joined, goes-on last (b .board) p f k (λ e. h (t .ends ∙ e)), ← t .ran .stands, ← t .ran .leaves, ← t .left, q .goes, append-assoc)
 
 -- ---- the board before the first piece
 
@@ -43,23 +44,14 @@ started h e =
 
 -- ---- a run that goes on, with `left` turns left to count
 
-pub record Going (d o : List ℕ) (c : Between) (left : ℕ) : Type 0 where
-  pub turns : ℕ
-  pub came : List ℕ
-  pub text : List ℕ
-  pub run : Turns (start d o) turns came text c
-  pub counted : turns + left ≡ 18446744073709551615
+abbrev pub Running : List ℕ → List ℕ → Between → ℕ → Type 0
+Running d o c left = Going follows Printed (start d o) c left
 
-pub going-start : (d o : List ℕ) (b : Board) (s : State) → b ≡ fresh Zero → s .held ≡ 0 → s .last ≡ false → s .more ≡ true → Going d o (between b d o s) 18446744073709551615
-going-start d o b s e h l m = rw (e, h, l, m) (record { turns = 0; came = []; text = []; run = stop; counted = refl })
+pub started-at : (d o : List ℕ) (b : Board) (s : State) → b ≡ fresh Zero → s .held ≡ 0 → s .last ≡ false → s .more ≡ true → Running d o (between b d o s) mostTurns
+started-at d o b s e h l m = rw (e, h, l, m) at-start
 
-pub going-on : (d o : List ℕ) (b c : Between) (left : ℕ) → Going d o b left → 0 < left → b .more ≡ true → Turned b c → Going d o c (left - 1)
-going-on d o b c left g h m t =
-    record { turns = suc (g .turns); came = g .came ++ drop (b .held) (t .piece); text = g .text ++ pieceText b (t .piece); run = turn (g .run) m t; counted = omega (arith, g .counted) }
+pub turned-on : (d o : List ℕ) (b c : Between) (left : ℕ) → Running d o b left → 0 < left → b .more ≡ true → Turned b c → Running d o c (left - 1)
+turned-on d o b c left g h m t = one-more g h m (record { turned = t; comes = refl; goes = refl })
 
-module _ (d d′ o o′ : List ℕ) (b : Board) (r : State) (left : ℕ) (g : Going d o (between b d′ o′ r) left) where
-  pub traced-early : r .more ≡ false → Traces d d′ o o′ r
-  traced-early e = record { board = b; turns = g .turns; came = g .came; text = g .text; run = g .run; ends = inl e; right = turns-right (g .run) refl }
-
-  pub traced-late : left ≡ 0 → Traces d d′ o o′ r
-  traced-late e = record { board = b; turns = g .turns; came = g .came; text = g .text; run = g .run; ends = inr (omega (arith, g .counted)); right = turns-right (g .run) refl }
+pub traced : (d d′ o o′ : List ℕ) (b : Board) (r : State) → Chained follows Printed (start d o) (between b d′ o′ r) → Traces d d′ o o′ r
+traced d d′ o o′ b r c = record { board = b; run = c; right = turns-right (c .run) refl }

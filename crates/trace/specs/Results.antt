@@ -1,11 +1,11 @@
 -- What a turn of the program does, and what the whole run does.
-use Prim.Native.Nat.{_≤_, suc, ℕ}
+use Prim.Native.Nat.{_≤_, ℕ}
 use mathlib.Core.Path.{_≡_}
 use mathlib.Core.Bool.{Bool, _&&_, _||_, false, not, true}
 use mathlib.Core.List.{List, [], _++_}
-use mathlib.Core.Logic.{_⊎_}
 use lib.Dec.{leb}
 use lib.ListN.{drop, length, take}
+use Rattle.pieces.specs.Chain.{Chained}
 use Rattle.pieces.specs.Shift.{Refilled}
 use Rattle.rules.specs.Record.{recordsOf}
 use Rattle.rules.specs.Tables.{Board, Zero, fresh}
@@ -53,23 +53,23 @@ abbrev pub pieceText : Between → List ℕ → List ℕ
 pieceText a piece =
     traceText (a .board) (take (fitting (length (a .out)) 0 (a .board) (dueIn (leb (length piece) (a .held)) piece)) (dueIn (leb (length piece) (a .held)) piece))
 
--- n turns, one after the other: the bytes that came with them, and the text that was handed over to be printed
-pub data Turns (a : Between) : ℕ → List ℕ → List ℕ → Between → Type 0 where
-  stop : Turns a 0 [] [] a
-  turn : {n : ℕ} {came text : List ℕ} {b c : Between} → Turns a n came text b → b .more ≡ true → (t : Turned b c)
-      → Turns a (suc n) (came ++ drop (b .held) (t .piece)) (text ++ pieceText b (t .piece)) c
+-- a turn: the bytes that came with its piece, and the text that was handed over to be printed
+pub record Printed (a b : Between) (new out : List ℕ) : Type 0 where
+  pub turned : Turned a b
+  pub comes : new ≡ drop (a .held) (turned .piece)
+  pub goes : out ≡ pieceText a (turned .piece)
+
+abbrev pub follows : Between → Bool
+follows a = a .more
 
 -- "a program starts with zero memory"
 abbrev pub start : List ℕ → List ℕ → Between
 start d o = record { board = fresh Zero; buffer = d; out = o; held = 0; last = false; more = true }
 
--- all of the input: turns until none follows (or as many as a loop counts). Whatever comes behind, f, and nothing behind a last piece: the text of the file is
--- the one that was handed over, and then that of what is still held
+-- all of the input. Whatever comes behind, f, and nothing behind a last piece: the text of the file is the one that was handed over, and then that of what is
+-- still held
 pub record Traces (d d′ o o′ : List ℕ) (r : State) : Type 0 where
   pub board : Board
-  pub turns : ℕ
-  pub came : List ℕ
-  pub text : List ℕ
-  pub run : Turns (start d o) turns came text (between board d′ o′ r)
-  pub ends : (r .more ≡ false) ⊎ (turns ≡ 18446744073709551615)
-  pub right : (f : List ℕ) → (r .last ≡ true → f ≡ []) → traceText (fresh Zero) (recordsOf (came ++ f)) ≡ text ++ traceText board (recordsOf (take (r .held) d′ ++ f))
+  pub run : Chained follows Printed (start d o) (between board d′ o′ r)
+  pub right : (f : List ℕ) → (r .last ≡ true → f ≡ [])
+      → traceText (fresh Zero) (recordsOf (run .came ++ f)) ≡ run .sent ++ traceText board (recordsOf (take (r .held) d′ ++ f))

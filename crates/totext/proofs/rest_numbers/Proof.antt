@@ -2,7 +2,9 @@ use mathlib.Core.Path.{_∙_, _≡_, refl}
 use mathlib.Core.Bool.{false≢true}
 use lib.ListN.{length}
 use native.Mathlib.Omega.{arith}
-use Rattle.totext.proofs.Chain.{Resting, rested-early, rested-late, resting-on, resting-start}
+use borrow.Author.Tests.{le-ltb}
+use Rattle.pieces.proofs.Chain.{all-counted, at-start, none-follows}
+use Rattle.totext.proofs.Chain.{Resting, rested, rests-on}
 use borrow.Author.Needs.{needs}
 use Rattle.totext.proofs.rest_numbers.Statement.{statement}
 use Rattle.totext.proofs.rest_numbers.Tie as tie
@@ -14,7 +16,7 @@ abbrev μ-loop : tie.MeasureT-loop
 μ-loop file₀ held out₀ n₀ turns₀ file out n turns = turns
 
 loop-holds : tie.Need-loop-holds Inv-loop μ-loop
-loop-holds c = let s = c .before .before in (refl, (refl, resting-start (s .args .file .now) (s .args .held)))
+loop-holds c = (refl, (refl, at-start))
 
 same-length : tie.Need-same-length Inv-loop μ-loop
 same-length c = search needs
@@ -23,7 +25,7 @@ same-length-2 : tie.Need-same-length-2 Inv-loop μ-loop
 same-length-2 c = search needs
 
 returns : tie.Need-returns Inv-loop μ-loop
-returns c = let a = c .before .before in let l = a .loop in let s = a .before .before .before in λ e. rested-early (s .args .file .now) (l .file) (s .args .held) (l .n) (l .turns) (l .inv .1 .1) (c .if1 .taken)
+returns c = let a = c .before .before in let l = a .loop in let s = a .before .before .before in λ e. rested (s .args .file .now) (l .file) (s .args .held) (l .n) (none-follows (l .inv .1 .1) (le-ltb 0 (l .n) (omega (arith, c .if1 .taken))))
 
 numbers-requires : tie.Need-numbers-requires Inv-loop μ-loop
 numbers-requires c κs = search needs
@@ -47,7 +49,7 @@ loop-less : tie.Need-loop-less Inv-loop μ-loop
 loop-less c = search needs
 
 loop-again : tie.Need-loop-again Inv-loop μ-loop
-loop-again c = let r = c .before .before in let n = r .before .before .before .before .before in let i = n .before .before .before .before in let l = i .before .loop in let s = i .before .before .before .before in (r .refill .kept .0 ∙ l .inv .0, (n .numbers .kept .1 .1 .0 ∙ l .inv .1 .0, resting-on (s .args .file .now) (l .file) (r .refill .last .0) (s .args .held) (l .n) (r .refill .result) (l .turns) (l .inv .1 .1) (i .loop-test .taken) (r .refill .ensures)))
+loop-again c = let r = c .before .before in let n = r .before .before .before .before .before in let i = n .before .before .before .before in let l = i .before .loop in let s = i .before .before .before .before in (r .refill .kept .0 ∙ l .inv .0, (n .numbers .kept .1 .1 .0 ∙ l .inv .1 .0, rests-on (s .args .file .now) (l .file) (r .refill .last .0) (s .args .held) (l .n) (r .refill .result) (l .turns) (l .inv .1 .1) (i .loop-test .taken) (omega (arith, n .before .before .before .if1 .left)) (r .refill .ensures)))
 
 same-length-5 : tie.Need-same-length-5 Inv-loop μ-loop
 same-length-5 c = search needs
@@ -56,7 +58,7 @@ same-length-6 : tie.Need-same-length-6 Inv-loop μ-loop
 same-length-6 c = search needs
 
 returns-3 : tie.Need-returns-3 Inv-loop μ-loop
-returns-3 c = let a = c .before in let l = a .loop in let s = a .before .before .before in λ e. rested-late (s .args .file .now) (l .file) (s .args .held) (l .n) (l .turns) (l .inv .1 .1) (omega arith)
+returns-3 c = let a = c .before in let l = a .loop in let s = a .before .before .before in λ e. rested (s .args .file .now) (l .file) (s .args .held) (l .n) (all-counted (l .inv .1 .1) (omega arith))
 
 pub rest-numbers-spec : {M : Type 1} → statement M
 rest-numbers-spec =
