@@ -23,7 +23,7 @@ ghost use Rattle.access.specs.Parts.{OnLog, OnRead, OnWrite};
 fn log_entry(threads: &mut Threads, t: u8, k: u32, l: u8) -> usize
     ensures { λ r. ⌜ Logs r k l t threads ⌝ }
 {
-    rows::threads8(threads);
+    rows::threads_length(threads);
     let ti = t as usize;
     if MOST_THREADS <= ti {
         return 0;
@@ -54,7 +54,7 @@ fn log_line(
     let i = log_entry(threads, t, k, l);
     owner[li] = k;
     lock[li] = true;
-    rows::lines256(old);
+    rows::memory_length(old);
     let at = MOST_ENTRIES * (t as usize) + i;
     if at < MOST_LINES {
         let before = lines::line_of(cur, l);

@@ -7,7 +7,10 @@ use lib.Dec.{eqb, ltb}
 use lib.ListN.{getD, length, length-map, replicate, set}
 use native.Mathlib.Omega.{arith}
 use borrow.Author.Tests.{eq-eqb, eqb-false, eqb-true, le-ltb, lt-ltb, ne-eqb}
-use Rattle.undo.proofs.Laws.{or-right, test}
+use Rattle.lookup.proofs.Map.{map-end, map-more, mapped}
+use Rattle.rows.proofs.Laws.{got, map-set}
+use Rattle.rows.specs.Row.{regionNumbers, regionOf, regionsOf, slotOf, word}
+use Rattle.rules.proofs.Lists.{or-none}
 use Rattle.rules.proofs.Places.{eqb-swap}
 use Rattle.rules.specs.Commit.{afterCommit, commits, doneRegion, withoutDep}
 use Rattle.rules.specs.Lists.{all}
@@ -15,10 +18,7 @@ use Rattle.rules.specs.Slots.{hasSlot, isEmpty}
 use Rattle.rules.specs.Tables.{noRegion, withDone}
 use Rattle.rules.specs.declared.Region.{Region}
 use Rattle.rules.specs.declared.Slot.{Slot}
-use Rattle.lookup.proofs.Map.{map-end, map-more, mapped}
-use Rattle.rows.proofs.Laws.{got, map-set}
-use Rattle.rules.proofs.Lists.{or-none}
-use Rattle.rows.specs.Row.{regionOf, regionsOf, slotOf, word}
+use Rattle.undo.proofs.Laws.{or-right, test}
 use Rattle.commits.specs.Ripe.{ripe}
 
 -- ---- slots
@@ -75,7 +75,7 @@ done-slot r e = sym (done-same r (test (r .ended) (λ f. rw (f, e) (or-none (r .
 
 -- ---- a commit: nothing is left of the committed region, of another all but its dependence on that one
 
-pub after-gone : (k : ℕ) (w : List ℕ) → word w 0 ≡ k → regionOf (replicate 16 0) ≡ afterCommit k (regionOf w)
+pub after-gone : (k : ℕ) (w : List ℕ) → word w 0 ≡ k → regionOf (replicate regionNumbers 0) ≡ afterCommit k (regionOf w)
 unfolding afterCommit regionOf
 after-gone k w e = rw (eq-eqb (word w 0) k e)
 

@@ -72,7 +72,7 @@ fn is_ripe(row: &RegionRow) -> bool
 fn become_done(row: &mut RegionRow)
     ensures { λ _. ⌜ regionOf (left row) ≡ doneRegion (regionOf (was row)) ⌝ }
 {
-    rows::words16(row);
+    rows::region_length(row);
     if row[1] == 1 {
         if !has_slot(row) {
             row[2] = 1;
@@ -91,7 +91,7 @@ fn without_dep(key: u32, d: u32) -> u32
 fn after_commit(row: &mut RegionRow, key: u32)
     ensures { λ _. ⌜ regionOf (left row) ≡ afterCommit key (regionOf (was row)) ⌝ }
 {
-    rows::words16(row);
+    rows::region_length(row);
     if row[0] == key {
         *row = [0; 16];
         return;
@@ -108,7 +108,7 @@ fn after_commit(row: &mut RegionRow, key: u32)
 fn has_ripe(regions: &Regions) -> bool
     ensures { λ r. ⌜ r ≡ any ripe (regionsOf (was regions)) ⌝ }
 {
-    rows::rows32(regions);
+    rows::regions_length(regions);
     let mut i: usize = 0;
     while i < MOST_REGIONS {
         if is_ripe(&regions[i]) {
@@ -123,7 +123,7 @@ fn has_ripe(regions: &Regions) -> bool
 fn done_all(regions: &mut Regions)
     ensures { λ _. ⌜ regionsOf (left regions) ≡ map doneRegion (regionsOf (was regions)) ⌝ }
 {
-    rows::rows32(regions);
+    rows::regions_length(regions);
     let mut i: usize = 0;
     while i < MOST_REGIONS {
         become_done(&mut regions[i]);
@@ -135,7 +135,7 @@ fn done_all(regions: &mut Regions)
 fn without_region(regions: &mut Regions, key: u32)
     ensures { λ _. ⌜ regionsOf (left regions) ≡ map (afterCommit key) (regionsOf (was regions)) ⌝ }
 {
-    rows::rows32(regions);
+    rows::regions_length(regions);
     let mut i: usize = 0;
     while i < MOST_REGIONS {
         after_commit(&mut regions[i], key);
@@ -149,7 +149,7 @@ fn without_region(regions: &mut Regions, key: u32)
 fn commits_at(regions: &Regions, i: usize) -> bool
     ensures { λ r. ⌜ r ≡ commits (regionHeld (was regions) i) ⌝ }
 {
-    rows::rows32(regions);
+    rows::regions_length(regions);
     if i < MOST_REGIONS {
         can_commit(&regions[i])
     } else {
@@ -161,7 +161,7 @@ fn commits_at(regions: &Regions, i: usize) -> bool
 fn stamp_at(regions: &Regions, i: usize) -> u32
     ensures { λ r. ⌜ r ≡ regionHeld (was regions) i .stamp ⌝ }
 {
-    rows::rows32(regions);
+    rows::regions_length(regions);
     if i < MOST_REGIONS { regions[i][3] } else { 0 }
 }
 
@@ -186,7 +186,7 @@ fn earlier_of(regions: &Regions, best: usize, i: usize) -> usize
 fn next_commit(regions: &Regions) -> usize
     ensures { λ r. ⌜ regionHeld (was regions) r ≡ earliest (regionsOf (was regions)) ⌝ }
 {
-    rows::rows32(regions);
+    rows::regions_length(regions);
     let mut best: usize = MOST_REGIONS;
     let mut i: usize = 0;
     while i < MOST_REGIONS {
@@ -200,7 +200,7 @@ fn next_commit(regions: &Regions) -> usize
 fn commit_region(threads: &mut Threads, regions: &mut Regions, key: u32)
     ensures { λ _. ⌜ OnTables (commit key) threads regions ⌝ }
 {
-    rows::threads8(threads);
+    rows::threads_length(threads);
     without_region(regions, key);
     let i = (key / NUMBERS) as usize;
     if i < MOST_THREADS {
@@ -216,7 +216,7 @@ pub fn settle(threads: &mut Threads, regions: &mut Regions) -> u64
     if !has_ripe(regions) {
         return 0;
     }
-    rows::rows32(regions);
+    rows::regions_length(regions);
     done_all(regions);
     let mut n: u64 = 0;
     while n < MOST_REGIONS as u64 {

@@ -1,19 +1,18 @@
 -- The bytes of a file are those of its records; what an accepted and a refused save give; what is then true of a drill.
 use Prim.Native.Nat.{_+_, _<_, _≤_, suc, ℕ}
-use mathlib.Core.Path.{_∙_, _≡_, ap, refl, sym}
-use mathlib.Core.Logic.{_≢_}
 use mathlib.Core.Bool.{_&&_, true}
 use mathlib.Core.List.{List, _++_}
+use mathlib.Core.Logic.{_≢_}
+use mathlib.Core.Path.{_∙_, _≡_, ap, refl, sym}
 use lib.Dec.{leb}
 use lib.ListN.{drop, drop-of-length-le, getD, length, length-append, length-take, take}
-use native.Mathlib.Omega.{arith}
-use borrow.Author.Tests.{eq-eqb, ne-eqb}
 use lib.Seq.{drop-append-seam, drop-cons, take-append-seam}
 use native.Mathlib.Nat.{zero-add}
-use Rattle.drill.specs.Drilled.{Drilled, Step, actOf, actsOf, ended, lastStep, stepOf, stepped}
+use native.Mathlib.Omega.{arith}
+use borrow.Author.Tests.{eq-eqb, ne-eqb}
 use Rattle.rules.proofs.Cuts.{cut-is}
-use Rattle.rules.proofs.Main.{recovery-is-right}
 use Rattle.rules.proofs.Laws.{records-bytes}
+use Rattle.rules.proofs.Main.{recovery-is-right}
 use Rattle.rules.specs.Bytes.{paste}
 use Rattle.rules.specs.Claim.{Holds, boardAfter, isByte}
 use Rattle.rules.specs.History.{memoryFound}
@@ -26,6 +25,7 @@ use Rattle.rules.specs.Run.{Wrote, wroteInto}
 use Rattle.rules.specs.Tables.{Board, Lent}
 use Rattle.rules.specs.declared.Answer.{Answer}
 use Rattle.undo.proofs.Laws.{and-true, test}
+use Rattle.drill.specs.Drilled.{Drilled, Step, actOf, actsOf, ended, lastStep, stepOf, stepped}
 
 -- ---- acts one by one
 

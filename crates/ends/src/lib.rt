@@ -105,7 +105,7 @@ fn drop_at(regions: &mut Regions, i: usize, k: u32, l: u8)
 fn drop_flights(regions: &mut Regions, k: u32, l: u8)
     ensures { λ _. ⌜ regionsOf (left regions) ≡ map (dropped k l) (regionsOf (was regions)) ⌝ }
 {
-    rows::rows32(regions);
+    rows::regions_length(regions);
     let mut i: usize = 0;
     while i < MOST_REGIONS {
         drop_at(regions, i, k, l);

@@ -1,16 +1,16 @@
 -- What is lent to the functions of an event: a rule on it, whatever the rest of the board is.
 -- Of the board that is left, g tells what f tells of the board that was lent: g is the board and an answer.
 use Prim.Native.Nat.{_<_, ℕ}
-use mathlib.Core.Path.{_≡_}
 use mathlib.Core.Bool.{Bool, _&&_, false}
 use mathlib.Core.List.{List}
+use mathlib.Core.Path.{_≡_}
 use lib.Dec.{eqb, leb}
 use Rattle.measures.specs.Loan.{Loan, Rows, left, was}
-use Rattle.rules.specs.Tables.{Board}
-use Rattle.rules.specs.declared.Thread.{Thread}
 use Rattle.rows.specs.Whole.{boardLeft, boardOf, boardWas}
 use Rattle.rows.specs.declared.Head.{Head}
 use Rattle.rules.specs.Measures.{mostDepth, mostNumber}
+use Rattle.rules.specs.Tables.{Board}
+use Rattle.rules.specs.declared.Thread.{Thread}
 
 module _ {X : Type 0} (g f : Board → X) where
   -- the whole board, from the numbers h to the numbers r

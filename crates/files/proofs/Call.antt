@@ -2,8 +2,7 @@
 use Prim.Native.Nat.{_*_, _/_, _<_, _≤_, ℕ}
 use mathlib.Core.Path.{_∙_, _≡_, ap}
 use mathlib.Core.List.{List}
-use mathlib.Core.Bool.{Bool, false}
-use lib.ListN.{length, replicate}
+use lib.ListN.{length}
 use native.Mathlib.Omega.{arith}
 use borrow.Author.Tests.{le-leb, lt-leb}
 use lib.Seq.{sets}
@@ -12,9 +11,7 @@ use Rattle.lines.proofs.Paste.{sets-paste}
 use Rattle.rules.specs.Record.{recordsOf}
 use Rattle.rules.specs.Run.{Wrote, answersBytes, eventsCall, runFile, wroteInto}
 use Rattle.rules.specs.Image.{imageCall, save}
-use Rattle.rules.specs.Tables.{Board, Lent, fresh, freshTables, startLines}
-use Rattle.rows.specs.Whole.{boardOf, tablesOf}
-use Rattle.rows.specs.declared.Head.{Head}
+use Rattle.rules.specs.Tables.{Board, Lent, fresh}
 use Rattle.files.specs.Parts.{walked}
 use Rattle.files.proofs.Walked.{walked-all}
 
@@ -38,16 +35,6 @@ module _ (file memory d : List ℕ) where
   unfolding eventsCall wroteInto
   call-accepted h =
       rw (le-leb (length (answersBytes (runFile (Lent memory) file .answers))) (length d) (omega (arith, long)), sets-paste d 0 (answersBytes (runFile (Lent memory) file .answers)) (omega (arith, long)), count)
-
--- rows of zeros over lent memory are the board before setup
-pub started : (m : List ℕ) (h : Head) (threads regions : List (List ℕ)) (owner : List ℕ) (lock : List Bool) (cur med : List (List ℕ))
-    → tablesOf h threads regions owner lock ≡ freshTables false (length m)
-    → cur ≡ startLines (Lent m)
-    → med ≡ startLines (Lent m)
-    → boardOf h threads regions owner lock cur med (replicate 256 (replicate 8 0)) (replicate 256 (replicate 8 0)) ≡ fresh (Lent m)
-unfolding fresh
-started m h threads regions owner lock cur med e f g =
-    λ i. record { tables = e i; cur = f i; med = g i; old = replicate 256 (replicate 8 0); car = replicate 256 (replicate 8 0) }
 
 -- what the run of all records leaves
 module _ (file memory : List ℕ) (n : ℕ) (b : Board) (en : n ≡ length (recordsOf file)) (eb : b ≡ fresh (Lent memory)) where

@@ -1,28 +1,24 @@
 -- The calls of a bench go in step with the recovery of demand 3: the eight bytes hold its place, which is never above 256.
-use Rattle.undo.specs.Machine as u
-use Rattle.undo.specs.History as v
-use Rattle.undo.specs.Claim.{Reach}
 use Prim.Native.Nat.{_*_, _+_, _-_, _≤_, max, suc, zero, ℕ}
-use mathlib.Core.Path.{_∙_, _≡_, ap, refl, subst, sym}
 use mathlib.Core.Bool.{Bool, _&&_, false, true}
 use mathlib.Core.List.{List, [], _∷_}
+use mathlib.Core.Path.{_∙_, _≡_, ap, refl, subst, sym}
 use lib.Dec.{eqb, leb, ltb}
 use lib.ListN.{drop, length, length-drop, replicate, take}
 use lib.Seq.{take-append-seam}
 use native.Mathlib.Omega.{arith}
 use borrow.Author.Tests.{eqb-false, le-ltb, lt-ltb, ltb-false, ltb-true}
-use Rattle.laws.specs.Bench.{Bench, BenchHolds, BenchRecovers, benchAct, benchActs, lentImage, nextCall}
 use Rattle.rules.proofs.Codec.Bytes.{isLine, length-bytes, num-bytes}
 use Rattle.rules.proofs.Codec.Turns.{size-threads}
 use Rattle.rules.proofs.Codec.Valid.{Valid, fitsEntry}
 use Rattle.rules.proofs.Cuts.{cut-is}
+use Rattle.rules.proofs.Laws.{records-bytes}
+use Rattle.rules.proofs.Main.{recovery-is-right}
 use Rattle.rules.proofs.Recover.Sound.{sound}
 use Rattle.rules.proofs.Recover.Steps.{Standing, acts-stand, cut-stands, start-stands, step-reads, step-stands, walked-length}
 use Rattle.rules.proofs.Recover.Valid.{saved-valid}
-use Rattle.rules.proofs.Main.{recovery-is-right}
-use Rattle.rules.proofs.Sim.State.{Sim, Simulated, by}
 use Rattle.rules.proofs.Sim.All.{every}
-use Rattle.rules.proofs.Laws.{records-bytes}
+use Rattle.rules.proofs.Sim.State.{Sim, Simulated, by}
 use Rattle.rules.specs.Bytes.{bytesOf, numOf}
 use Rattle.rules.specs.Claim.{Holds, entriesIn, boardAfter, isByte, isByteMemory, passLength, recovering, restores}
 use Rattle.rules.specs.Contradiction.{contradicts}
@@ -37,6 +33,10 @@ use Rattle.rules.specs.Run.{Wrote, wroteInto}
 use Rattle.rules.specs.Tables.{Board, Lent, Memory, threadOf}
 use Rattle.rules.specs.Walk.{walkEntries}
 use Rattle.undo.proofs.Laws.{and-true, test}
+use Rattle.undo.specs.Claim.{Reach}
+use Rattle.undo.specs.History as v
+use Rattle.undo.specs.Machine as u
+use Rattle.laws.specs.Bench.{Bench, BenchHolds, BenchRecovers, benchAct, benchActs, lentImage, nextCall}
 
 -- ---- a log has at most 256 entries
 

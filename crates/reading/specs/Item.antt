@@ -13,8 +13,8 @@ use Rattle.rules.specs.Refusal.{inRange}
 use Rattle.rules.specs.Tables.{threadOf}
 use Rattle.rules.specs.declared.Listed.{Listed}
 use Rattle.rules.specs.declared.Mark.{Mark}
-use Rattle.reading.specs.declared.Item.{Item}
 use Rattle.reading.specs.declared.Item.the-variants.{End, Entry, Head, Line, Refused, Region}
+use Rattle.reading.specs.declared.Item.{Item}
 use Rattle.reading.specs.declared.Scan.{Scan}
 use Rattle.reading.specs.declared.Tally.{Tally}
 

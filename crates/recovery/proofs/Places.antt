@@ -1,13 +1,13 @@
 -- Records of one length, one behind the other, and the lines of an image that is accepted.
 use Prim.Native.Nat.{_*_, _+_, _<_, _≤_, suc, zero, ℕ}
-use mathlib.Core.Path.{_≡_, refl}
 use mathlib.Core.Bool.{Bool, _&&_, true}
 use mathlib.Core.List.{List, [], _++_, _∷_, append-assoc}
+use mathlib.Core.Path.{_≡_, refl}
 use lib.Dec.{eqb, ltb}
 use lib.ListN.{drop, getD, length, length-append}
+use lib.Seq.{drop-append-add}
 use native.Mathlib.Omega.{arith}
 use borrow.Author.Tests.{eqb-true, lt-ltb, ltb-true}
-use lib.Seq.{drop-append-add}
 use Rattle.rules.proofs.Codec.Bytes.{all-at, isLine}
 use Rattle.rules.proofs.Codec.Store.{length-head, length-line}
 use Rattle.rules.proofs.Codec.Turns.{entry-long, region-long, size-lines}

@@ -78,7 +78,7 @@ fn no_such_line(h: Head, l: u8) -> bool
 fn last_writer(regions: &Regions, o: u32, k: u32) -> Writer
     ensures { λ r. ⌜ r ≡ writerOf o k (regionsOf (was regions)) ⌝ }
 {
-    rows::rows32(regions);
+    rows::regions_length(regions);
     let none = Writer {
         key: 0,
         ended: true,
@@ -118,7 +118,7 @@ fn waits(logs: bool, locked: bool) -> bool
 fn has_free(row: &ThreadRow) -> bool
     ensures { λ r. ⌜ r ≡ any (isOf 0) (threadOf (was row) .log) ⌝ }
 {
-    rows::words34(row);
+    rows::thread_length(row);
     rows::free_entry(row) < MOST_ENTRIES
 }
 
@@ -126,7 +126,7 @@ fn has_free(row: &ThreadRow) -> bool
 fn lacks_entry(threads: &Threads, t: u8, logs: bool) -> bool
     ensures { λ r. ⌜ r ≡ (logs && not (any (isOf 0) (threadHeld (was threads) t .log))) ⌝ }
 {
-    rows::threads8(threads);
+    rows::threads_length(threads);
     if !logs {
         return false;
     }
@@ -328,7 +328,7 @@ fn data_ack_refusal(h: Head, regions: &Regions, l: u8) -> u8
     if c != 0 {
         return c;
     }
-    rows::rows32(regions);
+    rows::regions_length(regions);
     let place = tables::flight_place(regions, l);
     if place < MOST_REGIONS { 0 } else { 22 }
 }

@@ -1,32 +1,32 @@
 -- Rows: one read and one store at an index, and a row's lists element by element.
 use Prim.Native.Nat.{_%_, _*_, _+_, _/_, _<_, _≤_, suc, zero, ℕ}
-use mathlib.Core.Path.{_∙_, _≡_, refl, sym, ap}
-use mathlib.Core.List.{List, [], _∷_, map}
 use mathlib.Core.Bool.{Bool, _&&_, _||_, cond, false, not, true}
+use mathlib.Core.List.{List, [], _∷_, map}
+use mathlib.Core.Path.{_∙_, _≡_, refl, sym, ap}
 use lib.Arith.{digits-div, digits-mod}
 use lib.Dec.{eqb, ltb}
 use lib.ListN.{List·getD-eq-default, List·getD-map, drop, getD, length, length-drop, length-map, length-set, length-take, set, take}
 use lib.Seq.{drop-set-add, getD-drop, getD-set-other, getD-set-same, getD-take, take-set-le, take-set-lt, set-out}
-use native.Mathlib.Omega.{arith}
 use native.Mathlib.Nat.{mod-eq-of-lt}
+use native.Mathlib.Omega.{arith}
 use borrow.Author.Tests.{eq-eqb, eqb-false, eqb-true, ltb-false, ltb-true, ne-eqb}
-use Rattle.undo.proofs.Laws.{test}
+use Rattle.lookup.proofs.Map.{map-end, map-more, mapped}
 use Rattle.rules.proofs.Lists.{or-none, place-lt}
 use Rattle.rules.specs.Access.{isHad, isOf}
 use Rattle.rules.specs.Lists.{place}
-use Rattle.undo.specs.Table.{any}
-use Rattle.lookup.proofs.Map.{map-end, map-more, mapped}
 use Rattle.rules.specs.Refusal.{noRoomForDep}
 use Rattle.rules.specs.Slots.{carries, isEmpty, isFull, names, orAt, slotFor, slotFrom}
 use Rattle.rules.specs.Tables.{noEntry, noRegion, noSlot, noThread, withDepth, withLast, withLog, withSlots}
 use Rattle.rules.specs.declared.Entry.{Entry}
-use Rattle.rules.specs.declared.Found.{Found}
 use Rattle.rules.specs.declared.Found.the-variants.{At, Full}
-use Rattle.rules.specs.declared.Thread.{Thread}
+use Rattle.rules.specs.declared.Found.{Found}
 use Rattle.rules.specs.declared.Region.{Region}
 use Rattle.rules.specs.declared.Slot.{Slot}
 use Rattle.rules.specs.declared.SlotState.the-variants.{Waiting}
-use Rattle.rows.specs.Row.{entryOf, logOf, regionOf, regionsOf, slotOf, stateOf, suits, threadOf, threadsOf, word}
+use Rattle.rules.specs.declared.Thread.{Thread}
+use Rattle.undo.proofs.Laws.{test}
+use Rattle.undo.specs.Table.{any}
+use Rattle.rows.specs.Row.{entryOf, logOf, regionNumbers, regionOf, regionsOf, slotOf, stateOf, suits, threadNumbers, threadOf, threadsOf, word}
 
 -- ---- a list of rows
 
@@ -159,7 +159,7 @@ entry-back p r l k hr hl hk =
 pub log-set : (w : List ℕ) (i x : ℕ) → i < 32 → logOf (set w i x) ≡ set (logOf w) i (entryOf x)
 log-set w i x h = rw (take-set-lt 32 w i x h, map-set entryOf)
 
-pub log-length : (w : List ℕ) → length w ≡ 34 → length (logOf w) ≡ 32
+pub log-length : (w : List ℕ) → length w ≡ threadNumbers → length (logOf w) ≡ 32
 log-length w h = length-map (take 32 w) entryOf ∙ rw (length-take) (omega arith)
 
 pub no-entry : entryOf 0 ≡ noEntry
@@ -175,7 +175,7 @@ unfolding threadOf
 entry-stored w i x h =
     rw (log-set w i x h, getD-set-other w i 32 x 0 (λ e. omega arith), getD-set-other w i 33 x 0 (λ e. omega arith))
 
-pub place-stored : (w : List ℕ) (d n : ℕ) → length w ≡ 34 → d < 256 → n < 65536
+pub place-stored : (w : List ℕ) (d n : ℕ) → length w ≡ threadNumbers → d < 256 → n < 65536
     → _≡_ {A = Thread} (threadOf (set (set w 32 d) 33 n)) (withDepth d (withLast n (threadOf w)))
 unfolding threadOf
 place-stored w d n h hd hn =
@@ -194,7 +194,7 @@ abbrev pub worked : (Entry → Entry) → ℕ → List ℕ → Thread
 worked f i w = withLog (mapped f i (threadOf w .log)) (threadOf w)
 
 module _ (f : Entry → Entry) (w : List ℕ) (i : ℕ) where
-  pub worked-more : (x : ℕ) → i < 32 → length w ≡ 34 → entryOf x ≡ f (entryOf (word w i)) → worked f (i + 1) (set w i x) ≡ worked f i w
+  pub worked-more : (x : ℕ) → i < 32 → length w ≡ threadNumbers → entryOf x ≡ f (entryOf (word w i)) → worked f (i + 1) (set w i x) ≡ worked f i w
   unfolding threadOf
   worked-more x h n e =
       rw (
@@ -206,7 +206,7 @@ module _ (f : Entry → Entry) (w : List ℕ) (i : ℕ) where
         ← map-more f i (logOf w) noEntry (rw (log-length w n) h),
       )
 
-  pub worked-end : 32 ≤ i → length w ≡ 34 → worked f i w ≡ threadOf w
+  pub worked-end : 32 ≤ i → length w ≡ threadNumbers → worked f i w ≡ threadOf w
   unfolding threadOf
   worked-end h n = rw (map-end f i (logOf w) (rw (log-length w n) h))
 
@@ -271,7 +271,7 @@ pub free-room : (d : ℕ) → noRoomForDep d (noRegion .deps) ≡ false
 free-room d = test (isHad d (noRegion .deps)) (λ e. rw e) (λ e. rw e)
 
 -- the slots of a row are its last eight numbers
-pub slots-row : (w : List ℕ) → length w ≡ 16 → regionOf w .slots ≡ map slotOf (drop 8 w)
+pub slots-row : (w : List ℕ) → length w ≡ regionNumbers → regionOf w .slots ≡ map slotOf (drop 8 w)
 unfolding regionOf
 slots-row w h = ap (map slotOf) (simp getD-drop at (eight 0 (drop 8 w) (rw (length-drop) (omega arith))))
 
@@ -279,7 +279,7 @@ pub slots-length : (w : List ℕ) → length (regionOf w .slots) ≡ 8
 unfolding regionOf
 slots-length w = refl
 
-pub slot-at : (w : List ℕ) (i : ℕ) → length w ≡ 16 → getD (regionOf w .slots) i noSlot ≡ slotOf (word w (8 + i))
+pub slot-at : (w : List ℕ) (i : ℕ) → length w ≡ regionNumbers → getD (regionOf w .slots) i noSlot ≡ slotOf (word w (8 + i))
 slot-at w i h = rw (slots-row w h) (List·getD-map slotOf (drop 8 w) i 0 ∙ ap slotOf (getD-drop 8 w i 0))
 
 -- one slot emptied is one number of the row
@@ -300,7 +300,7 @@ slots-stored w j x =
       other-word w j 7 x (omega arith),
     )
 
-pub emptied : (w : List ℕ) (j : ℕ) → length w ≡ 16 → regionOf (set w (8 + j) 0) ≡ withSlots (set (regionOf w .slots) j noSlot) (regionOf w)
+pub emptied : (w : List ℕ) (j : ℕ) → length w ≡ regionNumbers → regionOf (set w (8 + j) 0) ≡ withSlots (set (regionOf w .slots) j noSlot) (regionOf w)
 emptied w j h =
     slots-stored w j 0
     ∙ ap (λ ss. withSlots ss (regionOf w))

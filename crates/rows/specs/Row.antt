@@ -1,18 +1,25 @@
--- A region as a row of 16 numbers: key, ended, done, stamp, four dependences, eight slots. A thread as a row of 34: 32 log entries, depth, last number.
--- Every row is a region, and every row a thread.
-use Prim.Native.Nat.{_%_, _/_, ℕ}
+-- A region as a row of numbers: key, ended, done, stamp, four dependences, eight slots. A thread as a row: 32 log entries, depth, last number. Every row is a
+-- region, and every row a thread.
+use Prim.Native.Nat.{_%_, _+_, _/_, ℕ}
 use mathlib.Core.Bool.{Bool, _||_, cond}
 use mathlib.Core.List.{List, [], _∷_, map}
 use lib.Dec.{eqb}
 use lib.ListN.{getD, take}
+use Rattle.rules.specs.Measures.{mostEntries, mostSlots}
 use Rattle.rules.specs.Slots.{isEmpty, names}
 use Rattle.rules.specs.declared.Entry.{Entry}
 use Rattle.rules.specs.declared.Region.{Region}
 use Rattle.rules.specs.declared.Slot.{Slot}
-use Rattle.rules.specs.declared.SlotState.{SlotState}
 use Rattle.rules.specs.declared.SlotState.the-variants.{Empty, InFlight, Waiting}
+use Rattle.rules.specs.declared.SlotState.{SlotState}
 use Rattle.rules.specs.declared.Thread.{Thread}
-use Rattle.rules.specs.Measures.{mostEntries}
+
+-- how many numbers a region has, and a thread
+abbrev pub regionNumbers : ℕ
+regionNumbers = 8 + mostSlots
+
+abbrev pub threadNumbers : ℕ
+threadNumbers = mostEntries + 2
 
 abbrev pub word : List ℕ → ℕ → ℕ
 word w i = getD w i 0

@@ -23,6 +23,7 @@ ghost use lib.Dec.{eqb};
 ghost use lib.ListN.{length, set};
 ghost use Rattle.undo.specs.Table.{any};
 ghost use Rattle.rules.specs.Lists.{count, place};
+ghost use Rattle.rules.specs.Measures.{mostLines, mostRegions, mostThreads};
 ghost use Rattle.rules.specs.Slots.{carries, isFull, slotFor};
 ghost use Rattle.rules.specs.Access.{isOf};
 ghost use Rattle.rules.specs.Acknowledge.{kept, keptEntry, landed};
@@ -30,7 +31,7 @@ ghost use Rattle.rules.specs.Commit.{freed, freedEntry};
 ghost use Rattle.rules.specs.Refusal.{noRoomForDep};
 ghost use Rattle.rules.specs.Tables.{noEntry, noRegion, withDepth, withLast, withLog};
 ghost use Rattle.measures.specs.Loan.{left, was};
-ghost use Rattle.rows.specs.Row.{entryOf, regionOf, slotOf, stateOf, suits, threadOf};
+ghost use Rattle.rows.specs.Row.{entryOf, regionNumbers, regionOf, slotOf, stateOf, suits, threadNumbers, threadOf};
 
 // The few numbers beside the lists.
 pub struct Head {
@@ -47,9 +48,9 @@ fn count_rows(s: &[RegionRow]) -> usize
     s.len()
 }
 
-// There are 32 regions.
-pub fn rows32(regions: &Regions)
-    ensures { λ _. ⌜ length (was regions) ≡ 32 ⌝ }
+// The list has a row for each region.
+pub fn regions_length(regions: &Regions)
+    ensures { λ _. ⌜ length (was regions) ≡ mostRegions ⌝ }
 {
     count_rows(regions);
 }
@@ -60,9 +61,9 @@ fn count_row(s: &[u32]) -> usize
     s.len()
 }
 
-// A region has 16 numbers.
-pub fn words16(row: &RegionRow)
-    ensures { λ _. ⌜ length (was row) ≡ 16 ⌝ }
+// A region has its numbers.
+pub fn region_length(row: &RegionRow)
+    ensures { λ _. ⌜ length (was row) ≡ regionNumbers ⌝ }
 {
     count_row(row);
 }
@@ -73,9 +74,9 @@ fn count_threads(s: &[ThreadRow]) -> usize
     s.len()
 }
 
-// There are eight threads.
-pub fn threads8(threads: &Threads)
-    ensures { λ _. ⌜ length (was threads) ≡ 8 ⌝ }
+// There is a row for each thread.
+pub fn threads_length(threads: &Threads)
+    ensures { λ _. ⌜ length (was threads) ≡ mostThreads ⌝ }
 {
     count_threads(threads);
 }
@@ -86,9 +87,9 @@ fn count_words(s: &[u64]) -> usize
     s.len()
 }
 
-// A thread has 34 numbers.
-pub fn words34(row: &ThreadRow)
-    ensures { λ _. ⌜ length (was row) ≡ 34 ⌝ }
+// A thread has its numbers.
+pub fn thread_length(row: &ThreadRow)
+    ensures { λ _. ⌜ length (was row) ≡ threadNumbers ⌝ }
 {
     count_words(row);
 }
@@ -99,9 +100,9 @@ fn count_lines(s: &[[u64; LINE_WORDS]]) -> usize
     s.len()
 }
 
-// A memory has 256 lines.
-pub fn lines256(m: &Lines)
-    ensures { λ _. ⌜ length (was m) ≡ 256 ⌝ }
+// A memory has all lines.
+pub fn memory_length(m: &Lines)
+    ensures { λ _. ⌜ length (was m) ≡ mostLines ⌝ }
 {
     count_lines(m);
 }
@@ -264,7 +265,7 @@ pub fn row_carries(w: &RegionRow, l: u8) -> bool
 fn flight_slot(row: &RegionRow, l: u8) -> usize
     ensures { λ r. ⌜ r ≡ place (carries l) (regionOf (was row) .slots) ⌝ }
 {
-    words16(row);
+    region_length(row);
     let mut i: usize = 0;
     let at = loop {
         if MOST_SLOTS <= i {
@@ -282,7 +283,7 @@ fn flight_slot(row: &RegionRow, l: u8) -> usize
 pub fn land(row: &mut RegionRow, l: u8)
     ensures { λ _. ⌜ regionOf (left row) ≡ landed l (regionOf (was row)) ⌝ }
 {
-    words16(row);
+    region_length(row);
     let i = flight_slot(row, l);
     if i < MOST_SLOTS {
         row[SLOTS_AT + i] = 0;
@@ -390,7 +391,7 @@ pub fn last_in(row: &ThreadRow) -> u16
 pub fn set_place(row: &mut ThreadRow, d: u8, n: u16)
     ensures { λ _. ⌜ threadOf (left row) ≡ withDepth d (withLast n (threadOf (was row))) ⌝ }
 {
-    words34(row);
+    thread_length(row);
     row[DEPTH_AT] = d as u64;
     row[LAST_AT] = n as u64;
 }
@@ -405,7 +406,7 @@ pub fn one(hit: bool) -> u8
 pub fn free_entry(row: &ThreadRow) -> usize
     ensures { λ r. ⌜ r ≡ place (isOf 0) (threadOf (was row) .log) ⌝ }
 {
-    words34(row);
+    thread_length(row);
     let mut i: usize = 0;
     let at = loop {
         if MOST_ENTRIES <= i {
@@ -423,7 +424,7 @@ pub fn free_entry(row: &ThreadRow) -> usize
 pub fn entry_count(row: &ThreadRow, key: u32) -> u8
     ensures { λ r. ⌜ r ≡ count (isOf key) (threadOf (was row) .log) ⌝ }
 {
-    words34(row);
+    thread_length(row);
     let mut c: u8 = 0;
     let mut i: usize = 0;
     while i < MOST_ENTRIES {
@@ -437,7 +438,7 @@ pub fn entry_count(row: &ThreadRow, key: u32) -> u8
 pub fn put_entry(row: &mut ThreadRow, i: usize, e: Entry)
     ensures { λ _. ⌜ threadOf (left row) ≡ withLog (set (threadOf (was row) .log) i e) (threadOf (was row)) ⌝ }
 {
-    words34(row);
+    thread_length(row);
     if i < MOST_ENTRIES {
         row[i] = entry_word(e);
     }
@@ -461,7 +462,7 @@ fn kept_word(n: u64, k: u32, l: u8) -> u64
 pub fn keep_entry(row: &mut ThreadRow, k: u32, l: u8)
     ensures { λ _. ⌜ threadOf (left row) ≡ kept k l (threadOf (was row)) ⌝ }
 {
-    words34(row);
+    thread_length(row);
     let mut i: usize = 0;
     while i < MOST_ENTRIES {
         row[i] = kept_word(row[i], k, l);
@@ -479,7 +480,7 @@ fn freed_word(n: u64, k: u32) -> u64
 pub fn free_entries(row: &mut ThreadRow, k: u32)
     ensures { λ _. ⌜ threadOf (left row) ≡ freed k (threadOf (was row)) ⌝ }
 {
-    words34(row);
+    thread_length(row);
     let mut i: usize = 0;
     while i < MOST_ENTRIES {
         row[i] = freed_word(row[i], k);

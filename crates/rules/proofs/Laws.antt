@@ -1,25 +1,25 @@
 -- Laws of the definitions: a refusal changes nothing, answers lie in the list of document 01, what commits in a step does not depend on the order of choice,
 -- and a record holds bytes of its file.
 use Prim.Native.Nat.{suc, zero, ℕ}
-use mathlib.Core.Path.{_≡_, refl}
-use mathlib.Core.Logic.{_≢_}
 use mathlib.Core.Bool.{Bool, _&&_, _||_, true}
 use mathlib.Core.List.{List, [], _∷_}
+use mathlib.Core.Logic.{_≢_}
+use mathlib.Core.Path.{_≡_, refl}
 use lib.Dec.{leb, ltb}
 use lib.ListN.{length}
+use Rattle.undo.proofs.Laws.{and-true, test}
+use Rattle.rules.specs.Claim.{isByte}
 use Rattle.rules.specs.Kinds.{lastKind}
 use Rattle.rules.specs.Lists.{all}
 use Rattle.rules.specs.Record.{bodyLength, eventOf, isWhole, readRecord, recordsFrom}
 use Rattle.rules.specs.Refusal.{Test, firstBad, refusal, testsOf}
 use Rattle.rules.specs.Step.{step, stepBy, stepEvent, stepRead}
 use Rattle.rules.specs.Tables.{Board}
-use Rattle.rules.specs.declared.Event.{Event}
 use Rattle.rules.specs.declared.Event.the-variants.{Begin, Cut, DataAck, End, Fence, LogAck, Read, Setup, Write}
-use Rattle.rules.specs.declared.Reading.{Reading}
+use Rattle.rules.specs.declared.Event.{Event}
 use Rattle.rules.specs.declared.Reading.the-variants.{Refused, Whole}
+use Rattle.rules.specs.declared.Reading.{Reading}
 use Rattle.rules.specs.declared.Tables.{Tables}
-use Rattle.undo.proofs.Laws.{and-true, test}
-use Rattle.rules.specs.Claim.{isByte}
 
 -- ---- a refusal leaves the board and has the value 0
 

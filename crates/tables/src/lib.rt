@@ -30,7 +30,7 @@ ghost use Rattle.tables.specs.Held.{regionHeld, threadHeld};
 pub fn get(regions: &Regions, i: usize) -> Region
     ensures { λ r. ⌜ r ≡ regionHeld (was regions) i ⌝ }
 {
-    rows::rows32(regions);
+    rows::regions_length(regions);
     if i < MOST_REGIONS {
         let w = regions[i];
         rows::region_of(w)
@@ -43,7 +43,7 @@ pub fn get(regions: &Regions, i: usize) -> Region
 pub fn put(regions: &mut Regions, i: usize, r: Region)
     ensures { λ _. ⌜ regionsOf (left regions) ≡ set (regionsOf (was regions)) i r ⌝ }
 {
-    rows::rows32(regions);
+    rows::regions_length(regions);
     if i < MOST_REGIONS {
         let w = rows::row_of(r);
         regions[i] = w;
@@ -54,7 +54,7 @@ pub fn put(regions: &mut Regions, i: usize, r: Region)
 pub fn key_at(regions: &Regions, i: usize) -> u32
     ensures { λ k. ⌜ k ≡ regionHeld (was regions) i .key ⌝ }
 {
-    rows::rows32(regions);
+    rows::regions_length(regions);
     if i < MOST_REGIONS { regions[i][0] } else { 0 }
 }
 
@@ -62,7 +62,7 @@ pub fn key_at(regions: &Regions, i: usize) -> u32
 pub fn ended_at(regions: &Regions, i: usize) -> bool
     ensures { λ b. ⌜ b ≡ regionHeld (was regions) i .ended ⌝ }
 {
-    rows::rows32(regions);
+    rows::regions_length(regions);
     if i < MOST_REGIONS {
         regions[i][1] == 1
     } else {
@@ -74,7 +74,7 @@ pub fn ended_at(regions: &Regions, i: usize) -> bool
 fn done_at(regions: &Regions, i: usize) -> bool
     ensures { λ b. ⌜ b ≡ regionHeld (was regions) i .done ⌝ }
 {
-    rows::rows32(regions);
+    rows::regions_length(regions);
     if i < MOST_REGIONS {
         regions[i][2] == 1
     } else {
@@ -88,7 +88,7 @@ fn done_at(regions: &Regions, i: usize) -> bool
 pub fn place_of(regions: &Regions, key: u32) -> usize
     ensures { λ r. ⌜ r ≡ placeOf key (regionsOf (was regions)) ⌝ }
 {
-    rows::rows32(regions);
+    rows::regions_length(regions);
     let mut i: usize = 0;
     let at = loop {
         if MOST_REGIONS <= i {
@@ -106,7 +106,7 @@ pub fn place_of(regions: &Regions, key: u32) -> usize
 fn is_listed(regions: &Regions, key: u32) -> bool
     ensures { λ r. ⌜ r ≡ listed key (regionsOf (was regions)) ⌝ }
 {
-    rows::rows32(regions);
+    rows::regions_length(regions);
     if key == 0 {
         return false;
     }
@@ -146,7 +146,7 @@ fn is_of_thread(regions: &Regions, i: usize, t: u8) -> bool
 pub fn has_thread(regions: &Regions, t: u8) -> bool
     ensures { λ r. ⌜ r ≡ any (isOfThread t) (regionsOf (was regions)) ⌝ }
 {
-    rows::rows32(regions);
+    rows::regions_length(regions);
     let mut i: usize = 0;
     while i < MOST_REGIONS {
         if is_of_thread(regions, i, t) {
@@ -167,7 +167,7 @@ fn is_held(regions: &Regions, i: usize) -> bool
 pub fn count_held(regions: &Regions) -> u8
     ensures { λ r. ⌜ r ≡ count isHeld (regionsOf (was regions)) ⌝ }
 {
-    rows::rows32(regions);
+    rows::regions_length(regions);
     let mut c: u8 = 0;
     let mut i: usize = 0;
     while i < MOST_REGIONS {
@@ -191,7 +191,7 @@ fn is_modified(regions: &Regions, i: usize, t: u8) -> bool
 pub fn count_modified(regions: &Regions, t: u8) -> u8
     ensures { λ r. ⌜ r ≡ count (isModified t) (regionsOf (was regions)) ⌝ }
 {
-    rows::rows32(regions);
+    rows::regions_length(regions);
     let mut c: u8 = 0;
     let mut i: usize = 0;
     while i < MOST_REGIONS {
@@ -207,7 +207,7 @@ pub fn count_modified(regions: &Regions, t: u8) -> u8
 pub fn carries_at(regions: &Regions, i: usize, l: u8) -> bool
     ensures { λ r. ⌜ r ≡ any (carries l) (regionHeld (was regions) i .slots) ⌝ }
 {
-    rows::rows32(regions);
+    rows::regions_length(regions);
     if MOST_REGIONS <= i {
         return false;
     }
@@ -218,7 +218,7 @@ pub fn carries_at(regions: &Regions, i: usize, l: u8) -> bool
 pub fn flight_place(regions: &Regions, l: u8) -> usize
     ensures { λ r. ⌜ r ≡ flightPlace l (regionsOf (was regions)) ⌝ }
 {
-    rows::rows32(regions);
+    rows::regions_length(regions);
     let mut i: usize = 0;
     let at = loop {
         if MOST_REGIONS <= i {
@@ -236,7 +236,7 @@ pub fn flight_place(regions: &Regions, l: u8) -> usize
 pub fn land_at(regions: &mut Regions, i: usize, l: u8)
     ensures { λ _. ⌜ regionsOf (left regions) ≡ set (regionsOf (was regions)) i (landed l (regionHeld (was regions) i)) ⌝ }
 {
-    rows::rows32(regions);
+    rows::regions_length(regions);
     if i < MOST_REGIONS {
         rows::land(&mut regions[i], l);
     }
@@ -246,7 +246,7 @@ pub fn land_at(regions: &mut Regions, i: usize, l: u8)
 pub fn lacks_slot(regions: &Regions, i: usize, l: u8) -> bool
     ensures { λ r. ⌜ r ≡ isFull (slotFor l (regionHeld (was regions) i .slots)) ⌝ }
 {
-    rows::rows32(regions);
+    rows::regions_length(regions);
     if MOST_REGIONS <= i {
         return false;
     }
@@ -257,7 +257,7 @@ pub fn lacks_slot(regions: &Regions, i: usize, l: u8) -> bool
 pub fn lacks_dep(regions: &Regions, i: usize, d: u32) -> bool
     ensures { λ r. ⌜ r ≡ noRoomForDep d (regionHeld (was regions) i .deps) ⌝ }
 {
-    rows::rows32(regions);
+    rows::regions_length(regions);
     if MOST_REGIONS <= i {
         return false;
     }
@@ -270,7 +270,7 @@ pub fn lacks_dep(regions: &Regions, i: usize, d: u32) -> bool
 pub fn depth_of(threads: &Threads, t: u8) -> u8
     ensures { λ r. ⌜ r ≡ threadHeld (was threads) t .depth ⌝ }
 {
-    rows::threads8(threads);
+    rows::threads_length(threads);
     let i = t as usize;
     if i < MOST_THREADS {
         rows::depth_in(&threads[i])
@@ -283,7 +283,7 @@ pub fn depth_of(threads: &Threads, t: u8) -> u8
 pub fn last_of(threads: &Threads, t: u8) -> u16
     ensures { λ r. ⌜ r ≡ threadHeld (was threads) t .last ⌝ }
 {
-    rows::threads8(threads);
+    rows::threads_length(threads);
     let i = t as usize;
     if i < MOST_THREADS {
         rows::last_in(&threads[i])
@@ -303,7 +303,7 @@ pub fn current(threads: &Threads, t: u8) -> u32
 pub fn set_thread(threads: &mut Threads, t: u8, d: u8, n: u16)
     ensures { λ _. ⌜ threadsOf (left threads) ≡ set (threadsOf (was threads)) t (record { depth = d; last = n; log = threadHeld (was threads) t .log }) ⌝ }
 {
-    rows::threads8(threads);
+    rows::threads_length(threads);
     let i = t as usize;
     if i < MOST_THREADS {
         rows::set_place(&mut threads[i], d, n);
@@ -314,7 +314,7 @@ pub fn set_thread(threads: &mut Threads, t: u8, d: u8, n: u16)
 pub fn keep_of(threads: &mut Threads, k: u32, l: u8)
     ensures { λ _. ⌜ threadsOf (left threads) ≡ set (threadsOf (was threads)) (k / 65536) (kept k l (threadHeld (was threads) (k / 65536))) ⌝ }
 {
-    rows::threads8(threads);
+    rows::threads_length(threads);
     let i = (k / NUMBERS) as usize;
     if i < MOST_THREADS {
         rows::keep_entry(&mut threads[i], k, l);
@@ -334,7 +334,7 @@ pub fn put_flown(
 )
     ensures { λ _. ⌜ OnFlight (flownAt i r) regions lock cur car ⌝ }
 {
-    rows::rows32(regions);
+    rows::regions_length(regions);
     if i < MOST_REGIONS {
         let slots = r.slots;
         let now = slots::fly(slots, r.ended, lock, cur, car);

@@ -1,13 +1,13 @@
 -- The bytes that are handed over piece by piece are those of the text.
 use Prim.Native.Nat.{_+_, _-_, _<_, _≤_, ℕ}
-use mathlib.Core.Path.{_∙_, _≡_, refl, sym}
 use mathlib.Core.Bool.{Bool, _&&_, cond, false, false≢true, not, true}
 use mathlib.Core.List.{List, [], _++_, append-assoc, append-nil}
+use mathlib.Core.Path.{_∙_, _≡_, refl, sym}
 use lib.Dec.{leb, ltb}
 use lib.ListN.{drop, length, length-append, take, take-append-drop}
+use lib.Seq.{drop-length, take-length}
 use native.Mathlib.Omega.{arith}
 use borrow.Author.Tests.{not-true}
-use lib.Seq.{drop-length, take-length}
 use Rattle.output.proofs.Digits.{decimal-short}
 use Rattle.output.proofs.Rooms.{puts-join}
 use Rattle.output.specs.Decimal.{decimal}
@@ -17,9 +17,9 @@ use Rattle.parsing.specs.Claim.{LinesInPieces}
 use Rattle.parsing.specs.Read.{bytesOfText, goodBytes, goodOf, linesOf}
 use Rattle.pieces.proofs.Chain.{Going, one-more}
 use Rattle.pieces.specs.Chain.{Chain, Chained, stop, turn}
+use Rattle.undo.proofs.Laws.{and-true, test}
 use Rattle.tobytes.specs.Results.{Between, Pieced, Ran, Turned, between, complaint, complaintEnd, complaintStart, follows, goesOn, lineEnd, start}
 use Rattle.tobytes.specs.declared.Left.{Left}
-use Rattle.undo.proofs.Laws.{and-true, test}
 
 -- where a piece follows, all lines were in the form and more may come
 on-form : (s : Left) (room : ℕ) → goesOn s room ≡ true → s .form ≡ true

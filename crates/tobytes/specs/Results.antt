@@ -1,13 +1,13 @@
 -- What a piece of a text leaves, and what the whole run does.
 use Prim.Native.Nat.{_%_, _+_, _^_, ℕ}
-use mathlib.Core.Path.{_≡_}
 use mathlib.Core.Bool.{Bool, _&&_, _||_, cond, false, not, true}
 use mathlib.Core.List.{List, [], _++_, _∷_}
+use mathlib.Core.Path.{_≡_}
 use lib.Dec.{leb, ltb}
 use lib.ListN.{drop, length, take}
 use Rattle.output.specs.Decimal.{decimal}
-use Rattle.pieces.specs.Chain.{Chained}
 use Rattle.parsing.specs.Read.{Text, bytesOfText, goodBytes, lastLine}
+use Rattle.pieces.specs.Chain.{Chained}
 use Rattle.tobytes.specs.declared.Left.{Left}
 use Rattle.tobytes.specs.declared.Read.{Read}
 

@@ -1,8 +1,8 @@
 -- The text that is handed over piece by piece is that of the file.
 use Prim.Native.Nat.{_+_, _-_, _<_, _≤_, suc, zero, ℕ}
-use mathlib.Core.Path.{_≡_, refl}
 use mathlib.Core.Bool.{true}
 use mathlib.Core.List.{List, [], _++_, _∷_, append-assoc, append-nil}
+use mathlib.Core.Path.{_≡_, refl}
 use lib.Dec.{ltb}
 use lib.ListN.{getD, length, take, take-append-drop}
 use native.Mathlib.Omega.{arith}
@@ -15,9 +15,9 @@ use Rattle.pieces.specs.Shift.{Refilled}
 use Rattle.printing.proofs.Pieces.{text-split}
 use Rattle.printing.specs.Text.{textOf}
 use Rattle.rules.specs.Kinds.{bodyLengths, largest, lastKind, longestRecord}
+use Rattle.undo.proofs.Laws.{test}
 use Rattle.totext.specs.Results.{Between, Parted, Pieced, Ran, Rest, Rested, Turned, between, follows, goesOn, isLeft, rest, start}
 use Rattle.totext.specs.declared.Left.{Left}
-use Rattle.undo.proofs.Laws.{test}
 
 abbrev Pieces : ℕ → List ℕ → List ℕ → Between → List ℕ → Type 0
 Pieces n came sent r d = Chain follows Turned (between d start) n came sent r

@@ -1,22 +1,24 @@
 -- The text that is handed over piece by piece is that of the file.
 use Prim.Native.Nat.{_+_, _-_, _<_, ℕ}
-use mathlib.Core.Path.{_∙_, _≡_, refl}
 use mathlib.Core.Bool.{false, true}
 use mathlib.Core.List.{List, [], _++_, append-assoc}
+use mathlib.Core.Path.{_∙_, _≡_, refl}
 use lib.Dec.{leb}
 use lib.ListN.{drop, drop-of-length-le, length, replicate, take, take-append-drop}
 use borrow.Author.Tests.{le-leb}
-use Rattle.rows.specs.Whole.{boardOf, tablesOf}
-use Rattle.rows.specs.declared.Head.{Head}
-use Rattle.rules.specs.Record.{recordsOf}
-use Rattle.rules.specs.Tables.{Board, Zero, fresh, freshTables, startLines}
 use Rattle.pieces.proofs.Chain.{Going, at-start, one-more}
 use Rattle.pieces.specs.Chain.{Chain, Chained, mostTurns, stop, turn}
-use Rattle.trace.specs.Results.{Between, Printed, Traces, Turned, between, follows, start}
-use Rattle.trace.specs.declared.State.{State}
+use Rattle.rows.specs.declared.Head.{Head}
+use Rattle.rules.specs.Measures.{mostLines}
+use Rattle.rules.specs.Record.{recordsOf}
+use Rattle.rules.specs.Tables.{Board, Zero, fresh, freshTables, noLine, startLines}
+use Rattle.starting.proofs.Start.{started}
+use Rattle.starting.specs.Zeros.{zeroBoard, zeroTables}
 use Rattle.tracing.proofs.Pieces.{goes-on}
 use Rattle.tracing.specs.Pieces.{dueIn, fitting}
 use Rattle.tracing.specs.Text.{traceText}
+use Rattle.trace.specs.Results.{Between, Printed, Traces, Turned, between, follows, start}
+use Rattle.trace.specs.declared.State.{State}
 
 -- where the input has ended nothing comes with a piece
 no-more : (b c : Between) (t : Turned b c) (f : List ℕ) → (c .last ≡ true → f ≡ []) → b .last ≡ true → drop (b .held) (t .piece) ++ f ≡ []
@@ -36,11 +38,9 @@ turns-right (turn {came = came} {new = new} {t = b} {r = c} r m q) z f h =
 
 -- ---- the board before the first piece
 
-pub started : (h : Head) → tablesOf h (replicate 8 (replicate 34 0)) (replicate 32 (replicate 16 0)) (replicate 256 0) (replicate 256 false) ≡ freshTables true 0
-    → boardOf h (replicate 8 (replicate 34 0)) (replicate 32 (replicate 16 0)) (replicate 256 0) (replicate 256 false) (replicate 256 (replicate 8 0)) (replicate 256 (replicate 8 0)) (replicate 256 (replicate 8 0)) (replicate 256 (replicate 8 0)) ≡ fresh Zero
-unfolding fresh startLines
-started h e =
-    λ i. record { tables = e i; cur = replicate 256 (replicate 8 0); med = replicate 256 (replicate 8 0); old = replicate 256 (replicate 8 0); car = replicate 256 (replicate 8 0) }
+pub begun : (h : Head) → zeroTables h ≡ freshTables true 0 → zeroBoard h (replicate mostLines noLine) (replicate mostLines noLine) ≡ fresh Zero
+unfolding startLines
+begun h e = started Zero h (replicate mostLines noLine) (replicate mostLines noLine) e refl refl
 
 -- ---- a run that goes on, with `left` turns left to count
 

@@ -2,6 +2,8 @@
 use Prim.Native.Nat.{ℕ}
 use mathlib.Core.List.{List, [], _∷_}
 use lib.Dec.{T}
+use Rattle.output.specs.Decimal.{decimal, digits}
+use Rattle.rules.proofs.Cases.{same}
 use Rattle.rules.specs.Access.{joined, logged, read, stored, write, wrote}
 use Rattle.rules.specs.Acknowledge.{dataAck, dropped, kept, keptEntry, landed, logAck, unlocked}
 use Rattle.rules.specs.Begin.{begin, opened}
@@ -21,10 +23,8 @@ use Rattle.rules.specs.Slots.{carried, flownSlots, slotFrom, written}
 use Rattle.rules.specs.Step.{apply, fence, settledBoard, setup, step, stepBy, stepEvent}
 use Rattle.rules.specs.Tables.{Zero, fresh, lentFrom, lentLine, ownerOf, startLines}
 use Rattle.rules.specs.Walk.{entriesFrom, entriesOf, nextPlace, walk, walkEntries, walkFrom, without}
-use Rattle.output.specs.Decimal.{decimal, digits}
-use Rattle.tracing.specs.Text.{behindText, eventText, traceText}
 use Rattle.wording.specs.Text.{answerText, cutText, finish, flatTo, imageBuffer, lineText, memoryText, numberText, recoveredText, wordText}
-use Rattle.rules.proofs.Cases.{same}
+use Rattle.tracing.specs.Text.{behindText, eventText, traceText}
 
 pub file : List ℕ
 file =

@@ -4,11 +4,11 @@ use mathlib.Core.Bool.{cond}
 use mathlib.Core.List.{List, [], _++_, _∷_, map}
 use lib.Dec.{eqb}
 use lib.ListN.{getD, length, replicate, take}
+use Rattle.rules.specs.Measures.{mostRegions}
 use Rattle.rules.specs.declared.Found.the-variants.{At, Full}
 use Rattle.rules.specs.declared.Found.{Found}
 use Rattle.rules.specs.declared.Mark.{Mark}
 use Rattle.walking.specs.declared.Order.{Order}
-use Rattle.rules.specs.Measures.{mostRegions}
 
 -- the regions in the order of the walk, as the program holds them
 abbrev pub orderOf : Order → List ℕ

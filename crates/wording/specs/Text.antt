@@ -1,18 +1,18 @@
 -- "The trace program .. prints kind, refusal (0 for accepted), value per event; after an accepted cut it prints M, line, word, value for each nonzero recovered
 -- word, rising." Numbers are decimal, a space stands between them, a newline ends each line.
-use Rattle.rules.specs.Image.{save}
 use Prim.Native.Nat.{_+_, suc, zero, ℕ}
 use mathlib.Core.Bool.{cond}
 use mathlib.Core.List.{List, [], _++_, _∷_}
 use lib.Dec.{eqb, leb}
 use lib.ListN.{getD, length, replicate, take}
+use Rattle.output.specs.Decimal.{decimal}
 use Rattle.rules.specs.Bytes.{lineAt}
+use Rattle.rules.specs.Image.{save}
+use Rattle.rules.specs.Measures.{lineWords, mostLogged}
 use Rattle.rules.specs.Recovery.{Recovering, lineStart, restore}
 use Rattle.rules.specs.Run.{Wrote}
 use Rattle.rules.specs.Tables.{Board, noLine}
 use Rattle.rules.specs.declared.Answer.{Answer}
-use Rattle.output.specs.Decimal.{decimal}
-use Rattle.rules.specs.Measures.{lineWords, mostLogged}
 
 -- a number and the byte that ends it
 unfoldable pub numberText : ℕ → ℕ → List ℕ

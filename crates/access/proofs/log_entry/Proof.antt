@@ -11,14 +11,14 @@ use Rattle.access.proofs.Laws.{free-le, free-none}
 use Rattle.access.proofs.log_entry.Statement.{statement}
 use Rattle.access.proofs.log_entry.Tie as tie
 
-threads8-requires : tie.Need-threads8-requires
-threads8-requires c κs = search needs
+threads-length-requires : tie.Need-threads-length-requires
+threads-length-requires c κs = search needs
 
 returns : tie.Need-returns
 returns c =
     let s = c .before .before .before .args in
     let ws = s .threads .now in
-    let h : length ws ≤ s .t = omega (arith, c .if1 .taken, c .before .threads8 .ensures) in
+    let h : length ws ≤ s .t = omega (arith, c .if1 .taken, c .before .threads-length .ensures) in
     record {
       free = rw (thread-behind ws (s .t) h) free-none;
       below = omega arith;
@@ -60,7 +60,7 @@ returns-2 c =
     let f = c .before .before .before .before .before .free-entry in
     let s = c .before .before .before .before .before .before .before .before .before .before .args in
     let ws = s .threads .now in
-    let h : s .t < length ws = omega (arith, c .before .before .before .before .before .before .before .if1 .left, c .before .before .before .before .before .before .before .before .threads8 .ensures) in
+    let h : s .t < length ws = omega (arith, c .before .before .before .before .before .before .before .if1 .left, c .before .before .before .before .before .before .before .before .threads-length .ensures) in
     let e = thread-at ws (s .t) h in
     record {
       free = rw e (f .ensures);
@@ -72,7 +72,7 @@ pub log-entry-spec : {M : Type 1} → statement M
 log-entry-spec =
     tie.close
     (tie.spec
-    threads8-requires
+    threads-length-requires
     returns
     mul-free-entry
     index-1-free-entry

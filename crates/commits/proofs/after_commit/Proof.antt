@@ -4,8 +4,8 @@ use Rattle.commits.proofs.Row.{after-gone, after-other}
 use Rattle.commits.proofs.after_commit.Statement.{statement}
 use Rattle.commits.proofs.after_commit.Tie as tie
 
-words16-requires : tie.Need-words16-requires
-words16-requires c κs = search needs
+region-length-requires : tie.Need-region-length-requires
+region-length-requires c κs = search needs
 
 element-copy-out-if1 : tie.Need-element-copy-out-if1
 element-copy-out-if1 c = search needs
@@ -53,7 +53,7 @@ returns-2 : tie.Need-returns-2
 returns-2 c =
     let e = c .before .before .before .before .before .before .before .before in
     let w = e .before .before in
-    after-other _ (w .before .before .args .row .now) _ _ _ _ (omega (arith, w .words16 .ensures)) (e .if1 .left)
+    after-other _ (w .before .before .args .row .now) _ _ _ _ (omega (arith, w .region-length .ensures)) (e .if1 .left)
     (c .before .before .before .before .before .before .without-dep .ensures)
     (c .before .before .before .before .without-dep2 .ensures)
     (c .before .before .without-dep3 .ensures)
@@ -63,7 +63,7 @@ pub after-commit-spec : {M : Type 1} → statement M
 after-commit-spec =
     tie.close
     (tie.spec
-    words16-requires
+    region-length-requires
     element-copy-out-if1
     returns
     element-copy-out-without-dep

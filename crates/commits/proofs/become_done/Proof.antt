@@ -7,8 +7,8 @@ use Rattle.commits.proofs.Row.{done-open, done-slot, done-yes}
 use Rattle.commits.proofs.become_done.Statement.{statement}
 use Rattle.commits.proofs.become_done.Tie as tie
 
-words16-requires : tie.Need-words16-requires
-words16-requires c κs = search needs
+region-length-requires : tie.Need-region-length-requires
+region-length-requires c κs = search needs
 
 element-copy-out-if1 : tie.Need-element-copy-out-if1
 element-copy-out-if1 c = search needs
@@ -23,7 +23,7 @@ returns : tie.Need-returns
 unfolding regionOf
 returns c =
     let w = c .before .before .before .before .before in
-    done-yes (w .before .before .args .row .now) (omega (arith, w .words16 .ensures)) (eq-eqb _ _ (c .before .before .before .if1 .taken))
+    done-yes (w .before .before .args .row .now) (omega (arith, w .region-length .ensures)) (eq-eqb _ _ (c .before .before .before .if1 .taken))
     (sym (c .before .has-slot .ensures) ∙ not-true _ (c .if2 .taken))
 
 returns-2 : tie.Need-returns-2
@@ -37,7 +37,7 @@ pub become-done-spec : {M : Type 1} → statement M
 become-done-spec =
     tie.close
     (tie.spec
-    words16-requires
+    region-length-requires
     element-copy-out-if1
     has-slot-requires
     element-write-row

@@ -10,8 +10,8 @@ use Rattle.commits.proofs.Turns.{commit-none}
 use Rattle.commits.proofs.commit_region.Statement.{statement}
 use Rattle.commits.proofs.commit_region.Tie as tie
 
-threads8-requires : tie.Need-threads8-requires
-threads8-requires c κs = search needs
+threads-length-requires : tie.Need-threads-length-requires
+threads-length-requires c κs = search needs
 
 without-region-requires : tie.Need-without-region-requires
 without-region-requires c κs = search needs
@@ -37,7 +37,7 @@ returns c =
       map-set threadOf _ _ _,
       c .free-entries .ensures,
       c .before .before .before .without-region .ensures,
-      thread-at (s .threads .now) (s .key / 65536) (omega (arith, c .before .before .before .before .before .threads8 .ensures)),
+      thread-at (s .threads .now) (s .key / 65536) (omega (arith, c .before .before .before .before .before .threads-length .ensures)),
     )
 
 returns-2 : tie.Need-returns-2
@@ -45,14 +45,14 @@ returns-2 c =
     λ h owner lock.
     let w = c .before in
     let s = w .before .before .before .before .args in
-    let n : length (threadsOf (s .threads .now)) ≤ s .key / 65536 = rw (length-map (s .threads .now) threadOf) (omega (arith, w .before .before .threads8 .ensures)) in
+    let n : length (threadsOf (s .threads .now)) ≤ s .key / 65536 = rw (length-map (s .threads .now) threadOf) (omega (arith, w .before .before .threads-length .ensures)) in
     rw (w .without-region .ensures) (commit-none (s .key) (tablesOf h (s .threads .now) (s .regions .now) owner lock) n)
 
 pub commit-region-spec : {M : Type 1} → statement M
 commit-region-spec =
     tie.close
     (tie.spec
-    threads8-requires
+    threads-length-requires
     without-region-requires
     cast-i
     mul-free-entries

@@ -5,8 +5,8 @@ use Rattle.rows.proofs.Laws.{got, got-behind}
 use Rattle.commits.proofs.commits_at.Statement.{statement}
 use Rattle.commits.proofs.commits_at.Tie as tie
 
-rows32-requires : tie.Need-rows32-requires
-rows32-requires c κs = search needs
+regions-length-requires : tie.Need-regions-length-requires
+regions-length-requires c κs = search needs
 
 mul-can-commit : tie.Need-mul-can-commit
 mul-can-commit c = search needs
@@ -22,13 +22,13 @@ returns c = let s = c .before .before .before .before .args in rw (got (s .regio
 
 returns-2 : tie.Need-returns-2
 unfolding commits
-returns-2 c = let s = c .before .before .args in rw (got-behind (s .regions .now) (s .i) (omega (arith, c .before .rows32 .ensures)))
+returns-2 c = let s = c .before .before .args in rw (got-behind (s .regions .now) (s .i) (omega (arith, c .before .regions-length .ensures)))
 
 pub commits-at-spec : {M : Type 1} → statement M
 commits-at-spec =
     tie.close
     (tie.spec
-    rows32-requires
+    regions-length-requires
     mul-can-commit
     index-1-can-commit
     can-commit-requires

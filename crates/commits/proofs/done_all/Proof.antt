@@ -16,11 +16,11 @@ Inv-loop regions₀ i₀ regions i = (i ≤ 32) × ((length regions ≡ 32) × (
 abbrev μ-loop : tie.MeasureT-loop
 μ-loop regions₀ i₀ regions i = 32 - i
 
-rows32-requires : tie.Need-rows32-requires Inv-loop μ-loop
-rows32-requires c κs = search needs
+regions-length-requires : tie.Need-regions-length-requires Inv-loop μ-loop
+regions-length-requires c κs = search needs
 
 loop-holds : tie.Need-loop-holds Inv-loop μ-loop
-loop-holds c = (search needs, (c .rows32 .ensures, refl))
+loop-holds c = (search needs, (c .regions-length .ensures, refl))
 
 mul-become-done : tie.Need-mul-become-done Inv-loop μ-loop
 mul-become-done c = search needs
@@ -53,7 +53,7 @@ done-all-spec =
     (tie.spec
     Inv-loop
     μ-loop
-    rows32-requires
+    regions-length-requires
     loop-holds
     mul-become-done
     index-1-become-done

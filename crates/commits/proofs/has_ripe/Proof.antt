@@ -18,8 +18,8 @@ Inv-loop regions i₀ i = (i ≤ 32) × (any ripe (drop i (regionsOf regions)) �
 abbrev μ-loop : tie.MeasureT-loop
 μ-loop regions i₀ i = 32 - i
 
-rows32-requires : tie.Need-rows32-requires Inv-loop μ-loop
-rows32-requires c κs = search needs
+regions-length-requires : tie.Need-regions-length-requires Inv-loop μ-loop
+regions-length-requires c κs = search needs
 
 loop-holds : tie.Need-loop-holds Inv-loop μ-loop
 loop-holds c = (search needs, refl)
@@ -37,7 +37,7 @@ returns : tie.Need-returns Inv-loop μ-loop
 returns c =
     let at = c .before .before .before .before in
     let s = at .before .before .args .regions .now in
-    let n = rows-length s (at .before .rows32 .ensures) in
+    let n = rows-length s (at .before .regions-length .ensures) in
     sym (any-hit ripe (at .loop .i) (regionsOf s) noRegion (omega (arith, n)) (rw (got s (at .loop .i)) (sym (c .before .is-ripe .ensures) ∙ c .if1 .taken)))
     ∙ at .loop .inv .1
 
@@ -51,7 +51,7 @@ loop-again : tie.Need-loop-again Inv-loop μ-loop
 loop-again c =
     let at = c .before .before .before .before in
     let s = at .before .before .args .regions .now in
-    let n = rows-length s (at .before .rows32 .ensures) in (
+    let n = rows-length s (at .before .regions-length .ensures) in (
       search needs,
       (any-on ripe (at .loop .i) (regionsOf s) noRegion (omega (arith, n)) (rw (got s (at .loop .i)) (sym (c .before .is-ripe .ensures) ∙ c .if1 .left)))
           ∙ at .loop .inv .1,
@@ -61,7 +61,7 @@ returns-2 : tie.Need-returns-2 Inv-loop μ-loop
 returns-2 c =
     let at = c .before in
     let s = at .before .before .args .regions .now in
-    let n = rows-length s (at .before .rows32 .ensures) in
+    let n = rows-length s (at .before .regions-length .ensures) in
     sym (any-end ripe (at .loop .i) (regionsOf s) (omega (arith, n))) ∙ at .loop .inv .1
 
 pub has-ripe-spec : {M : Type 1} → statement M
@@ -70,7 +70,7 @@ has-ripe-spec =
     (tie.spec
     Inv-loop
     μ-loop
-    rows32-requires
+    regions-length-requires
     loop-holds
     mul-is-ripe
     index-1-is-ripe

@@ -17,11 +17,11 @@ Inv-loop regions best₀ i₀ best i = (i ≤ 32) × (earliestFrom (getD (region
 abbrev μ-loop : tie.MeasureT-loop
 μ-loop regions best₀ i₀ best i = 32 - i
 
-rows32-requires : tie.Need-rows32-requires Inv-loop μ-loop
-rows32-requires c κs = search needs
+regions-length-requires : tie.Need-regions-length-requires Inv-loop μ-loop
+regions-length-requires c κs = search needs
 
 loop-holds : tie.Need-loop-holds Inv-loop μ-loop
-loop-holds c = (search needs, rw (got-behind (c .before .args .regions .now) 32 (omega (arith, c .rows32 .ensures))))
+loop-holds c = (search needs, rw (got-behind (c .before .args .regions .now) 32 (omega (arith, c .regions-length .ensures))))
 
 earlier-of-requires : tie.Need-earlier-of-requires Inv-loop μ-loop
 earlier-of-requires c κs = search needs
@@ -36,14 +36,14 @@ loop-again : tie.Need-loop-again Inv-loop μ-loop
 loop-again c =
     let at = c .before .before in
     let s = at .before .before .args .regions .now in
-    let n = rows-length s (at .before .rows32 .ensures) in
+    let n = rows-length s (at .before .regions-length .ensures) in
     (search needs, rw (c .earlier-of .ensures) (walk-more _ (at .loop .i) (regionsOf s) noRegion (omega (arith, n)) ∙ at .loop .inv .1))
 
 returns : tie.Need-returns Inv-loop μ-loop
 returns c =
     let at = c .before in
     let s = at .before .before .args .regions .now in
-    let n = rows-length s (at .before .rows32 .ensures) in
+    let n = rows-length s (at .before .regions-length .ensures) in
     sym (walk-end _ (at .loop .i) (regionsOf s) (omega (arith, n))) ∙ at .loop .inv .1
 
 pub next-commit-spec : {M : Type 1} → statement M
@@ -52,7 +52,7 @@ next-commit-spec =
     (tie.spec
     Inv-loop
     μ-loop
-    rows32-requires
+    regions-length-requires
     loop-holds
     earlier-of-requires
     add-i

@@ -31,7 +31,7 @@ whole : (c : tie.After-done-all Inv-loop μ-loop) (h : Head) (owner : List ℕ) 
     → settle 32 (tablesOf h (c .before .before .before .before .before .before .before .args .threads .now) (c .done-all .last .0) owner lock) ≡ wanted c h owner lock
 whole c h owner lock =
     let s = c .before .before .before .before .before .before .before .args in
-    settled-from (tablesOf h (s .threads .now) (s .regions .now) owner lock) (regionsOf (c .done-all .last .0)) (rows-length (s .regions .now) (c .before .before .rows32 .ensures)) (c .done-all .ensures)
+    settled-from (tablesOf h (s .threads .now) (s .regions .now) owner lock) (regionsOf (c .done-all .last .0)) (rows-length (s .regions .now) (c .before .before .regions-length .ensures)) (c .done-all .ensures)
 
 has-ripe-requires : tie.Need-has-ripe-requires Inv-loop μ-loop
 has-ripe-requires c κs = search needs
@@ -44,8 +44,8 @@ returns c =
     parts _ 0 (settled (tablesOf h (s .threads .now) (s .regions .now) owner lock))
     (sym (settled-none (tablesOf h (s .threads .now) (s .regions .now) owner lock) e))
 
-rows32-requires : tie.Need-rows32-requires Inv-loop μ-loop
-rows32-requires c κs = search needs
+regions-length-requires : tie.Need-regions-length-requires Inv-loop μ-loop
+regions-length-requires c κs = search needs
 
 done-all-requires : tie.Need-done-all-requires Inv-loop μ-loop
 done-all-requires c κs = search needs
@@ -106,7 +106,7 @@ settle-spec =
     μ-loop
     has-ripe-requires
     returns
-    rows32-requires
+    regions-length-requires
     done-all-requires
     loop-holds
     next-commit-requires

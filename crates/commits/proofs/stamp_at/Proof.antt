@@ -5,8 +5,8 @@ use Rattle.rows.specs.Row.{regionOf}
 use Rattle.commits.proofs.stamp_at.Statement.{statement}
 use Rattle.commits.proofs.stamp_at.Tie as tie
 
-rows32-requires : tie.Need-rows32-requires
-rows32-requires c κs = search needs
+regions-length-requires : tie.Need-regions-length-requires
+regions-length-requires c κs = search needs
 
 mul-result : tie.Need-mul-result
 mul-result c = search needs
@@ -22,8 +22,8 @@ unfolding regionOf
 returns c = let s = c .before .before .before .args in rw (got (s .regions .now) (s .i))
 
 returns-2 : tie.Need-returns-2
-returns-2 c = let s = c .before .before .args in rw (got-behind (s .regions .now) (s .i) (omega (arith, c .before .rows32 .ensures)))
+returns-2 c = let s = c .before .before .args in rw (got-behind (s .regions .now) (s .i) (omega (arith, c .before .regions-length .ensures)))
 
 pub stamp-at-spec : {M : Type 1} → statement M
 stamp-at-spec =
-    tie.close (tie.spec rows32-requires mul-result index-1-result index-2-result returns returns-2)
+    tie.close (tie.spec regions-length-requires mul-result index-1-result index-2-result returns returns-2)

@@ -16,11 +16,11 @@ Inv-loop regions₀ key i₀ regions i = (i ≤ 32) × ((length regions ≡ 32) 
 abbrev μ-loop : tie.MeasureT-loop
 μ-loop regions₀ key i₀ regions i = 32 - i
 
-rows32-requires : tie.Need-rows32-requires Inv-loop μ-loop
-rows32-requires c κs = search needs
+regions-length-requires : tie.Need-regions-length-requires Inv-loop μ-loop
+regions-length-requires c κs = search needs
 
 loop-holds : tie.Need-loop-holds Inv-loop μ-loop
-loop-holds c = (search needs, (c .rows32 .ensures, refl))
+loop-holds c = (search needs, (c .regions-length .ensures, refl))
 
 mul-after-commit : tie.Need-mul-after-commit Inv-loop μ-loop
 mul-after-commit c = search needs
@@ -55,7 +55,7 @@ without-region-spec =
     (tie.spec
     Inv-loop
     μ-loop
-    rows32-requires
+    regions-length-requires
     loop-holds
     mul-after-commit
     index-1-after-commit

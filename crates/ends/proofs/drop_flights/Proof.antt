@@ -17,11 +17,11 @@ Inv-loop regions₀ k l i₀ regions i = (i ≤ 32) × ((length (regionsOf regio
 abbrev μ-loop : tie.MeasureT-loop
 μ-loop regions₀ k l i₀ regions i = 32 - i
 
-rows32-requires : tie.Need-rows32-requires Inv-loop μ-loop
-rows32-requires c κs = search needs
+regions-length-requires : tie.Need-regions-length-requires Inv-loop μ-loop
+regions-length-requires c κs = search needs
 
 loop-holds : tie.Need-loop-holds Inv-loop μ-loop
-loop-holds c = (search needs, (rows-length (c .before .before .args .regions .now) (c .rows32 .ensures), refl))
+loop-holds c = (search needs, (rows-length (c .before .before .args .regions .now) (c .regions-length .ensures), refl))
 
 drop-at-requires : tie.Need-drop-at-requires Inv-loop μ-loop
 drop-at-requires c κs = search needs
@@ -44,7 +44,7 @@ drop-flights-spec =
     (tie.spec
     Inv-loop
     μ-loop
-    rows32-requires
+    regions-length-requires
     loop-holds
     drop-at-requires
     add-i

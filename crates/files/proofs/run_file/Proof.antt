@@ -1,8 +1,8 @@
 use native.Mathlib.Omega.{arith}
-use mathlib.Core.Bool.{false}
-use lib.ListN.{replicate}
-use Rattle.files.proofs.Call.{answered, call-refused, started}
 use borrow.Author.Needs.{needs}
+use Rattle.rules.specs.Tables.{Lent}
+use Rattle.starting.proofs.Start.{started}
+use Rattle.files.proofs.Call.{answered, call-refused}
 use Rattle.files.proofs.run_file.Statement.{statement}
 use Rattle.files.proofs.run_file.Tie as tie
 
@@ -33,7 +33,7 @@ returns-2 c =
     let N = c .before .before .before .before .before .before .before .before .before .before .before .before .before .before .before .before .before .before in
     let a = c .before .before .before .before .before .before .before .before .before .before .before .before .before .before .before .before .before .before .before .before .before .before .args in
     let i = c .before .before .before .before .before .before .before .before .before .before .before .before .before .before .before .before .before .if1 .left in
-    let b = started (a .memory .now) (c .before .before .before .before .before .before .before .before .before .before .before .before .before .before .before .before .fresh-head .result) (replicate 8 (replicate 34 0)) (replicate 32 (replicate 16 0)) (replicate 256 0) (replicate 256 false) _ _ (c .before .before .before .before .before .before .before .before .before .before .before .before .before .before .before .before .fresh-head .ensures) (c .before .before .before .before .before .before .before .before .before .before .before .before .before .before .load .ensures) (c .before .before .before .before .before .before .before .before .before .before .before .before .load2 .ensures) in
+    let b = started (Lent (a .memory .now)) (c .before .before .before .before .before .before .before .before .before .before .before .before .before .before .before .before .fresh-head .result) _ _ (c .before .before .before .before .before .before .before .before .before .before .before .before .before .before .before .before .fresh-head .ensures) (c .before .before .before .before .before .before .before .before .before .before .before .before .before .before .load .ensures) (c .before .before .before .before .before .before .before .before .before .before .before .before .load2 .ensures) in
     answered (a .file .now) (a .memory .now) (N .record-count .result) _ (N .record-count .ensures) b (a .answers .now) _ (R .run-records .ensures .1 (omega (arith, i))) (rw (← N .record-count .ensures) i)
 
 pub run-file-spec : {M : Type 1} → statement M

@@ -1,7 +1,7 @@
-use mathlib.Core.Bool.{false}
-use lib.ListN.{replicate}
-use Rattle.files.proofs.Call.{imaged, started}
 use borrow.Author.Needs.{needs}
+use Rattle.rules.specs.Tables.{Lent}
+use Rattle.starting.proofs.Start.{started}
+use Rattle.files.proofs.Call.{imaged}
 use Rattle.files.proofs.run_image.Statement.{statement}
 use Rattle.files.proofs.run_image.Tie as tie
 
@@ -35,7 +35,7 @@ returns c =
     let R = c .before .before .before .before .before .before .before .before .before in
     let N = c .before .before .before .before .before .before .before .before .before .before .before .before .before .before .before .before .before .before .before in
     let a = c .before .before .before .before .before .before .before .before .before .before .before .before .before .before .before .before .before .before .before .before .before .before .before .before .before .before .before .before .args in
-    let b = started (a .memory .now) (c .before .before .before .before .before .before .before .before .before .before .before .before .before .before .before .before .before .before .before .before .before .before .before .before .fresh-head .result) (replicate 8 (replicate 34 0)) (replicate 32 (replicate 16 0)) (replicate 256 0) (replicate 256 false) _ _ (c .before .before .before .before .before .before .before .before .before .before .before .before .before .before .before .before .before .before .before .before .before .before .before .before .fresh-head .ensures) (c .before .before .before .before .before .before .before .before .before .before .before .before .before .before .before .before .before .before .before .before .before .before .load .ensures) (c .before .before .before .before .before .before .before .before .before .before .before .before .before .before .before .before .before .before .before .before .load2 .ensures) in
+    let b = started (Lent (a .memory .now)) (c .before .before .before .before .before .before .before .before .before .before .before .before .before .before .before .before .before .before .before .before .before .before .before .before .fresh-head .result) _ _ (c .before .before .before .before .before .before .before .before .before .before .before .before .before .before .before .before .before .before .before .before .before .before .before .before .fresh-head .ensures) (c .before .before .before .before .before .before .before .before .before .before .before .before .before .before .before .before .before .before .before .before .before .before .load .ensures) (c .before .before .before .before .before .before .before .before .before .before .before .before .before .before .before .before .before .before .before .before .load2 .ensures) in
     imaged (a .file .now) (a .memory .now) (N .record-count .result) _ (N .record-count .ensures) b _ (a .image .now) _ (R .run-records .ensures .0) (S .save .ensures _ _ _ _)
 
 pub run-image-spec : {M : Type 1} → statement M

@@ -26,7 +26,7 @@ module _ (threads : List (List ℕ)) (owner : List ℕ) (lock : List Bool) where
   passed-22 c = goes 22 _ (tests (c .before .before)) (c .before .ack-refusal .ensures threads (c .before .before .args .regions .now) owner lock) refl (c .if1 .left)
 
 flies : (c : tie.After-flight-place) → let s = c .before .before .before .before .args in ltb (c .flight-place .result) 32 ≡ any (λ r. any (carries (s .l)) (r .slots)) (regionsOf (s .regions .now))
-flies c = let s = c .before .before .before .before .args in found (λ r. any (carries (s .l)) (r .slots)) (regionsOf (s .regions .now)) _ 32 (rows-length (s .regions .now) (c .before .rows32 .ensures)) (c .flight-place .ensures)
+flies c = let s = c .before .before .before .before .args in found (λ r. any (carries (s .l)) (r .slots)) (regionsOf (s .regions .now)) _ 32 (rows-length (s .regions .now) (c .before .regions-length .ensures)) (c .flight-place .ensures)
 
 ack-refusal-requires : tie.Need-ack-refusal-requires
 ack-refusal-requires c κs = search needs
@@ -35,8 +35,8 @@ returns : tie.Need-returns
 unfolding refusal testsOf
 returns c = λ threads owner lock. stops 22 _ (tests threads owner lock (c .before .before)) (c .before .ack-refusal .ensures threads (c .before .before .args .regions .now) owner lock) (c .if1 .taken)
 
-rows32-requires : tie.Need-rows32-requires
-rows32-requires c κs = search needs
+regions-length-requires : tie.Need-regions-length-requires
+regions-length-requires c κs = search needs
 
 flight-place-requires : tie.Need-flight-place-requires
 flight-place-requires c κs = search needs
@@ -55,7 +55,7 @@ data-ack-refusal-spec =
     (tie.spec
     ack-refusal-requires
     returns
-    rows32-requires
+    regions-length-requires
     flight-place-requires
     returns-2
     returns-3)

@@ -6,15 +6,15 @@ use Rattle.rows.specs.Row.{logOf, threadOf}
 use Rattle.refusals.proofs.has_free.Statement.{statement}
 use Rattle.refusals.proofs.has_free.Tie as tie
 
-words34-requires : tie.Need-words34-requires
-words34-requires c κs = search needs
+thread-length-requires : tie.Need-thread-length-requires
+thread-length-requires c κs = search needs
 
 free-entry-requires : tie.Need-free-entry-requires
 free-entry-requires c κs = search needs
 
 returns : tie.Need-returns
 unfolding threadOf
-returns c = let s = c .before .before .args in found (isOf 0) (logOf (s .row .now)) _ 32 (log-length (s .row .now) (c .before .words34 .ensures)) (c .free-entry .ensures)
+returns c = let s = c .before .before .args in found (isOf 0) (logOf (s .row .now)) _ 32 (log-length (s .row .now) (c .before .thread-length .ensures)) (c .free-entry .ensures)
 
 pub has-free-spec : {M : Type 1} → statement M
-has-free-spec = tie.close (tie.spec words34-requires free-entry-requires returns)
+has-free-spec = tie.close (tie.spec thread-length-requires free-entry-requires returns)

@@ -4,8 +4,8 @@ use Rattle.rows.proofs.Laws.{thread-at, thread-behind}
 use Rattle.refusals.proofs.lacks_entry.Statement.{statement}
 use Rattle.refusals.proofs.lacks_entry.Tie as tie
 
-threads8-requires : tie.Need-threads8-requires
-threads8-requires c κs = search needs
+threads-length-requires : tie.Need-threads-length-requires
+threads-length-requires c κs = search needs
 
 returns : tie.Need-returns
 returns c = rw (not-true (c .before .before .args .logs) (c .if1 .taken))
@@ -29,7 +29,7 @@ pub lacks-entry-spec : {M : Type 1} → statement M
 lacks-entry-spec =
     tie.close
     (tie.spec
-    threads8-requires
+    threads-length-requires
     returns
     mul-has-free
     index-1-has-free

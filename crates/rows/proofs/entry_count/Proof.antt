@@ -19,8 +19,8 @@ Inv-loop row key c₀ i₀ c i = (i ≤ 32) × ((c ≤ i) × (c + count (isOf ke
 abbrev μ-loop : tie.MeasureT-loop
 μ-loop row key c₀ i₀ c i = 32 - i
 
-words34-requires : tie.Need-words34-requires Inv-loop μ-loop
-words34-requires c κs = search needs
+thread-length-requires : tie.Need-thread-length-requires Inv-loop μ-loop
+thread-length-requires c κs = search needs
 
 loop-holds : tie.Need-loop-holds Inv-loop μ-loop
 loop-holds c = (search needs, (search needs, omega arith))
@@ -47,11 +47,11 @@ loop-less : tie.Need-loop-less Inv-loop μ-loop
 loop-less c = search needs
 
 loop-again : tie.Need-loop-again Inv-loop μ-loop
-loop-again c = let at = c .before .before .before .before in let s = at .before .before .args in let n = log-length (s .row .now) (at .before .words34 .ensures) in (search needs, (omega (arith, c .one .ensures, one-le (eqb (c .before .key-in .result) (s .key))), rw (c .one .ensures, c .before .key-in .ensures, ← log-at (s .row .now) (at .loop .i) (search needs)) (count-on (isOf (s .key)) (at .loop .i) (logOf (s .row .now)) noEntry (omega (arith, n)) (at .loop .c) ∙ at .loop .inv .1 .1)))
+loop-again c = let at = c .before .before .before .before in let s = at .before .before .args in let n = log-length (s .row .now) (at .before .thread-length .ensures) in (search needs, (omega (arith, c .one .ensures, one-le (eqb (c .before .key-in .result) (s .key))), rw (c .one .ensures, c .before .key-in .ensures, ← log-at (s .row .now) (at .loop .i) (search needs)) (count-on (isOf (s .key)) (at .loop .i) (logOf (s .row .now)) noEntry (omega (arith, n)) (at .loop .c) ∙ at .loop .inv .1 .1)))
 
 returns : tie.Need-returns Inv-loop μ-loop
 unfolding threadOf
-returns c = let at = c .before in let s = at .before .before .args in let n = log-length (s .row .now) (at .before .words34 .ensures) in sym (count-end (isOf (s .key)) (at .loop .c) (at .loop .i) (logOf (s .row .now)) (omega (arith, n))) ∙ at .loop .inv .1 .1
+returns c = let at = c .before in let s = at .before .before .args in let n = log-length (s .row .now) (at .before .thread-length .ensures) in sym (count-end (isOf (s .key)) (at .loop .c) (at .loop .i) (logOf (s .row .now)) (omega (arith, n))) ∙ at .loop .inv .1 .1
 
 pub entry-count-spec : {M : Type 1} → statement M
 entry-count-spec =
@@ -59,7 +59,7 @@ entry-count-spec =
     (tie.spec
     Inv-loop
     μ-loop
-    words34-requires
+    thread-length-requires
     loop-holds
     mul-key-in
     element-copy-out-key-in

@@ -18,8 +18,8 @@ Inv-loop row l i₀ i = (i ≤ 8) × (i + place (carries l) (drop i (regionOf ro
 abbrev μ-loop : tie.MeasureT-loop
 μ-loop row l i₀ i = 8 - i
 
-words16-requires : tie.Need-words16-requires Inv-loop μ-loop
-words16-requires c κs = search needs
+region-length-requires : tie.Need-region-length-requires Inv-loop μ-loop
+region-length-requires c κs = search needs
 
 loop-holds : tie.Need-loop-holds Inv-loop μ-loop
 loop-holds c = (search needs, omega arith)
@@ -43,13 +43,13 @@ loop-less : tie.Need-loop-less Inv-loop μ-loop
 loop-less c = search needs
 
 loop-again : tie.Need-loop-again Inv-loop μ-loop
-loop-again c = let at = c .before .before .before .before in let s = at .before .before .args in let w = s .row .now in (search needs, place-on (carries (s .l)) (at .loop .i) (regionOf w .slots) noSlot (omega (arith, slots-length w)) (rw (slot-at w (at .loop .i) (at .before .words16 .ensures), ← c .before .carries-word .ensures) (c .if2 .left)) ∙ at .loop .inv .1)
+loop-again c = let at = c .before .before .before .before in let s = at .before .before .args in let w = s .row .now in (search needs, place-on (carries (s .l)) (at .loop .i) (regionOf w .slots) noSlot (omega (arith, slots-length w)) (rw (slot-at w (at .loop .i) (at .before .region-length .ensures), ← c .before .carries-word .ensures) (c .if2 .left)) ∙ at .loop .inv .1)
 
 returns : tie.Need-returns Inv-loop μ-loop
 returns c = let at = c .before in let s = at .before .before .args in sym (place-end (carries (s .l)) (at .loop .i) (regionOf (s .row .now) .slots) (omega (arith, slots-length (s .row .now)))) ∙ at .loop .inv .1
 
 returns-2 : tie.Need-returns-2 Inv-loop μ-loop
-returns-2 c = let at = c .before .before .before .before in let s = at .before .before .args in let w = s .row .now in sym (place-hit (carries (s .l)) (at .loop .i) (regionOf w .slots) noSlot (omega (arith, slots-length w)) (rw (slot-at w (at .loop .i) (at .before .words16 .ensures), ← c .before .carries-word .ensures) (c .if2 .taken))) ∙ at .loop .inv .1
+returns-2 c = let at = c .before .before .before .before in let s = at .before .before .args in let w = s .row .now in sym (place-hit (carries (s .l)) (at .loop .i) (regionOf w .slots) noSlot (omega (arith, slots-length w)) (rw (slot-at w (at .loop .i) (at .before .region-length .ensures), ← c .before .carries-word .ensures) (c .if2 .taken))) ∙ at .loop .inv .1
 
 pub flight-slot-spec : {M : Type 1} → statement M
 flight-slot-spec =
@@ -57,7 +57,7 @@ flight-slot-spec =
     (tie.spec
     Inv-loop
     μ-loop
-    words16-requires
+    region-length-requires
     loop-holds
     add-carries-word
     mul-carries-word

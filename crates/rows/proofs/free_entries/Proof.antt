@@ -14,12 +14,12 @@ Inv-loop row₀ k i₀ row i = (i ≤ 32) × ((length row ≡ 34) × (worked (fr
 abbrev μ-loop : tie.MeasureT-loop
 μ-loop row₀ k i₀ row i = 32 - i
 
-words34-requires : tie.Need-words34-requires Inv-loop μ-loop
-words34-requires c κs = search needs
+thread-length-requires : tie.Need-thread-length-requires Inv-loop μ-loop
+thread-length-requires c κs = search needs
 
 loop-holds : tie.Need-loop-holds Inv-loop μ-loop
 unfolding freed
-loop-holds c = (search needs, (c .words34 .ensures, refl))
+loop-holds c = (search needs, (c .thread-length .ensures, refl))
 
 mul-freed-word : tie.Need-mul-freed-word Inv-loop μ-loop
 mul-freed-word c = search needs
@@ -54,7 +54,7 @@ free-entries-spec =
     (tie.spec
     Inv-loop
     μ-loop
-    words34-requires
+    thread-length-requires
     loop-holds
     mul-freed-word
     element-copy-out-freed-word

@@ -19,8 +19,8 @@ Inv-loop row i₀ i = (i ≤ 32) × (i + place (isOf 0) (drop i (logOf row)) ≡
 abbrev μ-loop : tie.MeasureT-loop
 μ-loop row i₀ i = 32 - i
 
-words34-requires : tie.Need-words34-requires Inv-loop μ-loop
-words34-requires c κs = search needs
+thread-length-requires : tie.Need-thread-length-requires Inv-loop μ-loop
+thread-length-requires c κs = search needs
 
 loop-holds : tie.Need-loop-holds Inv-loop μ-loop
 loop-holds c = (search needs, omega arith)
@@ -41,15 +41,15 @@ loop-less : tie.Need-loop-less Inv-loop μ-loop
 loop-less c = search needs
 
 loop-again : tie.Need-loop-again Inv-loop μ-loop
-loop-again c = let at = c .before .before .before .before in let s = at .before .before .args in let n = log-length (s .row .now) (at .before .words34 .ensures) in (search needs, place-on (isOf 0) (at .loop .i) (logOf (s .row .now)) noEntry (omega (arith, n)) (rw (log-at (s .row .now) (at .loop .i) (search needs), ← c .before .key-in .ensures) (ne-eqb _ _ (c .if2 .left))) ∙ at .loop .inv .1)
+loop-again c = let at = c .before .before .before .before in let s = at .before .before .args in let n = log-length (s .row .now) (at .before .thread-length .ensures) in (search needs, place-on (isOf 0) (at .loop .i) (logOf (s .row .now)) noEntry (omega (arith, n)) (rw (log-at (s .row .now) (at .loop .i) (search needs), ← c .before .key-in .ensures) (ne-eqb _ _ (c .if2 .left))) ∙ at .loop .inv .1)
 
 returns : tie.Need-returns Inv-loop μ-loop
 unfolding threadOf
-returns c = let at = c .before in let s = at .before .before .args in let n = log-length (s .row .now) (at .before .words34 .ensures) in sym (place-end (isOf 0) (at .loop .i) (logOf (s .row .now)) (omega (arith, n))) ∙ at .loop .inv .1
+returns c = let at = c .before in let s = at .before .before .args in let n = log-length (s .row .now) (at .before .thread-length .ensures) in sym (place-end (isOf 0) (at .loop .i) (logOf (s .row .now)) (omega (arith, n))) ∙ at .loop .inv .1
 
 returns-2 : tie.Need-returns-2 Inv-loop μ-loop
 unfolding threadOf
-returns-2 c = let at = c .before .before .before .before in let s = at .before .before .args in let n = log-length (s .row .now) (at .before .words34 .ensures) in sym (place-hit (isOf 0) (at .loop .i) (logOf (s .row .now)) noEntry (omega (arith, n)) (rw (log-at (s .row .now) (at .loop .i) (search needs), ← c .before .key-in .ensures) (eq-eqb _ _ (c .if2 .taken)))) ∙ at .loop .inv .1
+returns-2 c = let at = c .before .before .before .before in let s = at .before .before .args in let n = log-length (s .row .now) (at .before .thread-length .ensures) in sym (place-hit (isOf 0) (at .loop .i) (logOf (s .row .now)) noEntry (omega (arith, n)) (rw (log-at (s .row .now) (at .loop .i) (search needs), ← c .before .key-in .ensures) (eq-eqb _ _ (c .if2 .taken)))) ∙ at .loop .inv .1
 
 pub free-entry-spec : {M : Type 1} → statement M
 free-entry-spec =
@@ -57,7 +57,7 @@ free-entry-spec =
     (tie.spec
     Inv-loop
     μ-loop
-    words34-requires
+    thread-length-requires
     loop-holds
     mul-key-in
     element-copy-out-key-in

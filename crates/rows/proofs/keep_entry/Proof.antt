@@ -1,5 +1,5 @@
 use Rattle.rows.proofs.Laws.{worked, worked-end, worked-more}
-use Rattle.rows.specs.Row.{threadOf}
+use Rattle.rows.specs.Row.{threadNumbers, threadOf}
 use Rattle.rules.specs.Acknowledge.{kept, keptEntry}
 use lib.ListN.{length, length-set}
 use mathlib.Core.Path.{_∙_, _≡_, refl, sym}
@@ -9,17 +9,17 @@ use Rattle.rows.proofs.keep_entry.Statement.{statement}
 use Rattle.rows.proofs.keep_entry.Tie as tie
 
 abbrev Inv-loop : tie.InvT-loop
-Inv-loop row₀ k l i₀ row i = (i ≤ 32) × ((length row ≡ 34) × (worked (keptEntry k l) i row ≡ kept k l (threadOf row₀)))
+Inv-loop row₀ k l i₀ row i = (i ≤ 32) × ((length row ≡ threadNumbers) × (worked (keptEntry k l) i row ≡ kept k l (threadOf row₀)))
 
 abbrev μ-loop : tie.MeasureT-loop
 μ-loop row₀ k l i₀ row i = 32 - i
 
-words34-requires : tie.Need-words34-requires Inv-loop μ-loop
-words34-requires c κs = search needs
+thread-length-requires : tie.Need-thread-length-requires Inv-loop μ-loop
+thread-length-requires c κs = search needs
 
 loop-holds : tie.Need-loop-holds Inv-loop μ-loop
 unfolding kept
-loop-holds c = (search needs, (c .words34 .ensures, refl))
+loop-holds c = (search needs, (c .thread-length .ensures, refl))
 
 mul-kept-word : tie.Need-mul-kept-word Inv-loop μ-loop
 mul-kept-word c = search needs
@@ -54,7 +54,7 @@ keep-entry-spec =
     (tie.spec
     Inv-loop
     μ-loop
-    words34-requires
+    thread-length-requires
     loop-holds
     mul-kept-word
     element-copy-out-kept-word

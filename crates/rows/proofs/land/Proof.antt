@@ -11,8 +11,8 @@ use borrow.Author.Needs.{needs}
 use Rattle.rows.proofs.land.Statement.{statement}
 use Rattle.rows.proofs.land.Tie as tie
 
-words16-requires : tie.Need-words16-requires
-words16-requires c κs = search needs
+region-length-requires : tie.Need-region-length-requires
+region-length-requires c κs = search needs
 
 flight-slot-requires : tie.Need-flight-slot-requires
 flight-slot-requires c κs = search needs
@@ -28,7 +28,7 @@ element-write-row c = search needs
 
 returns : tie.Need-returns
 unfolding landed
-returns c = let s = c .before .before .before .before .before .args in let w = s .row .now in let f = c .before .flight-slot in rw (← f .ensures) (emptied w (f .result) (c .before .before .before .words16 .ensures))
+returns c = let s = c .before .before .before .before .before .args in let w = s .row .now in let f = c .before .flight-slot in rw (← f .ensures) (emptied w (f .result) (c .before .before .before .region-length .ensures))
 
 returns-2 : tie.Need-returns-2
 unfolding landed
@@ -38,7 +38,7 @@ pub land-spec : {M : Type 1} → statement M
 land-spec =
     tie.close
     (tie.spec
-    words16-requires
+    region-length-requires
     flight-slot-requires
     add-row
     mul-row

@@ -5,8 +5,8 @@ use borrow.Author.Needs.{needs}
 use Rattle.rows.proofs.put_entry.Statement.{statement}
 use Rattle.rows.proofs.put_entry.Tie as tie
 
-words34-requires : tie.Need-words34-requires
-words34-requires c κs = search needs
+thread-length-requires : tie.Need-thread-length-requires
+thread-length-requires c κs = search needs
 
 entry-word-requires : tie.Need-entry-word-requires
 entry-word-requires c κs = search needs
@@ -22,9 +22,9 @@ returns c = let s = c .before .before .before .before .args in rw (entry-stored 
 
 returns-2 : tie.Need-returns-2
 unfolding threadOf
-returns-2 c = let s = c .before .before .before .args in rw (set-out (threadOf (s .row .now) .log) (s .i) (s .e) (rw (log-length (s .row .now) (c .before .words34 .ensures)) (search needs)))
+returns-2 c = let s = c .before .before .before .args in rw (set-out (threadOf (s .row .now) .log) (s .i) (s .e) (rw (log-length (s .row .now) (c .before .thread-length .ensures)) (search needs)))
 
 pub put-entry-spec : {M : Type 1} → statement M
 put-entry-spec =
     tie.close
-    (tie.spec words34-requires entry-word-requires mul-row element-write-row returns returns-2)
+    (tie.spec thread-length-requires entry-word-requires mul-row element-write-row returns returns-2)

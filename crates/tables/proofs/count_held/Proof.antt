@@ -17,8 +17,8 @@ Inv-loop regions c₀ i₀ c i = (i ≤ 32) × ((c ≤ i) × (c + count isHeld (
 abbrev μ-loop : tie.MeasureT-loop
 μ-loop regions c₀ i₀ c i = 32 - i
 
-rows32-requires : tie.Need-rows32-requires Inv-loop μ-loop
-rows32-requires c κs = search needs
+regions-length-requires : tie.Need-regions-length-requires Inv-loop μ-loop
+regions-length-requires c κs = search needs
 
 loop-holds : tie.Need-loop-holds Inv-loop μ-loop
 loop-holds c = (search needs, (search needs, omega arith))
@@ -39,10 +39,10 @@ loop-less : tie.Need-loop-less Inv-loop μ-loop
 loop-less c = search needs
 
 loop-again : tie.Need-loop-again Inv-loop μ-loop
-loop-again c = let at = c .before .before .before in let s = at .before .before .args in let n = rows-length (s .regions .now) (at .before .rows32 .ensures) in (search needs, (omega (arith, c .one .ensures, one-le (c .before .is-held .result)), rw (c .one .ensures, c .before .is-held .ensures) (count-on isHeld (at .loop .i) (regionsOf (s .regions .now)) noRegion (omega (arith, n)) (at .loop .c) ∙ at .loop .inv .1 .1)))
+loop-again c = let at = c .before .before .before in let s = at .before .before .args in let n = rows-length (s .regions .now) (at .before .regions-length .ensures) in (search needs, (omega (arith, c .one .ensures, one-le (c .before .is-held .result)), rw (c .one .ensures, c .before .is-held .ensures) (count-on isHeld (at .loop .i) (regionsOf (s .regions .now)) noRegion (omega (arith, n)) (at .loop .c) ∙ at .loop .inv .1 .1)))
 
 returns : tie.Need-returns Inv-loop μ-loop
-returns c = let at = c .before in let s = at .before .before .args in let n = rows-length (s .regions .now) (at .before .rows32 .ensures) in sym (count-end isHeld (at .loop .c) (at .loop .i) (regionsOf (s .regions .now)) (omega (arith, n))) ∙ at .loop .inv .1 .1
+returns c = let at = c .before in let s = at .before .before .args in let n = rows-length (s .regions .now) (at .before .regions-length .ensures) in sym (count-end isHeld (at .loop .c) (at .loop .i) (regionsOf (s .regions .now)) (omega (arith, n))) ∙ at .loop .inv .1 .1
 
 pub count-held-spec : {M : Type 1} → statement M
 count-held-spec =
@@ -50,7 +50,7 @@ count-held-spec =
     (tie.spec
     Inv-loop
     μ-loop
-    rows32-requires
+    regions-length-requires
     loop-holds
     is-held-requires
     one-requires

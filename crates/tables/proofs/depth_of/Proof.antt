@@ -3,8 +3,8 @@ use borrow.Author.Needs.{needs}
 use Rattle.tables.proofs.depth_of.Statement.{statement}
 use Rattle.tables.proofs.depth_of.Tie as tie
 
-threads8-requires : tie.Need-threads8-requires
-threads8-requires c κs = search needs
+threads-length-requires : tie.Need-threads-length-requires
+threads-length-requires c κs = search needs
 
 mul-depth-in : tie.Need-mul-depth-in
 mul-depth-in c = search needs
@@ -24,4 +24,4 @@ returns-2 c = let s = c .before .before .args in rw (thread-behind (s .threads .
 pub depth-of-spec : {M : Type 1} → statement M
 depth-of-spec =
     tie.close
-    (tie.spec threads8-requires mul-depth-in index-1-depth-in depth-in-requires returns returns-2)
+    (tie.spec threads-length-requires mul-depth-in index-1-depth-in depth-in-requires returns returns-2)

@@ -20,8 +20,8 @@ Inv-loop rows l i₀ i = (i ≤ 32) × (i + place (λ r. any (carries l) (r .slo
 abbrev μ-loop : tie.MeasureT-loop
 μ-loop rows l i₀ i = 32 - i
 
-rows32-requires : tie.Need-rows32-requires Inv-loop μ-loop
-rows32-requires c κs = search needs
+regions-length-requires : tie.Need-regions-length-requires Inv-loop μ-loop
+regions-length-requires c κs = search needs
 
 loop-holds : tie.Need-loop-holds Inv-loop μ-loop
 loop-holds c = (search needs, omega arith)
@@ -36,13 +36,13 @@ loop-less : tie.Need-loop-less Inv-loop μ-loop
 loop-less c = search needs
 
 loop-again : tie.Need-loop-again Inv-loop μ-loop
-loop-again c = let at = c .before .before .before in let s = at .before .before .args in let n = rows-length (s .regions .now) (at .before .rows32 .ensures) in (search needs, place-on (λ r. any (carries (s .l)) (r .slots)) (at .loop .i) (regionsOf (s .regions .now)) noRegion (omega (arith, n)) (sym (c .before .carries-at .ensures) ∙ c .if2 .left) ∙ at .loop .inv .1)
+loop-again c = let at = c .before .before .before in let s = at .before .before .args in let n = rows-length (s .regions .now) (at .before .regions-length .ensures) in (search needs, place-on (λ r. any (carries (s .l)) (r .slots)) (at .loop .i) (regionsOf (s .regions .now)) noRegion (omega (arith, n)) (sym (c .before .carries-at .ensures) ∙ c .if2 .left) ∙ at .loop .inv .1)
 
 returns : tie.Need-returns Inv-loop μ-loop
-returns c = let at = c .before in let s = at .before .before .args in let n = rows-length (s .regions .now) (at .before .rows32 .ensures) in sym (place-end (λ r. any (carries (s .l)) (r .slots)) (at .loop .i) (regionsOf (s .regions .now)) (omega (arith, n))) ∙ at .loop .inv .1
+returns c = let at = c .before in let s = at .before .before .args in let n = rows-length (s .regions .now) (at .before .regions-length .ensures) in sym (place-end (λ r. any (carries (s .l)) (r .slots)) (at .loop .i) (regionsOf (s .regions .now)) (omega (arith, n))) ∙ at .loop .inv .1
 
 returns-2 : tie.Need-returns-2 Inv-loop μ-loop
-returns-2 c = let at = c .before .before .before in let s = at .before .before .args in let n = rows-length (s .regions .now) (at .before .rows32 .ensures) in sym (place-hit (λ r. any (carries (s .l)) (r .slots)) (at .loop .i) (regionsOf (s .regions .now)) noRegion (omega (arith, n)) (sym (c .before .carries-at .ensures) ∙ c .if2 .taken)) ∙ at .loop .inv .1
+returns-2 c = let at = c .before .before .before in let s = at .before .before .args in let n = rows-length (s .regions .now) (at .before .regions-length .ensures) in sym (place-hit (λ r. any (carries (s .l)) (r .slots)) (at .loop .i) (regionsOf (s .regions .now)) noRegion (omega (arith, n)) (sym (c .before .carries-at .ensures) ∙ c .if2 .taken)) ∙ at .loop .inv .1
 
 pub flight-place-spec : {M : Type 1} → statement M
 flight-place-spec =
@@ -50,7 +50,7 @@ flight-place-spec =
     (tie.spec
     Inv-loop
     μ-loop
-    rows32-requires
+    regions-length-requires
     loop-holds
     carries-at-requires
     add-i

@@ -4,8 +4,8 @@ use borrow.Author.Needs.{needs}
 use Rattle.tables.proofs.get.Statement.{statement}
 use Rattle.tables.proofs.get.Tie as tie
 
-rows32-requires : tie.Need-rows32-requires
-rows32-requires c κs = search needs
+regions-length-requires : tie.Need-regions-length-requires
+regions-length-requires c κs = search needs
 
 mul-w : tie.Need-mul-w
 mul-w c = search needs
@@ -29,7 +29,7 @@ pub get-spec : {M : Type 1} → statement M
 get-spec =
     tie.close
     (tie.spec
-    rows32-requires
+    regions-length-requires
     mul-w
     element-copy-out-w
     region-of-requires

@@ -18,8 +18,8 @@ Inv-loop regions t i₀ i = (i ≤ 32) × (any (isOfThread t) (drop i (regionsOf
 abbrev μ-loop : tie.MeasureT-loop
 μ-loop regions t i₀ i = 32 - i
 
-rows32-requires : tie.Need-rows32-requires Inv-loop μ-loop
-rows32-requires c κs = search needs
+regions-length-requires : tie.Need-regions-length-requires Inv-loop μ-loop
+regions-length-requires c κs = search needs
 
 loop-holds : tie.Need-loop-holds Inv-loop μ-loop
 loop-holds c = (search needs, refl)
@@ -28,7 +28,7 @@ is-of-thread-requires : tie.Need-is-of-thread-requires Inv-loop μ-loop
 is-of-thread-requires c κs = search needs
 
 returns : tie.Need-returns Inv-loop μ-loop
-returns c = let at = c .before .before .before in let s = at .before .before .args in let n = rows-length (s .regions .now) (at .before .rows32 .ensures) in sym (any-hit (isOfThread (s .t)) (at .loop .i) (regionsOf (s .regions .now)) noRegion (omega (arith, n)) (sym (c .before .is-of-thread .ensures) ∙ c .if1 .taken)) ∙ at .loop .inv .1
+returns c = let at = c .before .before .before in let s = at .before .before .args in let n = rows-length (s .regions .now) (at .before .regions-length .ensures) in sym (any-hit (isOfThread (s .t)) (at .loop .i) (regionsOf (s .regions .now)) noRegion (omega (arith, n)) (sym (c .before .is-of-thread .ensures) ∙ c .if1 .taken)) ∙ at .loop .inv .1
 
 add-i : tie.Need-add-i Inv-loop μ-loop
 add-i c = search needs
@@ -37,10 +37,10 @@ loop-less : tie.Need-loop-less Inv-loop μ-loop
 loop-less c = search needs
 
 loop-again : tie.Need-loop-again Inv-loop μ-loop
-loop-again c = let at = c .before .before .before in let s = at .before .before .args in let n = rows-length (s .regions .now) (at .before .rows32 .ensures) in (search needs, (any-on (isOfThread (s .t)) (at .loop .i) (regionsOf (s .regions .now)) noRegion (omega (arith, n)) (sym (c .before .is-of-thread .ensures) ∙ c .if1 .left)) ∙ at .loop .inv .1)
+loop-again c = let at = c .before .before .before in let s = at .before .before .args in let n = rows-length (s .regions .now) (at .before .regions-length .ensures) in (search needs, (any-on (isOfThread (s .t)) (at .loop .i) (regionsOf (s .regions .now)) noRegion (omega (arith, n)) (sym (c .before .is-of-thread .ensures) ∙ c .if1 .left)) ∙ at .loop .inv .1)
 
 returns-2 : tie.Need-returns-2 Inv-loop μ-loop
-returns-2 c = let at = c .before in let s = at .before .before .args in let n = rows-length (s .regions .now) (at .before .rows32 .ensures) in sym (any-end (isOfThread (s .t)) (at .loop .i) (regionsOf (s .regions .now)) (omega (arith, n))) ∙ at .loop .inv .1
+returns-2 c = let at = c .before in let s = at .before .before .args in let n = rows-length (s .regions .now) (at .before .regions-length .ensures) in sym (any-end (isOfThread (s .t)) (at .loop .i) (regionsOf (s .regions .now)) (omega (arith, n))) ∙ at .loop .inv .1
 
 pub has-thread-spec : {M : Type 1} → statement M
 has-thread-spec =
@@ -48,7 +48,7 @@ has-thread-spec =
     (tie.spec
     Inv-loop
     μ-loop
-    rows32-requires
+    regions-length-requires
     loop-holds
     is-of-thread-requires
     returns

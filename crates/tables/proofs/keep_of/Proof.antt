@@ -8,8 +8,8 @@ use borrow.Author.Needs.{needs}
 use Rattle.tables.proofs.keep_of.Statement.{statement}
 use Rattle.tables.proofs.keep_of.Tie as tie
 
-threads8-requires : tie.Need-threads8-requires
-threads8-requires c κs = search needs
+threads-length-requires : tie.Need-threads-length-requires
+threads-length-requires c κs = search needs
 
 cast-i : tie.Need-cast-i
 cast-i c = search needs
@@ -33,7 +33,7 @@ pub keep-of-spec : {M : Type 1} → statement M
 keep-of-spec =
     tie.close
     (tie.spec
-    threads8-requires
+    threads-length-requires
     cast-i
     mul-keep-entry
     index-1-keep-entry

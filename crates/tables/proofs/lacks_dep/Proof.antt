@@ -4,8 +4,8 @@ use borrow.Author.Needs.{needs}
 use Rattle.tables.proofs.lacks_dep.Statement.{statement}
 use Rattle.tables.proofs.lacks_dep.Tie as tie
 
-rows32-requires : tie.Need-rows32-requires
-rows32-requires c κs = search needs
+regions-length-requires : tie.Need-regions-length-requires
+regions-length-requires c κs = search needs
 
 returns : tie.Need-returns
 returns c = let s = c .before .before .args in sym (rw (got-behind (s .regions .now) (s .i) (search needs)) (free-room (s .d)))
@@ -26,7 +26,7 @@ pub lacks-dep-spec : {M : Type 1} → statement M
 lacks-dep-spec =
     tie.close
     (tie.spec
-    rows32-requires
+    regions-length-requires
     returns
     mul-row-lacks-dep
     index-1-row-lacks-dep

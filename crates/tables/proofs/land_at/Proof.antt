@@ -4,8 +4,8 @@ use borrow.Author.Needs.{needs}
 use Rattle.tables.proofs.land_at.Statement.{statement}
 use Rattle.tables.proofs.land_at.Tie as tie
 
-rows32-requires : tie.Need-rows32-requires
-rows32-requires c κs = search needs
+regions-length-requires : tie.Need-regions-length-requires
+regions-length-requires c κs = search needs
 
 mul-land : tie.Need-mul-land
 mul-land c = search needs
@@ -24,4 +24,4 @@ returns-2 c = let s = c .before .before .before .args in put-behind (s .regions 
 
 pub land-at-spec : {M : Type 1} → statement M
 land-at-spec =
-    tie.close (tie.spec rows32-requires mul-land index-1-land land-requires returns returns-2)
+    tie.close (tie.spec regions-length-requires mul-land index-1-land land-requires returns returns-2)

@@ -3,8 +3,8 @@ use borrow.Author.Needs.{needs}
 use Rattle.tables.proofs.last_of.Statement.{statement}
 use Rattle.tables.proofs.last_of.Tie as tie
 
-threads8-requires : tie.Need-threads8-requires
-threads8-requires c κs = search needs
+threads-length-requires : tie.Need-threads-length-requires
+threads-length-requires c κs = search needs
 
 mul-last-in : tie.Need-mul-last-in
 mul-last-in c = search needs
@@ -24,4 +24,4 @@ returns-2 c = let s = c .before .before .args in rw (thread-behind (s .threads .
 pub last-of-spec : {M : Type 1} → statement M
 last-of-spec =
     tie.close
-    (tie.spec threads8-requires mul-last-in index-1-last-in last-in-requires returns returns-2)
+    (tie.spec threads-length-requires mul-last-in index-1-last-in last-in-requires returns returns-2)

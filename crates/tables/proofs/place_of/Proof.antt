@@ -18,8 +18,8 @@ Inv-loop rows key i₀ i = (i ≤ 32) × (i + place (isKey key) (drop i (regions
 abbrev μ-loop : tie.MeasureT-loop
 μ-loop rows key i₀ i = 32 - i
 
-rows32-requires : tie.Need-rows32-requires Inv-loop μ-loop
-rows32-requires c κs = search needs
+regions-length-requires : tie.Need-regions-length-requires Inv-loop μ-loop
+regions-length-requires c κs = search needs
 
 loop-holds : tie.Need-loop-holds Inv-loop μ-loop
 loop-holds c = (search needs, omega arith)
@@ -34,13 +34,13 @@ loop-less : tie.Need-loop-less Inv-loop μ-loop
 loop-less c = search needs
 
 loop-again : tie.Need-loop-again Inv-loop μ-loop
-loop-again c = let at = c .before .before .before in let s = at .before .before .args in let n = rows-length (s .regions .now) (at .before .rows32 .ensures) in (search needs, place-on (isKey (s .key)) (at .loop .i) (regionsOf (s .regions .now)) noRegion (omega (arith, n)) (rw (← c .before .key-at .ensures) (ne-eqb _ _ (c .if2 .left))) ∙ at .loop .inv .1)
+loop-again c = let at = c .before .before .before in let s = at .before .before .args in let n = rows-length (s .regions .now) (at .before .regions-length .ensures) in (search needs, place-on (isKey (s .key)) (at .loop .i) (regionsOf (s .regions .now)) noRegion (omega (arith, n)) (rw (← c .before .key-at .ensures) (ne-eqb _ _ (c .if2 .left))) ∙ at .loop .inv .1)
 
 returns : tie.Need-returns Inv-loop μ-loop
-returns c = let at = c .before in let s = at .before .before .args in let n = rows-length (s .regions .now) (at .before .rows32 .ensures) in sym (place-end (isKey (s .key)) (at .loop .i) (regionsOf (s .regions .now)) (omega (arith, n))) ∙ at .loop .inv .1
+returns c = let at = c .before in let s = at .before .before .args in let n = rows-length (s .regions .now) (at .before .regions-length .ensures) in sym (place-end (isKey (s .key)) (at .loop .i) (regionsOf (s .regions .now)) (omega (arith, n))) ∙ at .loop .inv .1
 
 returns-2 : tie.Need-returns-2 Inv-loop μ-loop
-returns-2 c = let at = c .before .before .before in let s = at .before .before .args in let n = rows-length (s .regions .now) (at .before .rows32 .ensures) in sym (place-hit (isKey (s .key)) (at .loop .i) (regionsOf (s .regions .now)) noRegion (omega (arith, n)) (rw (← c .before .key-at .ensures) (eq-eqb _ _ (c .if2 .taken)))) ∙ at .loop .inv .1
+returns-2 c = let at = c .before .before .before in let s = at .before .before .args in let n = rows-length (s .regions .now) (at .before .regions-length .ensures) in sym (place-hit (isKey (s .key)) (at .loop .i) (regionsOf (s .regions .now)) noRegion (omega (arith, n)) (rw (← c .before .key-at .ensures) (eq-eqb _ _ (c .if2 .taken)))) ∙ at .loop .inv .1
 
 pub place-of-spec : {M : Type 1} → statement M
 place-of-spec =
@@ -48,7 +48,7 @@ place-of-spec =
     (tie.spec
     Inv-loop
     μ-loop
-    rows32-requires
+    regions-length-requires
     loop-holds
     key-at-requires
     add-i

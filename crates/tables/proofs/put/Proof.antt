@@ -4,8 +4,8 @@ use borrow.Author.Needs.{needs}
 use Rattle.tables.proofs.put.Statement.{statement}
 use Rattle.tables.proofs.put.Tie as tie
 
-rows32-requires : tie.Need-rows32-requires
-rows32-requires c κs = search needs
+regions-length-requires : tie.Need-regions-length-requires
+regions-length-requires c κs = search needs
 
 row-of-requires : tie.Need-row-of-requires
 row-of-requires c κs = search needs
@@ -24,4 +24,4 @@ returns-2 c = let s = c .before .before .before .args in put-behind (s .regions 
 
 pub put-spec : {M : Type 1} → statement M
 put-spec =
-    tie.close (tie.spec rows32-requires row-of-requires mul-w element-set-from-w returns returns-2)
+    tie.close (tie.spec regions-length-requires row-of-requires mul-w element-set-from-w returns returns-2)

@@ -8,8 +8,8 @@ use Rattle.tables.specs.Flight.{flownAt}
 use Rattle.tables.proofs.put_flown.Statement.{statement}
 use Rattle.tables.proofs.put_flown.Tie as tie
 
-rows32-requires : tie.Need-rows32-requires
-rows32-requires c κs = search needs
+regions-length-requires : tie.Need-regions-length-requires
+regions-length-requires c κs = search needs
 
 fly-requires : tie.Need-fly-requires
 fly-requires c κs = search needs
@@ -22,7 +22,7 @@ unfolding flownAt
 returns c =
     λ h threads owner med old.
     let s = c .before .before .before .before .before .before .before .before .args in
-    let n = rows-length (s .regions .now) (c .before .before .before .before .before .before .rows32 .ensures) in
+    let n = rows-length (s .regions .now) (c .before .before .before .before .before .before .regions-length .ensures) in
     let g = c .before .before .fly in
     rw (
       lt-ltb (s .i) (length (regionsOf (s .regions .now))) (omega (arith, n, c .before .before .before .before .before .if1 .taken)),
@@ -36,8 +36,8 @@ unfolding flownAt
 returns-2 c =
     λ h threads owner med old.
     let s = c .before .before .before .args in
-    let n = rows-length (s .regions .now) (c .before .rows32 .ensures) in
+    let n = rows-length (s .regions .now) (c .before .regions-length .ensures) in
     rw (le-ltb (s .i) (length (regionsOf (s .regions .now))) (omega (arith, n, c .if1 .left)))
 
 pub put-flown-spec : {M : Type 1} → statement M
-put-flown-spec = tie.close (tie.spec rows32-requires fly-requires put-requires returns returns-2)
+put-flown-spec = tie.close (tie.spec regions-length-requires fly-requires put-requires returns returns-2)

@@ -7,8 +7,8 @@ use borrow.Author.Needs.{needs}
 use Rattle.tables.proofs.set_thread.Statement.{statement}
 use Rattle.tables.proofs.set_thread.Tie as tie
 
-threads8-requires : tie.Need-threads8-requires
-threads8-requires c κs = search needs
+threads-length-requires : tie.Need-threads-length-requires
+threads-length-requires c κs = search needs
 
 mul-set-place : tie.Need-mul-set-place
 mul-set-place c = search needs
@@ -29,7 +29,7 @@ pub set-thread-spec : {M : Type 1} → statement M
 set-thread-spec =
     tie.close
     (tie.spec
-    threads8-requires
+    threads-length-requires
     mul-set-place
     index-1-set-place
     set-place-requires

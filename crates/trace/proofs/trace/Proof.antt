@@ -5,7 +5,7 @@ use native.Mathlib.Omega.{arith}
 use Rattle.rows.specs.Whole.{boardOf}
 use Rattle.trace.specs.Results.{between}
 use Rattle.pieces.proofs.Chain.{all-counted, none-follows}
-use Rattle.trace.proofs.Chain.{Running, started, started-at, traced, turned-on}
+use Rattle.trace.proofs.Chain.{Running, begun, started-at, traced, turned-on}
 use borrow.Author.Needs.{needs}
 use Rattle.trace.proofs.trace.Statement.{statement}
 use Rattle.trace.proofs.trace.Tie as tie
@@ -22,7 +22,7 @@ fresh-head-requires : tie.Need-fresh-head-requires Inv-loop μ-loop
 fresh-head-requires c κs = search needs
 
 loop-holds : tie.Need-loop-holds Inv-loop μ-loop
-loop-holds c = let s = c .before .before .before in let h = c .fresh-head .result in (refl, (refl, started-at (s .args .buffer .now) (s .args .out .now) _ (record { head = h; held = 0; last = false; more = true }) (started h (c .fresh-head .ensures)) refl refl refl))
+loop-holds c = let s = c .before .before .before in let h = c .fresh-head .result in (refl, (refl, started-at (s .args .buffer .now) (s .args .out .now) _ (record { head = h; held = 0; last = false; more = true }) (begun h (c .fresh-head .ensures)) refl refl refl))
 
 turn-requires : tie.Need-turn-requires Inv-loop μ-loop
 turn-requires c κs = search needs
