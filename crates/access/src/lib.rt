@@ -3,8 +3,9 @@
 use measures::Lines;
 use measures::Locks;
 use measures::MOST_ENTRIES;
-use measures::MOST_LINES;
+use measures::MOST_LOGGED;
 use measures::MOST_THREADS;
+use measures::OldLines;
 use measures::Owners;
 use measures::Regions;
 use measures::Threads;
@@ -43,7 +44,7 @@ fn log_line(
     owner: &mut Owners,
     lock: &mut Locks,
     cur: &Lines,
-    old: &mut Lines,
+    old: &mut OldLines,
     t: u8,
     k: u32,
     l: u8,
@@ -54,9 +55,9 @@ fn log_line(
     let i = log_entry(threads, t, k, l);
     owner[li] = k;
     lock[li] = true;
-    rows::memory_length(old);
+    rows::old_length(old);
     let at = MOST_ENTRIES * (t as usize) + i;
-    if at < MOST_LINES {
+    if at < MOST_LOGGED {
         let before = lines::line_of(cur, l);
         old[at] = before;
     }
@@ -68,7 +69,7 @@ fn log_once(
     owner: &mut Owners,
     lock: &mut Locks,
     cur: &Lines,
-    old: &mut Lines,
+    old: &mut OldLines,
     t: u8,
     k: u32,
     l: u8,
@@ -124,7 +125,7 @@ pub fn write(
     owner: &mut Owners,
     lock: &mut Locks,
     cur: &mut Lines,
-    old: &mut Lines,
+    old: &mut OldLines,
     car: &mut Lines,
     t: u8,
     l: u8,

@@ -15,6 +15,7 @@
 // Prints a line for each case, then how many there are and how many are right. A line in no form makes its case wrong.
 use measures::LINE_WORDS;
 use measures::MOST_LINES;
+use measures::MOST_LOGGED;
 use measures::MOST_REGIONS;
 use measures::MOST_THREADS;
 use measures::REGION_NUMBERS;
@@ -603,7 +604,7 @@ fn run_lines(
     let mut lock = [false; MOST_LINES];
     let mut cur = [[0u64; LINE_WORDS]; MOST_LINES];
     let mut med = [[0u64; LINE_WORDS]; MOST_LINES];
-    let mut old = [[0u64; LINE_WORDS]; MOST_LINES];
+    let mut old = [[0u64; LINE_WORDS]; MOST_LOGGED];
     let mut car = [[0u64; LINE_WORDS]; MOST_LINES];
     starting::load(memory, &mut cur);
     starting::load(memory, &mut med);

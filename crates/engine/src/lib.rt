@@ -2,6 +2,7 @@
 use measures::Lines;
 use measures::Locks;
 use measures::NUMBERS;
+use measures::OldLines;
 use measures::Owners;
 use measures::Regions;
 use measures::Threads;
@@ -187,7 +188,7 @@ fn apply(
     lock: &mut Locks,
     cur: &mut Lines,
     med: &mut Lines,
-    old: &mut Lines,
+    old: &mut OldLines,
     car: &mut Lines,
     e: Event,
 ) -> Effect
@@ -254,7 +255,7 @@ fn step(
     lock: &mut Locks,
     cur: &mut Lines,
     med: &mut Lines,
-    old: &mut Lines,
+    old: &mut OldLines,
     car: &mut Lines,
     e: Event,
 ) -> Outcome
@@ -290,7 +291,7 @@ pub fn event(
     lock: &mut Locks,
     cur: &mut Lines,
     med: &mut Lines,
-    old: &mut Lines,
+    old: &mut OldLines,
     car: &mut Lines,
     bytes: &[u8],
 ) -> Outcome

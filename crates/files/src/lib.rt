@@ -3,8 +3,10 @@ use measures::LINE_WORDS;
 use measures::Lines;
 use measures::Locks;
 use measures::MOST_LINES;
+use measures::MOST_LOGGED;
 use measures::MOST_REGIONS;
 use measures::MOST_THREADS;
+use measures::OldLines;
 use measures::Owners;
 use measures::REGION_NUMBERS;
 use measures::Regions;
@@ -72,7 +74,7 @@ fn run_records(
     lock: &mut Locks,
     cur: &mut Lines,
     med: &mut Lines,
-    old: &mut Lines,
+    old: &mut OldLines,
     car: &mut Lines,
     file: &[u8],
     n: usize,
@@ -128,7 +130,7 @@ pub fn run_file(file: &[u8], memory: &[u8], answers: &mut [u8]) -> Answer
     let mut lock = [false; MOST_LINES];
     let mut cur = [[0u64; LINE_WORDS]; MOST_LINES];
     let mut med = [[0u64; LINE_WORDS]; MOST_LINES];
-    let mut old = [[0u64; LINE_WORDS]; MOST_LINES];
+    let mut old = [[0u64; LINE_WORDS]; MOST_LOGGED];
     let mut car = [[0u64; LINE_WORDS]; MOST_LINES];
     starting::load(memory, &mut cur);
     starting::load(memory, &mut med);
@@ -163,7 +165,7 @@ pub fn run_image(file: &[u8], memory: &[u8], image: &mut [u8]) -> Answer
     let mut lock = [false; MOST_LINES];
     let mut cur = [[0u64; LINE_WORDS]; MOST_LINES];
     let mut med = [[0u64; LINE_WORDS]; MOST_LINES];
-    let mut old = [[0u64; LINE_WORDS]; MOST_LINES];
+    let mut old = [[0u64; LINE_WORDS]; MOST_LOGGED];
     let mut car = [[0u64; LINE_WORDS]; MOST_LINES];
     starting::load(memory, &mut cur);
     starting::load(memory, &mut med);

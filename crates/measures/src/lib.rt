@@ -38,7 +38,7 @@ pub const RIPE_COUNT: u8 = 4;
 // ---- what is lent
 
 // A region as a row of numbers: key, ended, done, stamp, its dependences, its slots from SLOTS_AT on.
-pub const SLOTS_AT: usize = 8;
+pub const SLOTS_AT: usize = 4 + MOST_DEPS;
 
 pub const REGION_NUMBERS: usize = SLOTS_AT + MOST_SLOTS;
 
@@ -65,3 +65,6 @@ pub type Locks = [bool; MOST_LINES];
 pub type Line = [u64; LINE_WORDS];
 
 pub type Lines = [Line; MOST_LINES];
+
+// The old lines of the log: entry k of thread t at MOST_ENTRIES * t + k.
+pub type OldLines = [Line; MOST_LOGGED];

@@ -5,7 +5,7 @@ use mathlib.Core.Bool.{Bool, _||_, cond}
 use mathlib.Core.List.{List, [], _∷_, map}
 use lib.Dec.{eqb}
 use lib.ListN.{getD, take}
-use Rattle.rules.specs.Measures.{mostEntries, mostSlots}
+use Rattle.rules.specs.Measures.{mostDeps, mostEntries, mostSlots}
 use Rattle.rules.specs.Slots.{isEmpty, names}
 use Rattle.rules.specs.declared.Entry.{Entry}
 use Rattle.rules.specs.declared.Region.{Region}
@@ -16,7 +16,7 @@ use Rattle.rules.specs.declared.Thread.{Thread}
 
 -- how many numbers a region has, and a thread
 abbrev pub regionNumbers : ℕ
-regionNumbers = 8 + mostSlots
+regionNumbers = 4 + mostDeps + mostSlots
 
 abbrev pub threadNumbers : ℕ
 threadNumbers = mostEntries + 2

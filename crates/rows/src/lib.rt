@@ -5,6 +5,7 @@ use measures::LINE_WORDS;
 use measures::Lines;
 use measures::MOST_ENTRIES;
 use measures::MOST_SLOTS;
+use measures::OldLines;
 use measures::REGION_NUMBERS;
 use measures::RegionRow;
 use measures::Regions;
@@ -23,7 +24,7 @@ ghost use lib.Dec.{eqb};
 ghost use lib.ListN.{length, set};
 ghost use Rattle.undo.specs.Table.{any};
 ghost use Rattle.rules.specs.Lists.{count, place};
-ghost use Rattle.rules.specs.Measures.{mostLines, mostRegions, mostThreads};
+ghost use Rattle.rules.specs.Measures.{mostLines, mostLogged, mostRegions, mostThreads};
 ghost use Rattle.rules.specs.Slots.{carries, isFull, slotFor};
 ghost use Rattle.rules.specs.Access.{isOf};
 ghost use Rattle.rules.specs.Acknowledge.{kept, keptEntry, landed};
@@ -105,6 +106,13 @@ pub fn memory_length(m: &Lines)
     ensures { λ _. ⌜ length (was m) ≡ mostLines ⌝ }
 {
     count_lines(m);
+}
+
+// The log has an old line for each entry.
+pub fn old_length(old: &OldLines)
+    ensures { λ _. ⌜ length (was old) ≡ mostLogged ⌝ }
+{
+    count_lines(old);
 }
 
 // ---- a slot

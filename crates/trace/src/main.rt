@@ -4,8 +4,10 @@ use measures::LINE_WORDS;
 use measures::Lines;
 use measures::Locks;
 use measures::MOST_LINES;
+use measures::MOST_LOGGED;
 use measures::MOST_REGIONS;
 use measures::MOST_THREADS;
+use measures::OldLines;
 use measures::Owners;
 use measures::REGION_NUMBERS;
 use measures::Regions;
@@ -67,7 +69,7 @@ fn turn(
     lock: &mut Locks,
     cur: &mut Lines,
     med: &mut Lines,
-    old: &mut Lines,
+    old: &mut OldLines,
     car: &mut Lines,
     buffer: &mut [u8],
     out: &mut [u8],
@@ -113,7 +115,7 @@ fn trace(buffer: &mut [u8], out: &mut [u8]) -> State
     let mut lock = [false; MOST_LINES];
     let mut cur = [[0u64; LINE_WORDS]; MOST_LINES];
     let mut med = [[0u64; LINE_WORDS]; MOST_LINES];
-    let mut old = [[0u64; LINE_WORDS]; MOST_LINES];
+    let mut old = [[0u64; LINE_WORDS]; MOST_LOGGED];
     let mut car = [[0u64; LINE_WORDS]; MOST_LINES];
     let mut s = State {
         head: starting::fresh_head(true, 0),

@@ -1,6 +1,7 @@
 // The text that a trace prints: a line for each answer, and behind an accepted cut a line for each word of the recovered memory that is not zero.
 use measures::Lines;
 use measures::Locks;
+use measures::OldLines;
 use measures::Owners;
 use measures::Regions;
 use measures::Threads;
@@ -27,7 +28,7 @@ fn saved_words(
     threads: &Threads,
     regions: &Regions,
     med: &Lines,
-    old: &Lines,
+    old: &OldLines,
     image: &mut [u8],
 ) -> Cursor
     ensures { λ r. ⌜ SavedWords dst c r h threads regions med old image ⌝ }
@@ -56,7 +57,7 @@ fn cut_words(
     threads: &Threads,
     regions: &Regions,
     med: &Lines,
-    old: &Lines,
+    old: &OldLines,
 ) -> Cursor
     ensures { λ r. ⌜ CutWords dst c r h threads regions med old ⌝ }
 {
@@ -74,7 +75,7 @@ fn behind_words(
     threads: &Threads,
     regions: &Regions,
     med: &Lines,
-    old: &Lines,
+    old: &OldLines,
 ) -> Cursor
     ensures { λ r. ⌜ BehindWords kind a dst c r h threads regions med old ⌝ }
 {
@@ -128,7 +129,7 @@ fn trace_event(
     lock: &mut Locks,
     cur: &mut Lines,
     med: &mut Lines,
-    old: &mut Lines,
+    old: &mut OldLines,
     car: &mut Lines,
     bytes: &[u8],
     dst: &mut [u8],
@@ -195,7 +196,7 @@ pub fn trace_piece(
     lock: &mut Locks,
     cur: &mut Lines,
     med: &mut Lines,
-    old: &mut Lines,
+    old: &mut OldLines,
     car: &mut Lines,
     piece: &[u8],
     last: bool,

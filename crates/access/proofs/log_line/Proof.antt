@@ -21,8 +21,8 @@ element-write-owner c = search needs
 element-write-lock : tie.Need-element-write-lock
 element-write-lock c = search needs
 
-memory-length-requires : tie.Need-memory-length-requires
-memory-length-requires c κs = search needs
+old-length-requires : tie.Need-old-length-requires
+old-length-requires c κs = search needs
 
 mul-at : tie.Need-mul-at
 mul-at c = search needs
@@ -52,7 +52,7 @@ returns-2 c =
     λ h regions med car.
     let e = c .before .before .before .log-entry .ensures in
     let s = c .before .before .before .before .before .args in
-    let n : length (s .old .now) ≤ 32 * s .t + freeIn (threadHeld (s .threads .now) (s .t)) = omega (arith, c .before .memory-length .ensures, c .if1 .left, e .free) in
+    let n : length (s .old .now) ≤ 32 * s .t + freeIn (threadHeld (s .threads .now) (s .t)) = omega (arith, c .before .old-length .ensures, c .if1 .left, e .free) in
     rw (e .entry, set-out (s .old .now) (32 * s .t + freeIn (threadHeld (s .threads .now) (s .t))) _ n)
 
 pub log-line-spec : {M : Type 1} → statement M
@@ -63,7 +63,7 @@ log-line-spec =
     mul-owner
     element-write-owner
     element-write-lock
-    memory-length-requires
+    old-length-requires
     mul-at
     add-at
     line-of-requires
