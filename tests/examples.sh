@@ -73,6 +73,8 @@ for text in ../samples/*.txt; do
     if grep -q '^cut' "$text"; then check "$file" "$("$bin/trace" < "$file" | grep '^M' || true)" "$(found "$file")"; fi
 done
 
+check 'the values of the fences' '1 1 0 0 0 1 1 0' "$("$bin/trace" < ../samples/fence.events | grep '^7' | cut -d ' ' -f 3 | paste -sd ' ')"
+
 # files that end early, and one whose first setup is refused
 for end in 'bytes 4 0 1' 'bytes 9 0 255 1' 'bytes 200'; do
     printf '%s\n' 'setup 9 1' 'setup 2 3' 'begin 1' 'write 1 2 7 18446744073709551615' 'write 1 2 0 1311768467463790320' 'read 1 2 0' 'fence 0' "$end" |

@@ -1,4 +1,4 @@
-/* The cases P1 to P11 of document 01, the 33rd logged line, counting, spent numbers, and the calls' own refusals. */
+/* The cases P1 to P11 of document 01, the 33rd logged line, counting, fences inside a region, spent numbers, and the calls' own refusals. */
 #include <stdio.h>
 #include <string.h>
 
@@ -135,7 +135,6 @@ static void p4_and_p5(void) {
     setup("P4", 1, 1);
     fence(0, 0, 1);
     begin(0, 0, 0);
-    fence(0, 23, 0);
     end(0, 0, 1);
     fence(0, 0, 1);
     run();
@@ -255,6 +254,34 @@ static void counting(void) {
     run();
 }
 
+/* Inside a region, at any depth, a fence looks at the thread's other regions; outside at all of them. */
+static void fences(void) {
+    setup("fence inside a region", 2, 2);
+    begin(0, 0, 0);
+    fence(0, 0, 1);
+    write_word(0, 0, 0, 7, 0);
+    begin(0, 0, 0);
+    fence(0, 0, 1);
+    end(0, 0, 0);
+    fence(0, 0, 1);
+    end(0, 0, 0);
+    fence(0, 0, 0);
+    begin(0, 0, 0); /* the first region waits for its line's log acknowledgement */
+    fence(0, 0, 0);
+    begin(0, 0, 0);
+    fence(0, 0, 0);
+    begin(1, 0, 0);
+    fence(1, 0, 1);
+    log_ack(0, 0, 0);
+    data_ack(0, 0, 1);
+    fence(0, 0, 1);
+    write_word(0, 1, 0, 8, 0);
+    fence(0, 0, 1);
+    cut(0, 2);
+    fence(0, 11, 0);
+    run();
+}
+
 static void numbers_spent(void) {
     static plain_engine e;
     plain_init(&e);
@@ -301,6 +328,7 @@ int main(void) {
     p11();
     logged_33();
     counting();
+    fences();
     numbers_spent();
     calls();
     printf("%u passed, %u failed\n", passed, failed);

@@ -96,6 +96,14 @@ static void note_commits(const plain_engine *e, const uint8_t *record, plain_ans
     else require(commits == 0, "a commit in a step that has none");
 }
 
+/* Every region that the thread opened, other than the one open now, has committed. */
+static int others_committed(uint8_t thread) {
+    int open = history.depth[thread] > 0 ? history.newest[thread] : -1;
+    for (int i = 0; i < history.regions; i++)
+        if (i != open && history.region[i].region.thread == thread && !history.region[i].committed) return 0;
+    return 1;
+}
+
 /* ---- The tables after each event, rule by rule ---- */
 
 static void check_slots(const plain_engine *e, plain_region r, const plain_modified *m, int flights[PLAIN_LINES]) {
@@ -211,6 +219,7 @@ static void try_event(plain_engine *e, const uint8_t *record, size_t length) {
     }
     note_event(record);
     note_commits(e, record, answer);
+    if (record[0] == EVENT_FENCE) require(answer.value == (uint64_t)others_committed(record[1]), "value of the fence");
     check_tables(e);
 }
 

@@ -139,7 +139,6 @@ static uint8_t state_refusal(const plain_engine *e, const event *ev) {
     case EVENT_READ: case EVENT_WRITE: return access_refusal(e, ev);
     case EVENT_LOG_ACK: return e->locked[ev->line] ? 0 : 22;
     case EVENT_DATA_ACK: return e->flight[ev->line].number != 0 ? 0 : 22;
-    case EVENT_FENCE: return e->depth[ev->thread] > 0 ? 23 : 0;
     }
     return 0;
 }
@@ -283,10 +282,11 @@ static uint64_t apply_data_ack(plain_engine *e, uint8_t line) {
     return settle(e, land(e, line));
 }
 
+/* Counts the thread's listed regions: inside an open region there is that one, and 1 means that there is no other. */
 static uint64_t apply_fence(const plain_engine *e, uint8_t thread) {
-    for (uint32_t i = 0; i < e->listed_len; i++)
-        if (e->listed[i].region.thread == thread) return 0;
-    return 1;
+    uint32_t uncommitted = 0;
+    for (uint32_t i = 0; i < e->listed_len; i++) uncommitted += e->listed[i].region.thread == thread;
+    return uncommitted == (e->depth[thread] > 0);
 }
 
 static uint64_t apply(plain_engine *e, const event *ev) {

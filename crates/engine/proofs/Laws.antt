@@ -1,11 +1,10 @@
 -- An event of document 01 from its rule, and its answer.
 use Prim.Native.Nat.{suc, zero, ℕ}
 use mathlib.Core.Path.{_≡_, refl}
-use mathlib.Core.Bool.{cond, true}
+use mathlib.Core.Bool.{true}
 use mathlib.Core.List.{List}
 use lib.ListN.{getD, length}
 use borrow.Author.Tests.{eq-eqb, ne-eqb}
-use Rattle.undo.specs.Table.{any}
 use Rattle.events.specs.Number.{refusalOf}
 use Rattle.rows.specs.Whole.{stepped}
 use Rattle.rules.specs.Access.{read}
@@ -14,7 +13,7 @@ use Rattle.rules.specs.Commit.{settled}
 use Rattle.rules.specs.End.{endRegion, shallower}
 use Rattle.rules.specs.Lists.{count}
 use Rattle.rules.specs.Record.{readRecord}
-use Rattle.rules.specs.Refusal.{depthOf, isOfThread, refusal}
+use Rattle.rules.specs.Refusal.{depthOf, refusal}
 use Rattle.rules.specs.Step.{Stepped, apply, did, fence, settledBoard, step, stepBy, stepEvent}
 use Rattle.rules.specs.Tables.{Board, current, isHeld, lineOf, withCut, withTables}
 use Rattle.rules.specs.declared.Event.{Event}
@@ -53,8 +52,8 @@ module _ (b : Board) where
   unfolding apply
   read-law t l w k v ts ek e ev = rw (← ek, e, ev)
 
-  pub fence-law : (t v : ℕ) → v ≡ cond (any (isOfThread t) (b .tables .regions)) 0 1 → did v b ≡ apply b (Fence t)
-  unfolding apply fence
+  pub fence-law : (t v : ℕ) → v ≡ fence t (b .tables) → did v b ≡ apply b (Fence t)
+  unfolding apply
   fence-law t v e = rw e
 
   pub cut-law : (v : ℕ) (ts : Tables) → v ≡ count isHeld (b .tables .regions) → ts ≡ withCut true (b .tables) → did v (withTables ts b) ≡ apply b Cut

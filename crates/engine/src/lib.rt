@@ -13,18 +13,17 @@ use rules::Reading;
 use rules::Region;
 ghost use Prim.Native.Nat.{_<_};
 ghost use mathlib.Core.Path.{_≡_};
-ghost use mathlib.Core.Bool.{cond, true};
+ghost use mathlib.Core.Bool.{true};
 ghost use lib.ListN.{set};
 ghost use Rattle.measures.specs.Loan.{was};
-ghost use Rattle.undo.specs.Table.{any};
 ghost use Rattle.rules.specs.Tables.{noRegion, withDeps, withKey};
 ghost use Rattle.rules.specs.Begin.{begin, opened};
-ghost use Rattle.rules.specs.Refusal.{isOfThread, refusal};
-ghost use Rattle.rules.specs.Step.{apply, did, step, stepEvent};
+ghost use Rattle.rules.specs.Refusal.{refusal};
+ghost use Rattle.rules.specs.Step.{apply, did, fence, step, stepEvent};
 ghost use Rattle.rules.specs.declared.Event.the-variants.{DataAck, End, LogAck, Read, Setup};
-ghost use Rattle.rows.specs.Row.{regionsOf};
 ghost use Rattle.rows.specs.Whole.{OnTables, stepped, tablesOf};
 ghost use Rattle.tables.specs.Held.{threadHeld};
+ghost use Rattle.refusals.specs.Told.{ByRows};
 ghost use Rattle.ends.specs.Parts.{OnEnd, OnLogAck};
 ghost use Rattle.engine.specs.Parts.{Deepens, OnBoard, OnDataAcked, OnNumbers, OnReadWord};
 
@@ -164,11 +163,16 @@ fn set_up(h: Head, n: u8, l: u16) -> Effect
     }
 }
 
-// The value tells whether every region of the thread has committed.
-fn fence(regions: &Regions, t: u8) -> u64
-    ensures { λ r. ⌜ r ≡ cond (any (isOfThread t) (regionsOf (was regions))) 0 1 ⌝ }
+// The value tells whether every region of the thread, other than the open one, has committed.
+fn fence(threads: &Threads, regions: &Regions, t: u8) -> u64
+    ensures { λ r. ⌜ ((h : Head) → ByRows (fence t) h threads regions r) ⌝ }
 {
-    if tables::has_thread(regions, t) { 0 } else { 1 }
+    let k = tables::open_region(threads, t);
+    if tables::has_other(regions, t, k) {
+        0
+    } else {
+        1
+    }
 }
 
 fn cut(h: Head) -> Head
@@ -229,7 +233,7 @@ fn apply(
         }
         Event::Fence(t) => Effect {
             head: h,
-            value: fence(regions, t),
+            value: fence(threads, regions, t),
         },
         Event::Cut => Effect {
             head: cut(h),

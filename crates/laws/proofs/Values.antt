@@ -13,8 +13,8 @@ use Rattle.laws.proofs.Along.{along}
 use Rattle.laws.proofs.Counts.{count-in, count-not, held-count, settled-held}
 use Rattle.laws.proofs.Current.{value-is}
 use Rattle.laws.proofs.Opened.{opens}
-use Rattle.laws.specs.Laws.{CommitsAddUp, CommittedEnded, CutCounts, FenceTells, valueAfter}
-use Rattle.laws.specs.Words.{opensIn, opensOf, toldIn, toldOf}
+use Rattle.laws.specs.Laws.{CommitsAddUp, CommittedEnded, CutCounts, FenceOutside, FenceTells, valueAfter}
+use Rattle.laws.specs.Words.{isOtherIn, openRegionIn, opensIn, othersOf, toldIn, toldOf}
 use Rattle.rules.proofs.Commits.{CommitsTold, commits-told}
 use Rattle.rules.proofs.Recover.Expected.{committed-done, committed-ended}
 use Rattle.rules.proofs.Lists.{any-at, count-put, count-room, place-lt, place-true}
@@ -35,7 +35,7 @@ use Rattle.rules.specs.History.{Account, Closes, Nothing, Opens, acceptedIn, ac
 use Rattle.rules.specs.Lists.{all, count, place}
 use Rattle.rules.specs.Refusal.{depthOf, isOfThread, refusal, testsOf}
 use Rattle.rules.specs.Run.{run}
-use Rattle.rules.specs.Step.{apply, fence, settledBoard, setup}
+use Rattle.rules.specs.Step.{apply, fence, isOther, openRegion, settledBoard, setup}
 use Rattle.rules.specs.Tables.{Board, Memory, current, fresh, isHeld, isKey, keyOf, lineOf, listed, noRegion, placeOf, regionAt, startLines, threadAt, threadOf, withTables}
 use Rattle.rules.specs.declared.Event.{Event}
 use Rattle.rules.specs.declared.Event.the-variants.{Begin, Cut, DataAck, End, Fence, LogAck, Read, Setup, Write}
@@ -155,28 +155,35 @@ module _ (m : Memory) (rs : List (List ℕ)) (told : CommitsTold m rs) {s : u.St
       held-count (boardAfter m rs .tables .regions) (i .shape .regions .unique) (opens (acceptedIn m rs) (i .told .numbers) .1) in-list
       ∙ sym (count-in (λ k. not (committed m rs k)) (λ k. listed k (boardAfter m rs .tables .regions)) (opensIn (acceptedIn m rs)) uncommitted)
 
-  fence-value : (t : ℕ) → fence t (boardAfter m rs .tables) ≡ cond (all (committed m rs) (opensOf t (acceptedIn m rs))) 1 0
+  same-open : (t : ℕ) → openRegion t (boardAfter m rs .tables) ≡ openRegionIn t (acceptedIn m rs)
+  same-open t = rw (i .told .depth t, i .told .last t)
+
+  fence-value : (t : ℕ) → fence t (boardAfter m rs .tables) ≡ cond (all (committed m rs) (othersOf t (acceptedIn m rs))) 1 0
   unfolding fence
   fence-value t =
-      test (any (isOfThread t) (boardAfter m rs .tables .regions))
-      (λ a. let j : ℕ = place (isOfThread t) (boardAfter m rs .tables .regions) in
+      rw (same-open t)
+      (let o : ℕ = openRegionIn t (acceptedIn m rs) in
+      let other : ℕ → Bool = isOtherIn t (acceptedIn m rs) in
+      test (any (isOther t o) (boardAfter m rs .tables .regions))
+      (λ a. let j : ℕ = place (isOther t o) (boardAfter m rs .tables .regions) in
       let r : Region = getD (boardAfter m rs .tables .regions) j noRegion in
-      let z = and-true (isHeld r) (eqb (threadOf (r .key)) t) (place-true (isOfThread t) (boardAfter m rs .tables .regions) noRegion a) in
+      let y = and-true (isOfThread t r) (not (isKey o r)) (place-true (isOther t o) (boardAfter m rs .tables .regions) noRegion a) in
+      let z = and-true (isHeld r) (eqb (threadOf (r .key)) t) (y .0) in
       let li : listed (r .key) (boardAfter m rs .tables .regions) ≡ true
       = listed-at j (boardAfter m rs .tables .regions) (eqb-false (r .key) 0 (not-true (eqb (r .key) 0) (z .0)))
-      (place-lt (isOfThread t) (boardAfter m rs .tables .regions) a) in
+      (place-lt (isOther t o) (boardAfter m rs .tables .regions) a) in
       let op = in-list (r .key) li in
       let nc : committed m rs (r .key) ≡ false = not-true (committed m rs (r .key)) (uncommitted (r .key) op ∙ li) in
-      rw (a, some-fail (committed m rs) (λ k. eqb (threadOf k) t) (opensIn (acceptedIn m rs)) (r .key) op (z .1) nc))
-      (λ a. test (all (committed m rs) (opensOf t (acceptedIn m rs)))
+      rw (a, some-fail (committed m rs) other (opensIn (acceptedIn m rs)) (r .key) op (rw (z .1) (y .1)) nc))
+      (λ a. test (all (committed m rs) (othersOf t (acceptedIn m rs)))
       (λ c. rw (a, c))
-      (λ c. let z = which-fails (committed m rs) (λ k. eqb (threadOf k) t) (opensIn (acceptedIn m rs)) c in
+      (λ c. let z = which-fails (committed m rs) other (opensIn (acceptedIn m rs)) c in
       let li : listed (z .0) (boardAfter m rs .tables .regions) ≡ true = sym (uncommitted (z .0) (z .1)) ∙ rw (z .3) in
-      let q : isOfThread t (regionAt (z .0) (boardAfter m rs .tables .regions)) ≡ true
+      let q : isOther t o (regionAt (z .0) (boardAfter m rs .tables .regions)) ≡ true
       = rw (key-at (z .0) (boardAfter m rs .tables .regions) li, listed-key (z .0) (boardAfter m rs .tables .regions) li) (z .2) in
       never
-      (any-at (isOfThread t) (boardAfter m rs .tables .regions) (placeOf (z .0) (boardAfter m rs .tables .regions)) noRegion
-      (place-listed (z .0) (boardAfter m rs .tables .regions) li) q) a))
+      (any-at (isOther t o) (boardAfter m rs .tables .regions) (placeOf (z .0) (boardAfter m rs .tables .regions)) noRegion
+      (place-listed (z .0) (boardAfter m rs .tables .regions) li) q) a)))
 
 pub cut-counts : CutCounts
 unfolding apply
@@ -189,8 +196,20 @@ pub fence-tells : FenceTells
 unfolding apply
 fence-tells m rs bm br r t a = go (every m rs bm br .simulated)
   where
-    go : Simulated m (boardAfter m rs) (acceptedIn m rs) → valueAfter m rs r ≡ cond (all (committed m rs) (opensOf t (acceptedIn m rs))) 1 0
+    go : Simulated m (boardAfter m rs) (acceptedIn m rs) → valueAfter m rs r ≡ cond (all (committed m rs) (othersOf t (acceptedIn m rs))) 1 0
     go (by s h rc i) = value-is (boardAfter m rs) r (Fence t) (a .is) (a .unrefused) .0 ∙ fence-value m rs (commits-told m rs bm br) rc i t
+
+-- no region has the key 0, so at depth 0 none is left out
+any-of-thread : (t : ℕ) (rs : List Region) → any (isOther t 0) rs ≡ any (isOfThread t) rs
+any-of-thread t [] = refl
+any-of-thread t (r ∷ rs) =
+    test (eqb (r .key) 0)
+    (λ e. rw (e, any-of-thread t rs))
+    (λ e. test (eqb (threadOf (r .key)) t) (λ o. rw (e, o)) (λ o. rw (e, o, any-of-thread t rs)))
+
+pub fence-outside : FenceOutside
+unfolding fence
+fence-outside t ts e = rw (e, any-of-thread t (ts .regions))
 
 pub commits-add-up : CommitsAddUp
 commits-add-up m rs bm br = go (every m rs bm br .simulated)

@@ -1,4 +1,4 @@
--- Laws about the board, each for every starting memory and every list of event records of any content. Their proofs stand in proofs/.
+-- Laws about the board, each for every starting memory and every list of event records of any content, or on any tables. Their proofs stand in proofs/.
 use Prim.Native.Nat.{ℕ}
 use mathlib.Core.Path.{_≡_}
 use mathlib.Core.Logic.{_≢_}
@@ -6,14 +6,15 @@ use mathlib.Core.Bool.{_&&_, _||_, cond, false, not, true}
 use mathlib.Core.List.{List}
 use lib.Dec.{eqb}
 use lib.ListN.{getD}
-use Rattle.laws.specs.Words.{allApplied, opensIn, opensOf, toldIn}
+use Rattle.laws.specs.Words.{allApplied, opensIn, othersOf, toldIn}
 use Rattle.rules.specs.Claim.{boardAfter, isByte, isByteMemory}
 use Rattle.rules.specs.History.{acceptedIn, committed, endsIn, writesIn}
 use Rattle.rules.specs.Lists.{all, count}
 use Rattle.rules.specs.Record.{readRecord}
+use Rattle.rules.specs.Refusal.{depthOf, isOfThread}
 use Rattle.rules.specs.Run.{run}
 use Rattle.rules.specs.Slots.{hasSlot}
-use Rattle.rules.specs.Step.{step}
+use Rattle.rules.specs.Step.{fence, step}
 use Rattle.rules.specs.Tables.{Board, Memory, fresh, lineOf, listed, noRegion, noSlot, startLines}
 use Rattle.rules.specs.declared.Event.{Event}
 use Rattle.rules.specs.declared.Event.the-variants.{Cut, Fence, Read}
@@ -21,7 +22,8 @@ use Rattle.rules.specs.declared.Reading.the-variants.{Whole}
 use Rattle.rules.specs.declared.Region.{Region}
 use Rattle.rules.specs.declared.Slot.{Slot}
 use Rattle.rules.specs.declared.SlotState.the-variants.{InFlight, Waiting}
-use Rattle.undo.specs.Table.{isIn}
+use Rattle.rules.specs.declared.Tables.{Tables}
+use Rattle.undo.specs.Table.{any, isIn}
 use Rattle.rules.specs.Measures.{ripeCount}
 
 -- of every list of records over every memory
@@ -77,9 +79,14 @@ abbrev pub CutCounts : Type 0
 CutCounts = Always (λ m rs. (r : List ℕ) → Accepts m rs r Cut → valueAfter m rs r ≡ count (λ k. not (committed m rs k)) (opensIn (acceptedIn m rs)))
 
 -- "Fence gives 1 if the thread has no uncommitted region (also if it never began one), else 0"
+-- request 3: "A fence inside an open region now gives 1 exactly when the thread has no uncommitted region other than the open one"
 abbrev pub FenceTells : Type 0
 FenceTells = Always (λ m rs. (r : List ℕ) (t : ℕ) → Accepts m rs r (Fence t)
-    → valueAfter m rs r ≡ cond (all (committed m rs) (opensOf t (acceptedIn m rs))) 1 0)
+    → valueAfter m rs r ≡ cond (all (committed m rs) (othersOf t (acceptedIn m rs))) 1 0)
+
+-- at depth 0 a fence is document 01's, on any tables
+abbrev pub FenceOutside : Type 0
+FenceOutside = (t : ℕ) (ts : Tables) → depthOf t ts ≡ 0 → fence t ts ≡ cond (any (isOfThread t) (ts .regions)) 0 1
 
 -- ".. of every other event the number of regions committed in that step": over every list they add up to the number of committed regions, so that each
 -- value is what its step adds

@@ -1,10 +1,10 @@
 -- The words of the laws, by the list of events and its answers alone. A list of events stands newest first: what is behind an event came before it.
 use Prim.Native.Nat.{_+_, ℕ}
-use mathlib.Core.Bool.{cond}
+use mathlib.Core.Bool.{Bool, _&&_, cond, not}
 use mathlib.Core.List.{List, [], _∷_}
 use lib.Dec.{eqb}
 use Rattle.rules.specs.Access.{changeLine}
-use Rattle.rules.specs.History.{Account, Change, Closes, Cuts, Nothing, Opens, Sets, Stores, Uses, depthIn, openedIn}
+use Rattle.rules.specs.History.{Account, Change, Closes, Cuts, Nothing, Opens, Sets, Stores, Uses, depthIn, openedIn, regionIn}
 use Rattle.rules.specs.Record.{readRecord}
 use Rattle.rules.specs.Tables.{keyOf, threadOf}
 use Rattle.rules.specs.declared.Answer.{Answer}
@@ -36,9 +36,17 @@ unfoldable pub opensIn : List Account → List ℕ
 opensIn [] = []
 opensIn (e ∷ es) = openOf e es (opensIn es)
 
--- those of a thread
-abbrev pub opensOf : ℕ → List Account → List ℕ
-opensOf t es = keep (λ k. eqb (threadOf k) t) (opensIn es)
+-- the thread's region that is open now; 0 at depth 0
+abbrev pub openRegionIn : ℕ → List Account → ℕ
+openRegionIn t es = cond (eqb (depthIn t es) 0) 0 (regionIn t es)
+
+-- a region of the thread other than that one
+abbrev pub isOtherIn : ℕ → List Account → ℕ → Bool
+isOtherIn t es k = eqb (threadOf k) t && not (eqb k (openRegionIn t es))
+
+-- the regions that the thread opened, other than the one open now
+abbrev pub othersOf : ℕ → List Account → List ℕ
+othersOf t es = keep (isOtherIn t es) (opensIn es)
 
 -- ---- "The value of a read is the word, of a cut .., of setup 0, of a fence its 1 or 0, of every other event the number of regions committed in that step"
 

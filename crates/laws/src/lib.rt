@@ -3,7 +3,7 @@
 ghost use Rattle.laws.specs.Bench.{BenchRecovers};
 ghost use Rattle.laws.specs.Causes.{CausesMatter};
 ghost use Rattle.laws.specs.Images.{FinishedLast, RecoveryAnswers, WalkWhole};
-ghost use Rattle.laws.specs.Laws.{CommitsAddUp, CommittedEnded, CutCounts, FenceTells, NothingLeft, OneFlight, ReadGives};
+ghost use Rattle.laws.specs.Laws.{CommitsAddUp, CommittedEnded, CutCounts, FenceOutside, FenceTells, NothingLeft, OneFlight, ReadGives};
 
 // Between two events nothing is left over: no slot that could fly waits, every ended region without slots is done, no done region without dependences is listed.
 pub fn nothing_is_left()
@@ -30,9 +30,14 @@ pub fn cut_counts()
     ensures { λ r. ⌜ CutCounts ⌝ }
 {}
 
-// A fence gives 1 exactly when every region of its thread is committed.
+// A fence gives 1 exactly when every region that its thread opened, other than the one open now, is committed.
 pub fn fence_tells()
     ensures { λ r. ⌜ FenceTells ⌝ }
+{}
+
+// Outside a region a fence is what document 01 says, on any tables.
+pub fn fence_outside()
+    ensures { λ r. ⌜ FenceOutside ⌝ }
 {}
 
 // The committed regions are the ended ones that are listed no more.

@@ -27,7 +27,7 @@ ghost use Rattle.undo.specs.Table.{any};
 ghost use Rattle.rules.specs.Access.{isOf};
 ghost use Rattle.rules.specs.Refusal.{firstBad, fits, inRange, refusal, testsOf};
 ghost use Rattle.rules.specs.declared.Tables.{Tables};
-ghost use Rattle.rules.specs.declared.Event.the-variants.{Begin, Cut, DataAck, End, Fence, LogAck, Read, Setup, Write};
+ghost use Rattle.rules.specs.declared.Event.the-variants.{Begin, Cut, DataAck, End, LogAck, Read, Setup, Write};
 ghost use Rattle.rows.specs.Row.{regionsOf, threadOf};
 ghost use Rattle.rows.specs.Whole.{tablesOf};
 ghost use Rattle.tables.specs.Held.{threadHeld};
@@ -140,7 +140,7 @@ fn lacks_entry(threads: &Threads, t: u8, logs: bool) -> bool
 
 // ---- tests that several events share: those of one event before a number
 
-// Setup, thread and cut: begin, end and fence.
+// Setup, thread and cut: begin and end, and all tests of a fence.
 fn thread_refusal(h: Head, t: u8) -> u8
     ensures { λ r. ⌜ ByHead (λ ts. firstBad (before 12 (testsOf ts (End t)))) h r ⌝ }
 {
@@ -333,17 +333,6 @@ fn data_ack_refusal(h: Head, regions: &Regions, l: u8) -> u8
     if place < MOST_REGIONS { 0 } else { 22 }
 }
 
-fn fence_refusal(h: Head, threads: &Threads, t: u8) -> u8
-    ensures { λ r. ⌜ ByThreads (λ ts. refusal ts (Fence t)) h threads r ⌝ }
-{
-    let c = thread_refusal(h, t);
-    if c != 0 {
-        return c;
-    }
-    let depth = tables::depth_of(threads, t);
-    if depth == 0 { 0 } else { 23 }
-}
-
 fn cut_refusal(h: Head) -> u8
     ensures { λ r. ⌜ ByHead (λ ts. refusal ts Cut) h r ⌝ }
 {
@@ -375,7 +364,7 @@ pub fn refusal(
         Event::Write(t, l, w, _) => write_refusal(h, threads, regions, owner, lock, t, l, w),
         Event::LogAck(l) => log_ack_refusal(h, lock, l),
         Event::DataAck(l) => data_ack_refusal(h, regions, l),
-        Event::Fence(t) => fence_refusal(h, threads, t),
+        Event::Fence(t) => thread_refusal(h, t),
         Event::Cut => cut_refusal(h),
     }
 }

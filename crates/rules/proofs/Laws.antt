@@ -37,10 +37,10 @@ pub refusal-leaves : (b : Board) (bs : List ℕ) → step b bs .answer .refusal 
 unfolding step
 refusal-leaves b bs n = read-leaves b (readRecord bs) n
 
--- ---- "Refused because of the input" gives an event 1 to 6, "Refused because of the state" 11 to 23
+-- ---- "Refused because of the input" gives an event 1 to 6, "Refused because of the state" 11 to 22
 
 abbrev pub isAnswer : ℕ → Bool
-isAnswer n = leb n 6 || (leb 11 n && leb n 23)
+isAnswer n = leb n 6 || (leb 11 n && leb n 22)
 
 first-answer : (ts : List Test) → all (λ t. isAnswer (t .code)) ts ≡ true → isAnswer (firstBad ts) ≡ true
 first-answer [] e = refl

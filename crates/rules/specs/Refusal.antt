@@ -1,4 +1,5 @@
--- "Refused because of the input" (6, 3, 4, 5) and "Refused because of the state" (11 to 23): for each event its tests, in the order of document 01.
+-- "Refused because of the input" (6, 3, 4, 5) and "Refused because of the state" (11 to 22): for each event its tests, in the order of document 01.
+-- Request 3: "Refusal 23 no longer occurs."
 use Prim.Native.Nat.{_*_, ℕ}
 use mathlib.Core.Bool.{Bool, _&&_, _||_, cond, not}
 use mathlib.Core.List.{List, [], _∷_}
@@ -108,12 +109,7 @@ testsOf ts (LogAck l) =
     refuse 6 (not (isSetUp ts)) ∷ refuse 4 (leb (ts .size .lines) l) ∷ refuse 11 (ts .cut) ∷ refuse 22 (not (locked l ts)) ∷ []
 testsOf ts (DataAck l) =
     refuse 6 (not (isSetUp ts)) ∷ refuse 4 (leb (ts .size .lines) l) ∷ refuse 11 (ts .cut) ∷ refuse 22 (not (inFlight l ts)) ∷ []
-testsOf ts (Fence t) =
-    refuse 6 (not (isSetUp ts))
-    ∷ refuse 3 (leb (ts .size .threads) t)
-    ∷ refuse 11 (ts .cut)
-    ∷ refuse 23 (not (eqb (depthOf t ts) 0))
-    ∷ []
+testsOf ts (Fence t) = refuse 6 (not (isSetUp ts)) ∷ refuse 3 (leb (ts .size .threads) t) ∷ refuse 11 (ts .cut) ∷ []
 testsOf ts Cut = refuse 6 (not (isSetUp ts)) ∷ refuse 11 (ts .cut) ∷ []
 
 unfoldable pub refusal : Tables → Event → ℕ

@@ -1,6 +1,6 @@
 -- A step: what an accepted event does and the value of its answer; a refusal changes nothing and has the value 0.
 use Prim.Native.Nat.{suc, zero, ℕ}
-use mathlib.Core.Bool.{cond, true}
+use mathlib.Core.Bool.{Bool, _&&_, cond, not, true}
 use mathlib.Core.List.{List}
 use lib.Dec.{eqb}
 use lib.ListN.{getD, length}
@@ -12,12 +12,13 @@ use Rattle.rules.specs.End.{endRegion, shallower}
 use Rattle.rules.specs.Lists.{count}
 use Rattle.rules.specs.Record.{readRecord}
 use Rattle.rules.specs.Refusal.{depthOf, isOfThread, refusal}
-use Rattle.rules.specs.Tables.{Board, current, isHeld, lineOf, withCut, withNumbers, withSize, withTables}
+use Rattle.rules.specs.Tables.{Board, current, isHeld, isKey, lineOf, withCut, withNumbers, withSize, withTables}
 use Rattle.rules.specs.declared.Answer.{Answer}
 use Rattle.rules.specs.declared.Event.{Event}
 use Rattle.rules.specs.declared.Event.the-variants.{Begin, Cut, DataAck, End, Fence, LogAck, Read, Setup, Write}
 use Rattle.rules.specs.declared.Reading.{Reading}
 use Rattle.rules.specs.declared.Reading.the-variants.{Refused, Whole}
+use Rattle.rules.specs.declared.Region.{Region}
 use Rattle.rules.specs.declared.Tables.{Tables}
 use Rattle.undo.specs.Table.{any}
 
@@ -37,9 +38,18 @@ settledBoard b = did (length (settled (b .tables) .keys)) (withTables (settled (
 unfoldable pub setup : ℕ → ℕ → Tables → Tables
 setup n l ts = withSize (withNumbers n l (ts .size)) ts
 
+-- the key of the thread's open region; 0 at depth 0
+abbrev pub openRegion : ℕ → Tables → ℕ
+openRegion t ts = cond (eqb (depthOf t ts) 0) 0 (current t ts)
+
+-- an uncommitted region of the thread other than k
+abbrev pub isOther : ℕ → ℕ → Region → Bool
+isOther t k r = isOfThread t r && not (isKey k r)
+
 -- "Fence gives 1 if the thread has no uncommitted region (also if it never began one), else 0"
+-- request 3: "A fence inside an open region now gives 1 exactly when the thread has no uncommitted region other than the open one"
 unfoldable pub fence : ℕ → Tables → ℕ
-fence t ts = cond (any (isOfThread t) (ts .regions)) 0 1
+fence t ts = cond (any (isOther t (openRegion t ts)) (ts .regions)) 0 1
 
 -- what an accepted event does; after a cut nothing but an image can be had. A begin, a read and a write make no region done and commit none
 unfoldable pub apply : Board → Event → Did

@@ -18,6 +18,7 @@ ghost use Rattle.rules.specs.Tables.{isHeld, keyOf, listed, placeOf};
 ghost use Rattle.rules.specs.Slots.{carries, isFull, slotFor};
 ghost use Rattle.rules.specs.Acknowledge.{flightPlace, kept, landed};
 ghost use Rattle.rules.specs.Refusal.{isModified, isOfThread, noRoomForDep};
+ghost use Rattle.rules.specs.Step.{isOther};
 ghost use Rattle.measures.specs.Loan.{left, was};
 ghost use Rattle.rows.specs.Row.{regionsOf, threadsOf};
 ghost use Rattle.rows.specs.Whole.{OnFlight};
@@ -142,14 +143,25 @@ fn is_of_thread(regions: &Regions, i: usize, t: u8) -> bool
     key / NUMBERS == t as u32
 }
 
-// Whether thread t has an uncommitted region.
-pub fn has_thread(regions: &Regions, t: u8) -> bool
-    ensures { λ r. ⌜ r ≡ any (isOfThread t) (regionsOf (was regions)) ⌝ }
+// Whether the place holds a region of thread t other than k. The thread is asked for first: it differs at most places.
+fn is_other(regions: &Regions, i: usize, t: u8, k: u32) -> bool
+    ensures { λ b. ⌜ b ≡ isOther t k (regionHeld (was regions) i) ⌝ }
+{
+    let key = key_at(regions, i);
+    if key / NUMBERS != t as u32 {
+        return false;
+    }
+    if key == k { false } else { key != 0 }
+}
+
+// Whether thread t has an uncommitted region other than k.
+pub fn has_other(regions: &Regions, t: u8, k: u32) -> bool
+    ensures { λ r. ⌜ r ≡ any (isOther t k) (regionsOf (was regions)) ⌝ }
 {
     rows::regions_length(regions);
     let mut i: usize = 0;
     while i < MOST_REGIONS {
-        if is_of_thread(regions, i, t) {
+        if is_other(regions, i, t, k) {
             return true;
         }
         i += 1;
@@ -297,6 +309,17 @@ pub fn current(threads: &Threads, t: u8) -> u32
     ensures { λ r. ⌜ r ≡ keyOf t (threadHeld (was threads) t .last) ⌝ }
 {
     NUMBERS * (t as u32) + (last_of(threads, t) as u32)
+}
+
+// The key of thread t's open region; 0 at depth 0.
+pub fn open_region(threads: &Threads, t: u8) -> u32
+    ensures { λ r. ⌜ r ≡ cond (eqb (threadHeld (was threads) t .depth) 0) 0 (keyOf t (threadHeld (was threads) t .last)) ⌝ }
+{
+    if depth_of(threads, t) == 0 {
+        0
+    } else {
+        current(threads, t)
+    }
 }
 
 // Thread t gets the depth d and the last number n; behind the list nothing changes.

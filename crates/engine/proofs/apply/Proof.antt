@@ -65,8 +65,8 @@ cut-requires c κs = search needs
 count-held-requires : tie.Need-count-held-requires
 count-held-requires c κs = search needs
 
-cast-t64 : tie.Need-cast-t64
-cast-t64 c = search needs
+cast-t65 : tie.Need-cast-t65
+cast-t65 c = search needs
 
 returns : tie.Need-returns
 returns c = let s = c .before .before .before .before .args in rw (c .before .before .e .given .1) (c .set-up .ensures (s .threads .now) (s .regions .now) (s .owner .now) (s .lock .now) (s .cur .now) (s .med .now) (s .old .now) (s .car .now))
@@ -91,7 +91,7 @@ returns-7 : tie.Need-returns-7
 returns-7 c = let s = c .before .before .before .before .before .before .before .before .args in rw (c .before .before .before .before .before .before .e7 .given .1) (c .data-acked .ensures (s .h) (s .owner .now) (s .lock .now) (s .cur .now) (s .old .now))
 
 returns-8 : tie.Need-returns-8
-returns-8 c = let s = c .before .before .before .before .before .args in rw (c .before .before .before .e8 .given .1) (fence-law (boardOf (s .h) (s .threads .now) (s .regions .now) (s .owner .now) (s .lock .now) (s .cur .now) (s .med .now) (s .old .now) (s .car .now)) _ _ (c .fence .ensures))
+returns-8 c = let s = c .before .before .before .before .before .before .args in rw (c .before .before .before .before .e8 .given .1) (fence-law (boardOf (s .h) (s .threads .now) (s .regions .now) (s .owner .now) (s .lock .now) (s .cur .now) (s .med .now) (s .old .now) (s .car .now)) _ _ (c .fence .ensures (s .h) (s .owner .now) (s .lock .now)))
 
 returns-9 : tie.Need-returns-9
 returns-9 c = let s = c .before .before .before .before .before .args in rw (c .before .before .before .enum-told .given .1, c .before .before .cut .ensures) (cut-law (boardOf (s .h) (s .threads .now) (s .regions .now) (s .owner .now) (s .lock .now) (s .cur .now) (s .med .now) (s .old .now) (s .car .now)) _ _ (c .count-held .ensures) refl)
@@ -119,7 +119,7 @@ apply-spec =
     enum-told
     cut-requires
     count-held-requires
-    cast-t64
+    cast-t65
     returns
     returns-2
     returns-3

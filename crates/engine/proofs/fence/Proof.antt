@@ -1,15 +1,21 @@
 use borrow.Author.Needs.{needs}
+use Rattle.rules.specs.Step.{fence}
 use Rattle.engine.proofs.fence.Statement.{statement}
 use Rattle.engine.proofs.fence.Tie as tie
 
-has-thread-requires : tie.Need-has-thread-requires
-has-thread-requires c κs = search needs
+open-region-requires : tie.Need-open-region-requires
+open-region-requires c κs = search needs
+
+has-other-requires : tie.Need-has-other-requires
+has-other-requires c κs = search needs
 
 returns : tie.Need-returns
-returns c = rw (← c .before .has-thread .ensures, c .if1 .taken)
+unfolding fence
+returns c = λ h owner lock. rw (← c .before .before .open-region .ensures, ← c .before .has-other .ensures, c .if1 .taken)
 
 returns-2 : tie.Need-returns-2
-returns-2 c = rw (← c .before .has-thread .ensures, c .if1 .left)
+unfolding fence
+returns-2 c = λ h owner lock. rw (← c .before .before .open-region .ensures, ← c .before .has-other .ensures, c .if1 .left)
 
 pub fence-spec : {M : Type 1} → statement M
-fence-spec = tie.close (tie.spec has-thread-requires returns returns-2)
+fence-spec = tie.close (tie.spec open-region-requires has-other-requires returns returns-2)

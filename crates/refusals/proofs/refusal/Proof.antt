@@ -1,5 +1,6 @@
 use mathlib.Core.Path.{refl}
 use borrow.Author.Needs.{needs}
+use Rattle.rules.specs.Refusal.{refusal, testsOf}
 use Rattle.refusals.proofs.refusal.Statement.{statement}
 use Rattle.refusals.proofs.refusal.Tie as tie
 
@@ -48,8 +49,8 @@ data-ack-refusal-requires c κs = search needs
 enum-known-e-8 : tie.Need-enum-known-e-8
 enum-known-e-8 c = search needs
 
-fence-refusal-requires : tie.Need-fence-refusal-requires
-fence-refusal-requires c κs = search needs
+thread-refusal-requires : tie.Need-thread-refusal-requires
+thread-refusal-requires c κs = search needs
 
 enum-told : tie.Need-enum-told
 enum-told c = search needs
@@ -79,7 +80,8 @@ returns-7 : tie.Need-returns-7
 returns-7 c = let s = c .before .before .before .before .args in rw (c .before .before .e7 .given .1) (c .data-ack-refusal .ensures (s .threads .now) (s .owner .now) (s .lock .now))
 
 returns-8 : tie.Need-returns-8
-returns-8 c = let s = c .before .before .before .before .args in rw (c .before .before .e8 .given .1) (c .fence-refusal .ensures (s .regions .now) (s .owner .now) (s .lock .now))
+unfolding refusal testsOf
+returns-8 c = let s = c .before .before .before .before .args in rw (c .before .before .e8 .given .1) (c .thread-refusal .ensures (s .threads .now) (s .regions .now) (s .owner .now) (s .lock .now))
 
 returns-9 : tie.Need-returns-9
 returns-9 c = let s = c .before .before .before .args in rw (c .before .enum-told .given .1) (c .cut-refusal .ensures (s .threads .now) (s .regions .now) (s .owner .now) (s .lock .now))
@@ -103,7 +105,7 @@ refusal-spec =
     enum-known-e-7
     data-ack-refusal-requires
     enum-known-e-8
-    fence-refusal-requires
+    thread-refusal-requires
     enum-told
     cut-refusal-requires
     returns
