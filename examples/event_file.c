@@ -4,11 +4,13 @@
 #include <inttypes.h>
 #include <stdlib.h>
 
-enum { KINDS = 9, SETUP = 0, MOST_THREADS = 8 };
+enum { KINDS = 11, SETUP = 0, MOST_THREADS = 8 };
 
-/* By kind: the word of the readable form, how many numbers of one byte the body begins with, and the width of the number behind them. */
+/* By kind: the word of the readable form, how many numbers of one byte the body begins with, and the width of the number behind them. Number 9 is no
+   kind's and has no word. */
 static const struct { const char *word; uint8_t bytes, last; } forms[KINDS] = {
     {"setup", 1, 2}, {"begin", 1, 0}, {"end", 1, 0}, {"read", 3, 0}, {"write", 3, 8}, {"log-ack", 1, 0}, {"data-ack", 1, 0}, {"fence", 1, 0}, {"cut", 0, 0},
+    [10] = {"write-bytes", 4, 8},
 };
 
 uint64_t number_at(const uint8_t *bytes, size_t width) {
@@ -39,7 +41,7 @@ uint8_t *read_file(const char *name, size_t *length) {
 }
 
 size_t record_length(const uint8_t *bytes, size_t length) {
-    if (length == 0 || bytes[0] >= KINDS) return 0;
+    if (length == 0 || bytes[0] >= KINDS || forms[bytes[0]].word == NULL) return 0;
     size_t whole = (size_t)1 + forms[bytes[0]].bytes + forms[bytes[0]].last;
     return length < whole ? 0 : whole;
 }

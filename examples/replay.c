@@ -10,7 +10,7 @@
 #include "../include/board.h"
 #include "event_file.h"
 
-enum { ANSWER_BYTES = 9, REFUSALS = 23 };
+enum { ANSWER_BYTES = 9, REFUSALS = 28 };
 
 /* The refusals that an event can get; docs/BENCH.md has the table. */
 static const char *const refusal_words[REFUSALS] = {
@@ -32,6 +32,7 @@ static const char *const refusal_words[REFUSALS] = {
     [20] = "new slot and eight held",
     [21] = "new log entry and 32 held",
     [22] = "nothing in flight",
+    [27] = "mask 0",
 };
 
 /* The bytes of a file. */

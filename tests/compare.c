@@ -1,5 +1,5 @@
 /* compare SEED LISTS: the proved engine against the plain one, on random event files, valid and damaged: answers, images, images after
-   every recovery step, places, refusals of short buffers and of damaged images. The last line is 'N passed, M failed'. */
+   every recovery step, places, refusals of short buffers and of damaged images; and on every mask. The last line is 'N passed, M failed'. */
 #include <stdio.h>
 #include <stdlib.h>
 #include <string.h>
@@ -131,9 +131,27 @@ static void compare_small(void) {
         check(agree(board_recovery_step(image[0], 3, place, n), plain_recovery_step(image[1], 3, place, n)), "place of another length", n);
 }
 
+/* A write of bytes with every mask, each of thread, line and word in range or just above it; before setup, outside a region, inside one, after a cut.
+   The word is read behind it. */
+static void compare_masks(void) {
+    static const uint8_t front[] = {EVENT_SETUP, 1, 1, 0, EVENT_BEGIN, 0, EVENT_CUT};
+    static const size_t lengths[] = {0, 4, 6, 7};
+    for (size_t i = 0; i < PLAIN_LINE_BYTES; i++) memory[i] = (uint8_t)(16 + i);
+    for (unsigned mask = 0; mask < 256; mask++)
+        for (unsigned above = 0; above < 8; above++)
+            for (size_t f = 0; f < sizeof lengths / sizeof lengths[0]; f++) {
+                uint8_t thread = above & 1, line = above >> 1 & 1, word = above >> 2 & 1 ? PLAIN_WORDS : 3;
+                const uint8_t records[] = {EVENT_WRITE_BYTES, thread, line, word, (uint8_t)mask, 1, 2, 3, 4, 5, 6, 7, 8, EVENT_READ, 0, 0, 3};
+                memcpy(file, front, lengths[f]);
+                memcpy(file + lengths[f], records, sizeof records);
+                compare_answers(lengths[f] + sizeof records, PLAIN_LINE_BYTES, sizeof answers[0], mask);
+            }
+}
+
 int main(int argc, char **argv) {
     unsigned long long seed = argc > 1 ? strtoull(argv[1], NULL, 10) : 1, lists = argc > 2 ? strtoull(argv[2], NULL, 10) : 500;
     compare_small();
+    compare_masks();
     for (unsigned long long i = 0; i < lists; i++) compare_file(seed + i);
     printf("%llu passed, %llu failed\n", passed, failed);
     return failed != 0;

@@ -74,9 +74,11 @@ for text in ../samples/*.txt; do
 done
 
 check 'the values of the fences' '1 1 0 0 0 1 1 0' "$("$bin/trace" < ../samples/fence.events | grep '^7' | cut -d ' ' -f 3 | paste -sd ' ')"
+check 'writes of bytes, what is read, and what recovery finds' '10 0 0, 10 27 0, 10 17 0, 10 0 0, 3 0 78644200, 10 0 0, 3 0 4294902760, M 0 0 1000' \
+    "$("$bin/trace" < ../samples/bytes.events | grep -E '^(10|3|M) ' | paste -sd , | sed 's/,/, /g')"
 
 # files that end early, and one whose first setup is refused
-for end in 'bytes 4 0 1' 'bytes 9 0 255 1' 'bytes 200'; do
+for end in 'bytes 4 0 1' 'bytes 9 0 255 1' 'bytes 10 1 2 0 3 1 2 0 0 0 0 0' 'bytes 11 1 2 0 3 1 2 0 0 0 0 0 0' 'bytes 200'; do
     printf '%s\n' 'setup 9 1' 'setup 2 3' 'begin 1' 'write 1 2 7 18446744073709551615' 'write 1 2 0 1311768467463790320' 'read 1 2 0' 'fence 0' "$end" |
         "$bin/tobytes" > "$scratch/damaged"
     replay_file "$scratch/damaged"
@@ -98,19 +100,25 @@ in_parts() {
     done
 }
 
-# a file read through a pipe in parts gives what it gives at once: P1 byte by byte, and one above 200 KB, whose parts end inside records
-for size in 1 2 5 13; do
-    check "p1 in parts of $size" "$("$bin/trace" < ../samples/p1.events)" "$(in_parts ../samples/p1.events "$size" | "$bin/trace")"
-    check "p1 as text in parts of $size" "$("$bin/totext" < ../samples/p1.events)" "$(in_parts ../samples/p1.events "$size" | "$bin/totext")"
+# a file read through a pipe in parts gives what it gives at once: two samples byte by byte, and one above 200 KB, whose parts end inside records
+for name in p1 bytes; do
+    for size in 1 2 5 13; do
+        file=../samples/$name.events
+        check "$name in parts of $size" "$("$bin/trace" < "$file")" "$(in_parts "$file" "$size" | "$bin/trace")"
+        check "$name as text in parts of $size" "$("$bin/totext" < "$file")" "$(in_parts "$file" "$size" | "$bin/totext")"
+    done
 done
 {
     echo 'setup 2 9'
-    for n in $(seq 1 6000); do printf 'begin 1\nwrite 1 %d 3 %d\nlog-ack %d\nread 1 %d 3\nend 1\ndata-ack %d\nwrite 0 1 1 1\n' $((n % 9)) "$n" $((n % 9)) $((n % 9)) $((n % 9)); done
+    for n in $(seq 1 6000); do
+        l=$((n % 9))
+        printf 'begin 1\nwrite 1 %d 3 %d\nwrite-bytes 1 %d 3 128 %d\nlog-ack %d\nread 1 %d 3\nend 1\ndata-ack %d\nwrite 0 1 1 1\n' $l "$n" $l $((n + 1)) $l $l $l
+    done
     printf 'cut\nbytes 4 0 0\n'
 } > "$scratch/long.txt"
 "$bin/tobytes" < "$scratch/long.txt" > "$scratch/long"
 check 'the long file is above 200 KB' yes "$([ "$(wc -c < "$scratch/long")" -gt 200000 ] && echo yes)"
-check 'the lines of the long file' 42003 "$("$bin/trace" < "$scratch/long" | grep -vc '^M')"
+check 'the lines of the long file' 48003 "$("$bin/trace" < "$scratch/long" | grep -vc '^M')"
 check 'the long file, its end' $'8 0 0\n'"$(for n in 0 1 2 3 4 5 6 7 8; do echo "M $n 3 $((n <= 6 ? 5994 + n : 5985 + n))"; done)"$'\n4 1 0' "$("$bin/trace" < "$scratch/long" | tail -n 11)"
 for size in 4093 65537; do
     check "the long file in parts of $size" "$("$bin/trace" < "$scratch/long" | md5sum)" "$(in_parts "$scratch/long" "$size" | "$bin/trace" | md5sum)"

@@ -1,4 +1,5 @@
-/* The cases P1 to P11 of document 01, the 33rd logged line, counting, fences inside a region, spent numbers, and the calls' own refusals. */
+/* The cases P1 to P11 of document 01, the 33rd logged line, counting, fences inside a region, writes of bytes, spent numbers, and the calls' own
+   refusals. */
 #include <stdio.h>
 #include <string.h>
 
@@ -49,8 +50,14 @@ static void cut(uint8_t r, uint64_t v) { put(r, v, 1, (uint8_t[]){EVENT_CUT}); }
 static void read_word(uint8_t t, uint8_t l, uint8_t w, uint8_t r, uint64_t v) { put(r, v, 4, (uint8_t[]){EVENT_READ, t, l, w}); }
 
 static void write_word(uint8_t t, uint8_t l, uint8_t w, uint64_t stored, uint8_t r) {
-    uint8_t record[PLAIN_RECORD_BYTES] = {EVENT_WRITE, t, l, w};
+    uint8_t record[PLAIN_WRITE_RECORD] = {EVENT_WRITE, t, l, w};
     put64(record + 4, stored);
+    put(r, 0, sizeof record, record);
+}
+
+static void write_bytes(uint8_t t, uint8_t l, uint8_t w, uint8_t mask, uint64_t stored, uint8_t r) {
+    uint8_t record[PLAIN_RECORD_BYTES] = {EVENT_WRITE_BYTES, t, l, w, mask};
+    put64(record + 5, stored);
     put(r, 0, sizeof record, record);
 }
 
@@ -282,6 +289,88 @@ static void fences(void) {
     run();
 }
 
+/* Each bit of a mask stores its own byte and no other, whatever the value's other bytes are; with all bits the word is the value. */
+static void each_byte(void) {
+    static const uint64_t old = 0x1716151413121110, value = 0x2726252423222120;
+    static const uint64_t due[] = {0x1716151413121120, 0x1716151413122110, 0x1716151413221110, 0x1716151423121110,
+                                   0x1716152413121110, 0x1716251413121110, 0x1726151413121110, 0x2716151413121110};
+    setup("each byte", 1, 1);
+    begin(0, 0, 0);
+    for (int i = 0; i < 8; i++) {
+        write_word(0, 0, 3, old, 0);
+        write_bytes(0, 0, 3, (uint8_t)(1 << i), value, 0);
+        read_word(0, 0, 3, 0, due[i]);
+    }
+    write_bytes(0, 0, 3, 255, value, 0);
+    read_word(0, 0, 3, 0, value);
+    read_word(0, 0, 2, 0, 0);
+    read_word(0, 0, 4, 0, 0);
+    run();
+}
+
+/* Two regions store bytes of one word, and the second depends on the first. Found are the bytes of both or, where the second has not committed, those
+   of the first alone. */
+static void shared_word(const char *title, int both) {
+    setup(title, 2, 2);
+    begin(0, 0, 0);
+    write_bytes(0, 0, 0, 3, 0x09090201, 0);
+    write_bytes(0, 1, 0, 1, 0, 0);
+    begin(1, 0, 0);
+    write_bytes(1, 0, 0, 12, 0x04030909, 17);
+    log_ack(0, 0, 0);
+    log_ack(1, 0, 0);
+    end(0, 0, 0);
+    write_bytes(1, 0, 0, 12, 0x04030909, 0);
+    read_word(1, 0, 0, 0, 0x04030201);
+    log_ack(0, 0, 0); /* drops the first region's flight of the line */
+    end(1, 0, 0);
+    if (both) data_ack(0, 0, 0); /* the second region waits for the first */
+    data_ack(1, 0, both ? 2 : 1);
+    cut(0, both ? 0 : 1);
+    run();
+    save(both ? 135 : 135 + 17 + 69);
+    recover(both ? 0 : 1, 0, 0, both ? 0x04030201 : 0x0201);
+}
+
+/* A write that changes no byte is one like any other: it locks and logs its line, counts, and takes a slot. */
+static void same_bytes(void) {
+    setup("no byte changed", 1, 9);
+    begin(0, 0, 0);
+    write_bytes(0, 0, 0, 1, 0, 0);
+    log_ack(0, 0, 0);
+    for (int i = 0; i < 3; i++) write_bytes(0, 1, 0, 1, 0, 0);
+    data_ack(0, 22, 0);
+    write_bytes(0, 1, 0, 1, 0, 0);
+    data_ack(0, 0, 0);
+    for (uint8_t l = 2; l < 9; l++) write_bytes(0, l, 0, 1, 0, 0);
+    write_bytes(0, 0, 0, 1, 0, 20);
+    end(0, 0, 0);
+    begin(0, 0, 0);
+    write_bytes(0, 1, 0, 1, 0, 18);
+    run();
+}
+
+/* Mask 0 is refused after thread, line and word are tested, and before the state is. */
+static void no_mask(void) {
+    setup("mask 0", 2, 1);
+    write_bytes(2, 1, 8, 0, 7, 3);
+    write_bytes(0, 1, 8, 0, 7, 4);
+    write_bytes(0, 0, 8, 0, 7, 5);
+    write_bytes(0, 0, 7, 0, 7, 27);
+    write_bytes(0, 0, 7, 1, 7, 12);
+    begin(0, 0, 0);
+    write_bytes(0, 0, 7, 0, 7, 27);
+    log_ack(0, 22, 0);
+    write_bytes(0, 0, 7, 1, 7, 0);
+    begin(1, 0, 0);
+    write_bytes(1, 0, 7, 0, 9, 27);
+    write_bytes(1, 0, 7, 1, 9, 17);
+    cut(0, 2);
+    write_bytes(0, 0, 7, 0, 7, 27);
+    write_bytes(0, 0, 7, 1, 7, 11);
+    run();
+}
+
 static void numbers_spent(void) {
     static plain_engine e;
     plain_init(&e);
@@ -292,6 +381,20 @@ static void numbers_spent(void) {
         if (opened.refusal != 0 || ended.value != 1) check(0, "numbers spent", "region", (unsigned)i);
     }
     check(plain_event(&e, (uint8_t[]){EVENT_BEGIN, 0}, 2).refusal == 14, "numbers spent", "next begin", 14);
+}
+
+/* Records that end a file: of unknown kind, and one of the longest kind cut short; whole, it is before setup. */
+static void ends(void) {
+    static const uint8_t unknown[] = {9, 11, 255}, longest[PLAIN_RECORD_BYTES] = {EVENT_WRITE_BYTES};
+    uint8_t answers[PLAIN_ANSWER_BYTES];
+    for (size_t i = 0; i < sizeof unknown; i++) {
+        plain_answer a = plain_events((uint8_t[]){unknown[i], 0}, 2, memory, 64, answers, sizeof answers);
+        check(a.value == 1 && answers[0] == 2, "ends", "unknown kind", unknown[i]);
+    }
+    for (size_t length = 1; length <= sizeof longest; length++) {
+        plain_answer a = plain_events(longest, length, memory, 64, answers, sizeof answers);
+        check(a.value == 1 && answers[0] == (length < sizeof longest ? 1 : 6), "ends", "write of bytes, length", length);
+    }
 }
 
 /* Refusals of the calls themselves, and how a file ends. */
@@ -308,8 +411,6 @@ static void calls(void) {
     a = plain_events(cut_short, sizeof cut_short, memory, 128, answers, 54);
     for (size_t i = 0; i < 5; i++) check(answers[9 * i] == 6, "calls", "memory that does not fit, event", i);
     check(plain_events(cut_short, 0, memory, 64, answers, 0).value == 0, "calls", "empty file", 0);
-    a = plain_events((uint8_t[]){9, 0}, 2, memory, 64, answers, 9);
-    check(a.value == 1 && answers[0] == 2, "calls", "unknown kind", answers[0]);
     check(plain_image(cut_short, sizeof cut_short, memory, 64, image, sizeof image).value == 70, "calls", "image", 70);
     check(plain_image(cut_short, 5, memory, 64, image, sizeof image).refusal == 6, "calls", "image without cut", 6);
     check(plain_start(8, 256, memory, sizeof memory).refusal == 0, "calls", "start", 0);
@@ -329,7 +430,13 @@ int main(void) {
     logged_33();
     counting();
     fences();
+    each_byte();
+    shared_word("bytes of one word, both commit", 1);
+    shared_word("bytes of one word, the first commits", 0);
+    same_bytes();
+    no_mask();
     numbers_spent();
+    ends();
     calls();
     printf("%u passed, %u failed\n", passed, failed);
     return failed > 0;

@@ -20,7 +20,7 @@ static void require(int holds, const char *what) {
 enum { MOST_EVENTS = 256 };
 
 typedef struct { plain_region region; int ended, committed; } history_region;
-typedef struct { int region; uint8_t line, word; uint64_t value; } history_write;
+typedef struct { int region; size_t at; uint8_t mask, bytes[8]; } history_write; /* of the word at that place in memory the bytes of the mask */
 typedef struct { int region, on; } history_dependence;
 
 static struct {
@@ -56,7 +56,13 @@ static void note_access(const uint8_t *record) {
     int region = history.newest[record[1]];
     note_dependence(region, history.last_writer[record[2]]);
     if (record[0] == EVENT_READ) return;
-    history.write[history.writes++] = (history_write){region, record[2], record[3], get64(record + 4)};
+    history_write *w = &history.write[history.writes++];
+    const uint8_t *value = record + 4;
+    w->region = region;
+    w->at = PLAIN_LINE_BYTES * (size_t)record[2] + 8 * (size_t)record[3];
+    w->mask = record[0] == EVENT_WRITE_BYTES ? *value++ : 255;
+    memcpy(w->bytes, value, sizeof w->bytes);
+    require(w->mask != 0, "a write of no bytes is accepted");
     history.last_writer[record[2]] = region;
 }
 
@@ -66,7 +72,7 @@ static void note_event(const uint8_t *record) {
     case EVENT_END:
         if (--history.depth[record[1]] == 0) history.region[history.newest[record[1]]].ended = 1;
         break;
-    case EVENT_READ: case EVENT_WRITE: note_access(record); break;
+    case EVENT_READ: case EVENT_WRITE: case EVENT_WRITE_BYTES: note_access(record); break;
     }
 }
 
@@ -158,7 +164,9 @@ static void expected_memory(uint8_t *memory, size_t length) {
     memcpy(memory, start_memory, length);
     for (int i = 0; i < history.writes; i++) {
         const history_write *w = &history.write[i];
-        if (history.region[w->region].committed) put64(memory + PLAIN_LINE_BYTES * w->line + 8 * w->word, w->value);
+        if (!history.region[w->region].committed) continue;
+        for (int b = 0; b < 8; b++)
+            if ((w->mask & 1 << b) != 0) memory[w->at + b] = w->bytes[b];
     }
 }
 
@@ -228,14 +236,15 @@ static size_t next_record(random_events *events, const plain_engine *e, int wild
     random_source *source = &events->source;
     size_t length = random_record(events, e, record);
     if (wild) {
-        record[0] = (uint8_t)random_below(source, 8);
+        record[0] = random_known_kind(source);
         record[1] = (uint8_t)random_below(source, e->threads + 1u);
         if (record[0] == EVENT_LOG_ACK || record[0] == EVENT_DATA_ACK)
             record[1] = (uint8_t)random_below(source, e->lines + 1u);
         record[2] = (uint8_t)random_below(source, e->lines + 1u);
+        record[4] = random_mask(source);
         length = PLAIN_RECORD_BYTES;
     }
-    if (random_chance(source, 60)) record[0] = (uint8_t)(9 + random_below(source, 247));
+    if (random_chance(source, 60)) record[0] = random_unknown_kind(source);
     if (random_chance(source, 60)) length = random_below(source, length);
     return length;
 }
@@ -267,7 +276,7 @@ static void try_list(void) {
     plain_init_lent(&e, start_memory, lent);
     try_event(&e, file, 4);
     for (uint64_t i = 0; i < count; i++) {
-        uint8_t record[PLAIN_RECORD_BYTES];
+        uint8_t record[PLAIN_RECORD_BYTES] = {0};
         size_t next = next_record(&events, &e, wild, record), whole = plain_record_length(record, next);
         if (whole > 0 && record[0] == EVENT_CUT) continue;
         try_event(&e, record, next);

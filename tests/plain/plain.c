@@ -5,9 +5,11 @@
 
 #include "common.h"
 
-static const size_t record_length[] = {4, 2, 2, 4, 12, 2, 2, 2, 1};
+/* By kind; 0 for a number that is no kind's. */
+static const size_t record_length[] = {4, 2, 2, 4, PLAIN_WRITE_RECORD, 2, 2, 2, 1, 0, PLAIN_RECORD_BYTES};
 
-typedef struct { uint8_t kind, thread, line, word; uint64_t value; } event;
+/* A write stores the bits of its value that are set in `stored`. */
+typedef struct { uint8_t kind, thread, line, word; uint64_t stored, value; } event;
 
 /* ---- Regions and lists ---- */
 
@@ -79,17 +81,32 @@ static uint8_t setup_refusal(const plain_engine *e, uint64_t threads, uint64_t l
     return e->threads != 0 ? 6 : 0;
 }
 
-/* Takes a whole record of a kind from 1 to 8 apart. */
+/* The bits of a word that lie in the bytes of a mask. */
+static uint64_t widened(uint8_t mask) {
+    uint64_t bits = 0;
+    for (int i = 0; i < 8; i++) bits |= UINT64_C(255) * (mask >> i & 1) << 8 * i;
+    return bits;
+}
+
+/* What a write stores, out of the bytes behind its word: all bits of its value, or those of its mask. A write of bytes is a write from here on. */
+static void decode_stored(event *ev, const uint8_t *bytes) {
+    ev->stored = UINT64_MAX;
+    if (ev->kind == EVENT_WRITE_BYTES) ev->stored = widened(*bytes++);
+    ev->kind = EVENT_WRITE;
+    ev->value = get64(bytes);
+}
+
+/* Takes a whole record of any kind but setup apart. */
 static event decode(const uint8_t *record) {
-    event ev = {record[0], 0, 0, 0, 0};
+    event ev = {record[0], 0, 0, 0, 0, 0};
     switch (ev.kind) {
     case EVENT_LOG_ACK: case EVENT_DATA_ACK:
         ev.line = record[1];
         break;
-    case EVENT_READ: case EVENT_WRITE:
+    case EVENT_READ: case EVENT_WRITE: case EVENT_WRITE_BYTES:
         ev.line = record[2];
         ev.word = record[3];
-        if (ev.kind == EVENT_WRITE) ev.value = get64(record + 4);
+        if (ev.kind != EVENT_READ) decode_stored(&ev, record + 4);
         ev.thread = record[1];
         break;
     case EVENT_BEGIN: case EVENT_END: case EVENT_FENCE:
@@ -98,12 +115,13 @@ static event decode(const uint8_t *record) {
     return ev;
 }
 
-/* Refusals because of the input, for a kind from 1 to 8; a field that the kind lacks is 0 and never refused. */
+/* Refusals because of the input, for any kind but setup; a field that the kind lacks is 0 and never refused. */
 static uint8_t input_refusal(const plain_engine *e, const event *ev) {
     if (e->threads == 0) return 6;
     if (ev->thread >= e->threads) return 3;
     if (ev->line >= e->lines) return 4;
-    return ev->word >= PLAIN_WORDS ? 5 : 0;
+    if (ev->word >= PLAIN_WORDS) return 5;
+    return ev->kind == EVENT_WRITE && ev->stored == 0 ? 27 : 0;
 }
 
 static uint8_t begin_refusal(const plain_engine *e, uint8_t thread) {
@@ -258,7 +276,7 @@ static uint64_t apply_write(plain_engine *e, const event *ev) {
         e->owner[ev->line] = r;
         e->locked[ev->line] = 1;
     }
-    line->word[ev->word] = ev->value;
+    line->word[ev->word] = (line->word[ev->word] & ~ev->stored) | (ev->value & ev->stored);
     count_write(e, r, ev->line);
     fly(e, r);
     return 0;
@@ -321,14 +339,16 @@ void plain_init_lent(plain_engine *e, const uint8_t *memory, size_t memory_len) 
     e->lent_len = memory_len;
 }
 
+static int is_known(uint8_t kind) { return kind < sizeof record_length / sizeof record_length[0] && record_length[kind] > 0; }
+
 size_t plain_record_length(const uint8_t *bytes, size_t len) {
-    if (len == 0 || bytes[0] > EVENT_CUT || len < record_length[bytes[0]]) return 0;
+    if (len == 0 || !is_known(bytes[0]) || len < record_length[bytes[0]]) return 0;
     return record_length[bytes[0]];
 }
 
 /* The refusals 1 and 2, which end a file. */
 static uint8_t record_refusal(const uint8_t *record, size_t len) {
-    if (len > 0 && record[0] > EVENT_CUT) return 2;
+    if (len > 0 && !is_known(record[0])) return 2;
     return plain_record_length(record, len) == 0 ? 1 : 0;
 }
 

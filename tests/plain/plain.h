@@ -1,4 +1,4 @@
-/* The memory board's engine in plain C, worked from document 01 alone.
+/* The memory board's engine in plain C, worked from document 01 and the requests alone.
    Nothing here is proved: it is held against the proved engine, answer by answer and in speed. */
 #ifndef PLAIN_H
 #define PLAIN_H
@@ -20,12 +20,13 @@ enum {
     PLAIN_NUMBERS = 65535, /* region numbers of a thread */
     PLAIN_COUNT = 4,       /* count at which a waiting slot may fly */
     PLAIN_ANSWER_BYTES = 9,
-    PLAIN_RECORD_BYTES = 12, /* the longest event record */
+    PLAIN_WRITE_RECORD = 12, /* the record of a write of a word */
+    PLAIN_RECORD_BYTES = 13, /* the longest event record, of a write of bytes */
     PLAIN_LOGGED = PLAIN_THREADS * PLAIN_LOG,
     PLAIN_IMAGE_BYTES = 4 + 65 * PLAIN_LINES + 17 * PLAIN_LISTED + 69 * PLAIN_LOGGED + 1
 };
 
-enum { EVENT_SETUP, EVENT_BEGIN, EVENT_END, EVENT_READ, EVENT_WRITE, EVENT_LOG_ACK, EVENT_DATA_ACK, EVENT_FENCE, EVENT_CUT };
+enum { EVENT_SETUP, EVENT_BEGIN, EVENT_END, EVENT_READ, EVENT_WRITE, EVENT_LOG_ACK, EVENT_DATA_ACK, EVENT_FENCE, EVENT_CUT, EVENT_WRITE_BYTES = 10 };
 enum { IMAGE_HEAD = 32, IMAGE_LINE, IMAGE_DEPENDENCE, IMAGE_LOG, IMAGE_END };
 
 /* Refusal 0 is acceptance; a refusal's value is 0. */

@@ -16,6 +16,26 @@ uint64_t random_below(random_source *source, uint64_t bound) { return random_nex
 
 int random_chance(random_source *source, uint64_t one_in) { return random_below(source, one_in) == 0; }
 
+uint8_t random_known_kind(random_source *source) {
+    uint8_t kind = (uint8_t)random_below(source, EVENT_CUT + 1);
+    return kind == EVENT_CUT ? EVENT_WRITE_BYTES : kind;
+}
+
+uint8_t random_unknown_kind(random_source *source) {
+    static const uint8_t beside[] = {EVENT_CUT + 1, EVENT_WRITE_BYTES + 1};
+    if (random_chance(source, 2)) return beside[random_below(source, 2)];
+    return (uint8_t)(EVENT_WRITE_BYTES + 1 + random_below(source, 255 - EVENT_WRITE_BYTES));
+}
+
+uint8_t random_mask(random_source *source) {
+    switch (random_below(source, 8)) {
+    case 0: return 0;
+    case 1: return 255;
+    case 2: case 3: case 4: return (uint8_t)(1 << random_below(source, 8));
+    }
+    return (uint8_t)random_next(source);
+}
+
 void random_start(random_events *events, uint64_t seed, random_mode mode) {
     memset(events, 0, sizeof *events);
     events->source.state = seed;
@@ -23,7 +43,7 @@ void random_start(random_events *events, uint64_t seed, random_mode mode) {
     events->phase = PHASE_DRAINING;
 }
 
-/* Weights of the kinds 1 to 7. */
+/* Weights of the kinds 1 to 7; that of a write is of both kinds together. */
 static const uint8_t mixed_weight[] = {6, 9, 6, 20, 16, 14, 1};
 static const uint8_t filling_weight[] = {20, 24, 14, 36, 30, 2, 1};
 static const uint8_t draining_weight[] = {4, 8, 3, 8, 16, 12, 1};
@@ -31,13 +51,15 @@ static const uint8_t nesting_weight[] = {24, 1, 10, 40, 40, 40, 1};
 
 static uint8_t random_kind(random_events *events) {
     static const uint8_t *const phase_weight[] = {filling_weight, draining_weight, nesting_weight};
-    const uint8_t *weight = events->mode == RANDOM_DEEP ? phase_weight[events->phase] : mixed_weight;
+    int deep = events->mode == RANDOM_DEEP || events->mode == RANDOM_DEEP_WORDS;
+    int words = events->mode == RANDOM_MIXED_WORDS || events->mode == RANDOM_DEEP_WORDS;
+    const uint8_t *weight = deep ? phase_weight[events->phase] : mixed_weight;
     uint64_t sum = 0;
     for (int i = 0; i < 7; i++) sum += weight[i];
     uint64_t pick = random_below(&events->source, sum);
     uint8_t kind = EVENT_BEGIN;
     for (; pick >= weight[kind - 1]; kind++) pick -= weight[kind - 1];
-    return kind;
+    return kind == EVENT_WRITE && !words && random_chance(&events->source, 2) ? EVENT_WRITE_BYTES : kind;
 }
 
 static uint8_t random_line(random_source *source, const plain_engine *e) {
@@ -64,13 +86,20 @@ static uint8_t random_thread(random_source *source, const plain_engine *e, uint8
     return (uint8_t)from;
 }
 
+/* Mask and value of a write of bytes; now and then it changes nothing. */
+static void fill_bytes(random_source *source, const plain_engine *e, uint8_t *record) {
+    record[4] = random_mask(source);
+    put64(record + 5, random_chance(source, 8) ? e->current[record[2]].word[record[3]] : random_next(source));
+}
+
 /* A record of the kind, its fields in range. */
 static void fill_record(random_source *source, const plain_engine *e, uint8_t kind, uint8_t *record) {
     record[0] = kind;
     record[1] = random_thread(source, e, kind);
     record[2] = random_line(source, e);
     record[3] = (uint8_t)random_below(source, PLAIN_WORDS);
-    put64(record + 4, random_next(source));
+    if (kind == EVENT_WRITE_BYTES) fill_bytes(source, e, record);
+    else put64(record + 4, random_next(source));
     if (kind == EVENT_LOG_ACK || kind == EVENT_DATA_ACK) record[1] = random_awaiting(source, e, kind);
     if (kind == EVENT_SETUP) put16(record + 2, (uint16_t)(1 + random_below(source, PLAIN_LINES)));
 }
@@ -78,10 +107,10 @@ static void fill_record(random_source *source, const plain_engine *e, uint8_t ki
 /* A record of any content: one byte of a good record changed, or a kind that does not fit here. */
 static void damage_record(random_source *source, const plain_engine *e, uint8_t *record) {
     if (random_chance(source, 4)) {
-        fill_record(source, e, random_chance(source, 8) ? EVENT_SETUP : (uint8_t)random_below(source, 8), record);
+        fill_record(source, e, random_chance(source, 8) ? EVENT_SETUP : random_known_kind(source), record);
         return;
     }
-    uint64_t at = 1 + random_below(source, 3);
+    uint64_t at = 1 + random_below(source, 4);
     record[at] = random_chance(source, 2) ? (uint8_t)(record[at] + 1) : (uint8_t)random_next(source);
 }
 
@@ -112,8 +141,11 @@ static size_t damage_file(random_source *source, uint8_t *file, size_t length) {
         file[random_below(source, length)] ^= (uint8_t)(1 << random_below(source, 8));
     switch (random_below(source, 4)) {
     case 0: return random_below(source, length + 1);
-    case 1: file[length] = (uint8_t)(9 + random_below(source, 247)); return length + 1;
-    case 2: file[length] = EVENT_WRITE; memset(file + length + 1, 0, 3); return length + 1 + random_below(source, 4);
+    case 1: file[length] = random_unknown_kind(source); return length + 1;
+    case 2:
+        file[length] = random_chance(source, 2) ? EVENT_WRITE : EVENT_WRITE_BYTES;
+        memset(file + length + 1, 0, PLAIN_RECORD_BYTES - 1);
+        return length + 1 + random_below(source, plain_record_length(file + length, PLAIN_RECORD_BYTES) - 1);
     }
     return length;
 }

@@ -10,10 +10,18 @@ uint64_t random_next(random_source *source);
 uint64_t random_below(random_source *source, uint64_t bound);
 int random_chance(random_source *source, uint64_t one_in);
 
+/* Any kind but a cut; a number that is no kind's, half of them beside one that is. */
+uint8_t random_known_kind(random_source *source);
+uint8_t random_unknown_kind(random_source *source);
+
+/* The mask of a write of bytes: none, one, all or any of the bits. */
+uint8_t random_mask(random_source *source);
+
 /* mixed: events of every kind, tables about half full.
    deep: phases of filling, draining and nesting, lists near or at their limits.
-   damaged: mixed, with records of any content, bytes flipped, and an end cut short or of unknown kind. */
-typedef enum { RANDOM_MIXED, RANDOM_DEEP, RANDOM_DAMAGED } random_mode;
+   damaged: mixed, with records of any content, bytes flipped, and an end cut short or of unknown kind.
+   In these half of the writes are of bytes; in mixed words and deep words every write is of a word. */
+typedef enum { RANDOM_MIXED, RANDOM_DEEP, RANDOM_DAMAGED, RANDOM_MIXED_WORDS, RANDOM_DEEP_WORDS } random_mode;
 
 enum { PHASE_FILLING, PHASE_DRAINING, PHASE_NESTING }; /* of a deep run */
 
@@ -35,7 +43,7 @@ size_t random_file(uint64_t seed, random_mode mode, uint8_t threads, uint16_t li
 
 /* A file whose image is the largest there is: four ended regions of each thread, each with eight logged lines, none of them in the medium; then the cut.
    Gives its length. */
-enum { LARGEST_FILE_BYTES = 4 + PLAIN_THREADS * PLAIN_MODIFIED * (2 + 2 + PLAIN_SLOTS * (PLAIN_RECORD_BYTES + 2)) + 1 };
+enum { LARGEST_FILE_BYTES = 4 + PLAIN_THREADS * PLAIN_MODIFIED * (2 + 2 + PLAIN_SLOTS * (PLAIN_WRITE_RECORD + 2)) + 1 };
 size_t largest_file(uint8_t file[LARGEST_FILE_BYTES]);
 
 #endif

@@ -109,12 +109,12 @@ fn wrote_region(r: Region, d: u32, l: u8) -> Region
 
 // ---- write and read
 
-// Word w of line l becomes v.
-fn store(cur: &mut Lines, l: u8, w: u8, v: u64)
-    ensures { λ _. ⌜ left cur ≡ changeLine l (storedIn w v) (was cur) ⌝ }
+// The bytes of v at the bits of a mask go into word w of line l.
+fn store(cur: &mut Lines, l: u8, w: u8, mask: u8, v: u64)
+    ensures { λ _. ⌜ left cur ≡ changeLine l (storedIn w mask v) (was cur) ⌝ }
 {
     let x = lines::line_of(cur, l);
-    let y = lines::store_word(x, w as usize, v);
+    let y = lines::store_bytes(x, w as usize, mask, v);
     lines::set_line(cur, l, y);
 }
 
@@ -130,9 +130,10 @@ pub fn write(
     t: u8,
     l: u8,
     w: u8,
+    mask: u8,
     v: u64,
 )
-    ensures { λ _. ⌜ OnWrite (write t l (storedIn w v)) threads regions owner lock cur old car ⌝ }
+    ensures { λ _. ⌜ OnWrite (write t l (storedIn w mask v)) threads regions owner lock cur old car ⌝ }
 {
     let k = tables::current(threads, t);
     let d = tables::dependence(regions, owner[l as usize], k);
@@ -140,7 +141,7 @@ pub fn write(
     let i = tables::place_of(regions, k);
     let r = tables::get(regions, i);
     let q = wrote_region(r, d, l);
-    store(cur, l, w, v);
+    store(cur, l, w, mask, v);
     tables::put_flown(regions, lock, cur, car, i, q);
 }
 

@@ -213,8 +213,21 @@ fn apply(
                 value: value,
             }
         }
-        Event::Write(t, l, w, v) => {
-            access::write(threads, regions, owner, lock, cur, old, car, t, l, w, v);
+        Event::Write(t, l, w, mask, v) => {
+            access::write(
+                threads,
+                regions,
+                owner,
+                lock,
+                cur,
+                old,
+                car,
+                t,
+                l,
+                w,
+                mask,
+                v,
+            );
             Effect { head: h, value: 0 }
         }
         Event::LogAck(l) => {

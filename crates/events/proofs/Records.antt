@@ -1,7 +1,7 @@
 -- The records of a file, one behind the other: how long each is, and that a whole one is read in the same way whatever stands behind it.
 use Prim.Native.Nat.{_+_, _-_, _<_, _≤_, suc, zero, ℕ}
 use mathlib.Core.Path.{_∙_, _≡_, ap, refl}
-use mathlib.Core.Bool.{false, true}
+use mathlib.Core.Bool.{false, false≢true, true}
 use mathlib.Core.List.{List, [], _++_, _∷_, map}
 use lib.Dec.{ltb}
 use lib.ListN.{drop, getD, length, length-append, length-drop, take}
@@ -10,28 +10,28 @@ use borrow.Author.Tests.{le-ltb, lt-ltb, ltb-false, ltb-true}
 use lib.Seq.{drop-append-le, drop-drop, take-append-le}
 use native.Mathlib.Nat.{suc-add, zero-add}
 use Rattle.events.specs.Whole.{recordLength, wholeFrom, wholeLength}
-use Rattle.rules.specs.Kinds.{lastKind}
+use Rattle.rules.specs.Kinds.{isKind, kindAt}
 use Rattle.rules.specs.Record.{bodyLength, eventOf, isWhole, readRecord, recordsFrom, recordsOf}
 use Rattle.rules.specs.declared.Reading.the-variants.{Whole}
 use Rattle.undo.proofs.Laws.{test}
 use Rattle.undo.specs.Table.{keep}
 
 module _ (k : ℕ) (body : List ℕ) where
-  rec-unknown : lastKind < k → recordLength (k ∷ body) ≡ 0
+  rec-unknown : isKind k ≡ false → recordLength (k ∷ body) ≡ 0
   unfolding recordLength readRecord
-  rec-unknown h = rw (lt-ltb lastKind k h)
+  rec-unknown h = rw h
 
-  rec-short : k ≤ lastKind → length body < bodyLength k → recordLength (k ∷ body) ≡ 0
+  rec-short : isKind k ≡ true → length body < bodyLength k → recordLength (k ∷ body) ≡ 0
   unfolding recordLength readRecord
-  rec-short h l = rw (le-ltb lastKind k h, lt-ltb _ _ l)
+  rec-short h l = rw (h, lt-ltb _ _ l)
 
-  whole-read : k ≤ lastKind → bodyLength k ≤ length body → isWhole (readRecord (k ∷ body)) ≡ true
+  whole-read : isKind k ≡ true → bodyLength k ≤ length body → isWhole (readRecord (k ∷ body)) ≡ true
   unfolding readRecord
-  whole-read h l = rw (le-ltb lastKind k h, le-ltb _ _ l)
+  whole-read h l = rw (h, le-ltb _ _ l)
 
-  rec-whole : k ≤ lastKind → bodyLength k ≤ length body → recordLength (k ∷ body) ≡ suc (bodyLength k)
+  rec-whole : isKind k ≡ true → bodyLength k ≤ length body → recordLength (k ∷ body) ≡ suc (bodyLength k)
   unfolding recordLength readRecord
-  rec-whole h l = rw (le-ltb lastKind k h, le-ltb _ _ l)
+  rec-whole h l = rw (h, le-ltb _ _ l)
 
 -- the length of the record at the front, by the tests on it
 pub length-empty : (r : List ℕ) → length r ≡ 0 → recordLength r ≡ 0
@@ -39,22 +39,22 @@ unfolding recordLength readRecord
 length-empty [] e = refl
 length-empty (k ∷ body) e = absurd (omega arith)
 
-pub length-unknown : (r : List ℕ) → 0 < length r → lastKind < getD r 0 0 → recordLength r ≡ 0
+pub length-unknown : (r : List ℕ) → 0 < length r → isKind (getD r 0 0) ≡ false → recordLength r ≡ 0
 length-unknown [] z h = absurd (omega arith)
 length-unknown (k ∷ body) z h = rec-unknown k body h
 
-pub length-short : (r : List ℕ) → 0 < length r → getD r 0 0 ≤ lastKind → length r - 1 < bodyLength (getD r 0 0) → recordLength r ≡ 0
+pub length-short : (r : List ℕ) → 0 < length r → isKind (getD r 0 0) ≡ true → length r - 1 < bodyLength (getD r 0 0) → recordLength r ≡ 0
 length-short [] z h l = absurd (omega arith)
 length-short (k ∷ body) z h l = rec-short k body h (let e : suc (length body) - 1 ≡ length body = omega arith in rw e at l)
 
-pub length-whole : (r : List ℕ) → 0 < length r → getD r 0 0 ≤ lastKind → bodyLength (getD r 0 0) ≤ length r - 1 → recordLength r ≡ suc (bodyLength (getD r 0 0))
+pub length-whole : (r : List ℕ) → 0 < length r → isKind (getD r 0 0) ≡ true → bodyLength (getD r 0 0) ≤ length r - 1 → recordLength r ≡ suc (bodyLength (getD r 0 0))
 length-whole [] z h l = absurd (omega arith)
 length-whole (k ∷ body) z h l = rec-whole k body h (let e : suc (length body) - 1 ≡ length body = omega arith in rw e at l)
 
 -- what a record with a length is
 pub record Stands (r : List ℕ) : Type 0 where
   pub some : 0 < length r
-  pub known : getD r 0 0 ≤ lastKind
+  pub known : isKind (getD r 0 0) ≡ true
   pub room-for : bodyLength (getD r 0 0) ≤ length r - 1
   pub is-whole : isWhole (readRecord r) ≡ true
   pub is-long : recordLength r ≡ suc (bodyLength (getD r 0 0))
@@ -62,12 +62,12 @@ pub record Stands (r : List ℕ) : Type 0 where
 pub stands : (r : List ℕ) → 0 < recordLength r → Stands r
 stands [] h = absurd (omega (arith, length-empty [] refl))
 stands (k ∷ body) h =
-    test (ltb lastKind k) (λ u. absurd (omega (arith, rec-unknown k body (ltb-true lastKind k u))))
-    (λ u. test (ltb (length body) (bodyLength k)) (λ s. absurd (omega (arith, rec-short k body (ltb-false lastKind k u) (ltb-true (length body) (bodyLength k) s))))
-    (λ s. let a : k ≤ lastKind = ltb-false lastKind k u in
-    let b : bodyLength k ≤ length body = ltb-false (length body) (bodyLength k) s in
+    test (isKind k)
+    (λ u. test (ltb (length body) (bodyLength k)) (λ s. absurd (omega (arith, rec-short k body u (ltb-true (length body) (bodyLength k) s))))
+    (λ s. let b : bodyLength k ≤ length body = ltb-false (length body) (bodyLength k) s in
     let e : suc (length body) - 1 ≡ length body = omega arith in
-    record { some = omega arith; known = a; room-for = rw e b; is-whole = whole-read k body a b; is-long = rec-whole k body a b }))
+    record { some = omega arith; known = u; room-for = rw e b; is-whole = whole-read k body u b; is-long = rec-whole k body u b }))
+    (λ u. absurd (omega (arith, rec-unknown k body u)))
 
 pub not-whole : (r : List ℕ) → recordLength r ≡ 0 → isWhole (readRecord r) ≡ false
 unfolding recordLength
@@ -152,8 +152,8 @@ part-front a w xs ys h =
     let l : w ≤ length (drop a xs) = rw length-drop (omega arith) in
     rw (drop-append-le a xs ys (omega arith), take-append-le w (drop a xs) ys l)
 
-event-front : (k : ℕ) (body f : List ℕ) → k ≤ lastKind → bodyLength k ≤ length body → eventOf k (body ++ f) ≡ eventOf k body
-unfolding eventOf
+event-front : (k : ℕ) (body f : List ℕ) → isKind k ≡ true → bodyLength k ≤ length body → eventOf k (body ++ f) ≡ eventOf k body
+unfolding eventOf kindAt
 event-front zero body f u h = rw (getD-front body f 0 (omega arith), part-front 1 2 body f (omega arith))
 event-front (suc zero) body f u h = rw (getD-front body f 0 (omega arith))
 event-front (suc (suc zero)) body f u h = rw (getD-front body f 0 (omega arith))
@@ -164,11 +164,20 @@ event-front (suc (suc (suc (suc (suc zero))))) body f u h = rw (getD-front body 
 event-front (suc (suc (suc (suc (suc (suc zero)))))) body f u h = rw (getD-front body f 0 (omega arith))
 event-front (suc (suc (suc (suc (suc (suc (suc zero))))))) body f u h = rw (getD-front body f 0 (omega arith))
 event-front (suc (suc (suc (suc (suc (suc (suc (suc zero)))))))) body f u h = refl
-event-front (suc (suc (suc (suc (suc (suc (suc (suc (suc k))))))))) body f u h = absurd (omega arith)
+event-front (suc (suc (suc (suc (suc (suc (suc (suc (suc zero))))))))) body f u h = refl
+event-front (suc (suc (suc (suc (suc (suc (suc (suc (suc (suc zero)))))))))) body f u h =
+    rw (
+      getD-front body f 0 (omega arith),
+      getD-front body f 1 (omega arith),
+      getD-front body f 2 (omega arith),
+      getD-front body f 3 (omega arith),
+      part-front 4 8 body f (omega arith),
+    )
+event-front (suc (suc (suc (suc (suc (suc (suc (suc (suc (suc (suc k))))))))))) body f u h = absurd (false≢true u)
 
-read-by : (k : ℕ) (body : List ℕ) → k ≤ lastKind → bodyLength k ≤ length body → readRecord (k ∷ body) ≡ Whole (eventOf k body)
+read-by : (k : ℕ) (body : List ℕ) → isKind k ≡ true → bodyLength k ≤ length body → readRecord (k ∷ body) ≡ Whole (eventOf k body)
 unfolding readRecord
-read-by k body h l = rw (le-ltb lastKind k h, le-ltb _ _ l)
+read-by k body h l = rw (h, le-ltb _ _ l)
 
 pub read-front : (r f : List ℕ) → isWhole (readRecord r) ≡ true → readRecord (r ++ f) ≡ readRecord r
 read-front [] f w = absurd (omega (arith, whole-pos [] w, length-empty [] refl))

@@ -15,10 +15,10 @@ padded p (suc n) (x ∷ xs) = x ∷ padded p n xs
 
 -- the longest word, and the most numbers in a body
 abbrev pub mostLetters : ℕ
-mostLetters = 8
+mostLetters = 11
 
 abbrev pub mostFields : ℕ
-mostFields = 4
+mostFields = 5
 
 abbrev pub rowOf : Kind → KindRow
 rowOf k = record { word = padded 32 mostLetters (k .word); letters = length (k .word); widths = padded 0 mostFields (k .widths) }

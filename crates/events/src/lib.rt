@@ -2,11 +2,12 @@
 ghost use Prim.Native.Nat.{_≤_};
 ghost use mathlib.Core.Path.{_≡_};
 ghost use lib.ListN.{getD, length};
-ghost use Rattle.rules.specs.Kinds.{kindAt, widthsOf};
+ghost use Rattle.rules.specs.Kinds.{isKind, kindAt, widthsOf};
 ghost use Rattle.rules.specs.Record.{bodyLength, eventOf, readRecord};
 ghost use Rattle.events.specs.Number.{refusalOf};
 ghost use Rattle.events.specs.Row.{rowOf};
 ghost use Rattle.events.specs.Whole.{recordLength};
+use measures::WHOLE_WORD;
 use rules::Event;
 use rules::Reading;
 
@@ -19,59 +20,69 @@ pub struct KindRow {
 }
 
 // The longest word, and the most numbers in a body.
-pub const LETTERS: usize = 8;
+pub const LETTERS: usize = 11;
 
-pub const FIELDS: usize = 4;
+pub const FIELDS: usize = 5;
 
 // The highest kind.
-pub const LAST_KIND: u8 = 8;
+pub const LAST_KIND: u8 = 10;
 
-// The table of kinds, in the order of their numbers.
+// The table of kinds, in the order of their numbers; none has the number 9.
 const KINDS: [KindRow; LAST_KIND as usize + 1] = [
     KindRow {
-        word: *b"setup   ",
+        word: *b"setup      ",
         letters: 5,
-        widths: [1, 2, 0, 0],
+        widths: [1, 2, 0, 0, 0],
     },
     KindRow {
-        word: *b"begin   ",
+        word: *b"begin      ",
         letters: 5,
-        widths: [1, 0, 0, 0],
+        widths: [1, 0, 0, 0, 0],
     },
     KindRow {
-        word: *b"end     ",
+        word: *b"end        ",
         letters: 3,
-        widths: [1, 0, 0, 0],
+        widths: [1, 0, 0, 0, 0],
     },
     KindRow {
-        word: *b"read    ",
+        word: *b"read       ",
         letters: 4,
-        widths: [1, 1, 1, 0],
+        widths: [1, 1, 1, 0, 0],
     },
     KindRow {
-        word: *b"write   ",
+        word: *b"write      ",
         letters: 5,
-        widths: [1, 1, 1, 8],
+        widths: [1, 1, 1, 8, 0],
     },
     KindRow {
-        word: *b"log-ack ",
+        word: *b"log-ack    ",
         letters: 7,
-        widths: [1, 0, 0, 0],
+        widths: [1, 0, 0, 0, 0],
     },
     KindRow {
-        word: *b"data-ack",
+        word: *b"data-ack   ",
         letters: 8,
-        widths: [1, 0, 0, 0],
+        widths: [1, 0, 0, 0, 0],
     },
     KindRow {
-        word: *b"fence   ",
+        word: *b"fence      ",
         letters: 5,
-        widths: [1, 0, 0, 0],
+        widths: [1, 0, 0, 0, 0],
     },
     KindRow {
-        word: *b"cut     ",
+        word: *b"cut        ",
         letters: 3,
-        widths: [0, 0, 0, 0],
+        widths: [0, 0, 0, 0, 0],
+    },
+    KindRow {
+        word: *b"           ",
+        letters: 0,
+        widths: [0, 0, 0, 0, 0],
+    },
+    KindRow {
+        word: *b"write-bytes",
+        letters: 11,
+        widths: [1, 1, 1, 1, 8],
     },
 ];
 
@@ -84,10 +95,20 @@ pub fn kind_row(kind: u8) -> KindRow
         return KINDS[k];
     }
     KindRow {
-        word: *b"        ",
+        word: *b"           ",
         letters: 0,
         widths: [0; FIELDS],
     }
+}
+
+// Whether a number is a kind's, which has a word: told by the number alone, at hand for the reader.
+pub fn is_kind(kind: u8) -> bool
+    ensures { λ r. ⌜ r ≡ isKind kind ⌝ }
+{
+    if kind == 9 {
+        return false;
+    }
+    kind <= LAST_KIND
 }
 
 // The width of a number in a body, 0 if there is none.
@@ -106,10 +127,10 @@ pub fn width_at(kind: u8, f: usize) -> usize
 pub fn body_length(kind: u8) -> usize
     ensures { λ r. ⌜ r ≡ bodyLength kind ⌝ }
 {
-    let bodies: [usize; 9] = [3, 1, 1, 3, 11, 1, 1, 1, 0];
+    let bodies: [u8; LAST_KIND as usize + 1] = [3, 1, 1, 3, 11, 1, 1, 1, 0, 0, 12];
     let k = kind as usize;
-    if k < 9 {
-        return bodies[k];
+    if kind <= LAST_KIND {
+        return bodies[k] as usize;
     }
     0
 }
@@ -125,7 +146,26 @@ fn write_of(body: &[u8]) -> Event
     requires { ⌜ 11 ≤ length (now body) ⌝ }
     ensures { λ r. ⌜ r ≡ eventOf 4 (now (body .entry)) ⌝ }
 {
-    Event::Write(body[0], body[1], body[2], lines::take_word(body, 3))
+    Event::Write(
+        body[0],
+        body[1],
+        body[2],
+        WHOLE_WORD,
+        lines::take_word(body, 3),
+    )
+}
+
+fn write_bytes_of(body: &[u8]) -> Event
+    requires { ⌜ 12 ≤ length (now body) ⌝ }
+    ensures { λ r. ⌜ r ≡ eventOf 10 (now (body .entry)) ⌝ }
+{
+    Event::Write(
+        body[0],
+        body[1],
+        body[2],
+        body[3],
+        lines::take_word(body, 4),
+    )
 }
 
 // The event of a kind with its body, which has all its bytes.
@@ -157,6 +197,9 @@ fn event_of(kind: u8, body: &[u8]) -> Event
     if kind == 7 {
         return Event::Fence(body[0]);
     }
+    if kind == 10 {
+        return write_bytes_of(body);
+    }
     Event::Cut
 }
 
@@ -168,7 +211,7 @@ pub fn read_record(bytes: &[u8]) -> Reading
         return Reading::Refused(1);
     }
     let kind = bytes[0];
-    if LAST_KIND < kind {
+    if !is_kind(kind) {
         return Reading::Refused(2);
     }
     let there = bytes.len() - 1;
@@ -188,7 +231,7 @@ pub fn record_length(r: &[u8]) -> usize
         return 0;
     }
     let kind = r[0];
-    if kind > LAST_KIND {
+    if !is_kind(kind) {
         return 0;
     }
     let behind = r.len() - 1;

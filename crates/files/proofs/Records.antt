@@ -2,25 +2,22 @@
 use Prim.Native.Nat.{_*_, _+_, _<_, _≤_, suc, ℕ}
 use mathlib.Core.Path.{_≡_, ap, refl}
 use mathlib.Core.List.{List, [], _∷_}
-use lib.Dec.{ltb}
-use lib.ListN.{drop, getD, length, length-append, length-drop}
+use lib.Dec.{eqb}
+use lib.ListN.{drop, length, length-append, length-drop}
 use native.Mathlib.Omega.{arith}
-use borrow.Author.Tests.{ltb-false}
+use borrow.Author.Tests.{eqb-false, eqb-true}
 use lib.Seq.{drop-drop, drop-length}
 use Rattle.rules.specs.Step.{step}
 use Rattle.files.specs.Parts.{sizeOf}
 use Rattle.rules.proofs.Codec.Bytes.{length-bytes}
-use Rattle.rules.specs.Kinds.{lastKind}
 use Rattle.rules.specs.Lists.{flat}
 use Rattle.rules.specs.Record.{bodyLength, isWhole, readRecord, recordsFrom}
 use Rattle.rules.specs.Run.{answerBytes, answersBytes, run}
 use Rattle.rules.specs.Tables.{Board}
 use Rattle.rules.specs.declared.Answer.{Answer}
-use Rattle.rules.specs.declared.Event.{Event}
-use Rattle.rules.specs.declared.Reading.{Reading}
-use Rattle.rules.specs.declared.Reading.the-variants.{Refused, Whole}
 use Rattle.undo.proofs.Laws.{test}
-use Rattle.events.proofs.Records.{records-skip}
+use Rattle.events.proofs.Records.{fits-on, not-whole, pos, records-skip, stands}
+use Rattle.events.specs.Whole.{recordLength}
 
 pub records-none : (bs : List ℕ) → length bs ≡ 0 → recordsFrom 0 bs ≡ []
 unfolding recordsFrom
@@ -36,40 +33,25 @@ records-more (b ∷ bs) h =
     (λ w. rw (w, records-skip (bodyLength b) bs))
     (λ w. rw (w, drop-length bs))
 
--- a whole record lies in its file
-whole-fits : (bs : List ℕ) (e : Event) → readRecord bs ≡ Whole e → suc (bodyLength (getD bs 0 0)) ≤ length bs
-unfolding readRecord
-whole-fits [] e w = let z : _≡_ {A = ℕ} 0 1 = cc in absurd (omega arith)
-whole-fits (b ∷ bs) e w =
-    test (ltb lastKind b)
-    (λ a. let z : Refused 2 ≡ Whole e = rw a at w in let y : _≡_ {A = ℕ} 0 1 = cc in absurd (omega arith))
-    (λ a. test (ltb (length bs) (bodyLength b))
-    (λ s. let z : Refused 1 ≡ Whole e = rw (a, s) at w in let y : _≡_ {A = ℕ} 0 1 = cc in absurd (omega arith))
-    (λ s. omega (arith, ltb-false (length bs) (bodyLength b) s)))
-
+-- what the record at the front takes, by its length
 module _ (bs : List ℕ) where
-  pub size-whole : (e : Event) → readRecord bs ≡ Whole e → (sizeOf bs ≡ suc (bodyLength (getD bs 0 0))) × (suc (bodyLength (getD bs 0 0)) ≤ length bs)
+  pub size-last : recordLength bs ≡ 0 → sizeOf bs ≡ length bs
   unfolding sizeOf
-  size-whole e w = (rw w, whole-fits bs e w)
+  size-last e = rw (not-whole bs e)
 
-  pub size-last : (n : ℕ) → readRecord bs ≡ Refused n → sizeOf bs ≡ length bs
+  pub size-whole : 0 < recordLength bs → sizeOf bs ≡ recordLength bs
   unfolding sizeOf
-  size-last n w = rw w
+  size-whole h = let s = stands bs h in rw (s .is-whole, s .is-long)
 
   -- a record lies in its file, and takes a byte at least
+  either : {C : Type 0} → (recordLength bs ≡ 0 → C) → (0 < recordLength bs → C) → C
+  either f g = test (eqb (recordLength bs) 0) (λ e. f (eqb-true (recordLength bs) 0 e)) (λ e. g (pos (recordLength bs) (eqb-false (recordLength bs) 0 e)))
+
   pub size-inside : sizeOf bs ≤ length bs
-  size-inside = go (readRecord bs) refl
-    where
-      go : (r : Reading) → readRecord bs ≡ r → sizeOf bs ≤ length bs
-      go (Refused n) w = omega (arith, size-last n w)
-      go (Whole e) w = omega (arith, size-whole e w .0, size-whole e w .1)
+  size-inside = either (λ e. omega (arith, size-last e)) (λ h. omega (arith, size-whole h, fits-on bs h))
 
   size-some : 0 < length bs → 0 < sizeOf bs
-  size-some h = go (readRecord bs) refl
-    where
-      go : (r : Reading) → readRecord bs ≡ r → 0 < sizeOf bs
-      go (Refused n) w = omega (arith, size-last n w)
-      go (Whole e) w = omega (arith, size-whole e w .0)
+  size-some h = either (λ e. omega (arith, size-last e)) (λ l. omega (arith, size-whole l))
 
 -- ---- the run of a file
 

@@ -14,7 +14,6 @@ use measures::THREAD_NUMBERS;
 use measures::Threads;
 use rows::Head;
 use rules::Answer;
-use rules::Reading;
 ghost use mathlib.Core.Path.{_≡_};
 ghost use lib.ListN.{length};
 ghost use Rattle.measures.specs.Loan.{left, was};
@@ -30,11 +29,8 @@ ghost use Rattle.files.specs.Parts.{Puts, Runs, sizeOf, wrote};
 fn record_size(bytes: &[u8]) -> usize
     ensures { λ r. ⌜ r ≡ sizeOf (was bytes) ⌝ }
 {
-    let reading = events::read_record(bytes);
-    let Reading::Whole(_) = reading else {
-        return bytes.len();
-    };
-    1 + events::body_length(bytes[0])
+    let n = events::record_length(bytes);
+    if n == 0 { bytes.len() } else { n }
 }
 
 // The number of records, and so of answers, of a file.

@@ -6,11 +6,10 @@ use mathlib.Core.List.{List, [], _∷_}
 use native.Mathlib.Omega.{arith}
 use Rattle.laws.specs.Words.{toldBy, toldIn, toldOf}
 use Rattle.rules.proofs.Sim.State.{Kept}
-use Rattle.rules.proofs.Sim.All.{sound-record, step-kept}
+use Rattle.rules.proofs.Sim.All.{step-kept}
 use Rattle.rules.proofs.Start.{initially}
-use Rattle.rules.specs.Claim.{boardAfter, isByte, isByteMemory}
+use Rattle.rules.specs.Claim.{boardAfter, isByteMemory}
 use Rattle.rules.specs.History.{Account, acceptedFrom, acceptedIn, accountOf, noted}
-use Rattle.rules.specs.Lists.{all}
 use Rattle.rules.specs.Record.{readRecord}
 use Rattle.rules.specs.Refusal.{refusal}
 use Rattle.rules.specs.Run.{run}
@@ -20,7 +19,6 @@ use Rattle.rules.specs.declared.Event.{Event}
 use Rattle.rules.specs.declared.Event.the-variants.{Begin, Cut, DataAck, End, Fence, LogAck, Read, Setup, Write}
 use Rattle.rules.specs.declared.Reading.{Reading}
 use Rattle.rules.specs.declared.Reading.the-variants.{Refused, Whole}
-use Rattle.undo.proofs.Laws.{and-true}
 
 -- a refusal tells no commit
 told-nothing : (e : Event) → toldOf e 0 ≡ 0
@@ -28,7 +26,7 @@ told-nothing (Setup n l) = refl
 told-nothing (Begin t) = refl
 told-nothing (End t) = refl
 told-nothing (Read t l w) = refl
-told-nothing (Write t l w v) = refl
+told-nothing (Write t l w mask v) = refl
 told-nothing (LogAck l) = refl
 told-nothing (DataAck l) = refl
 told-nothing (Fence t) = refl
@@ -54,22 +52,21 @@ module _ (m : Memory) (P : Board → List Account → ℕ → Type 0)
       go zero r = kept b es n e r k p
       go (suc c) r = no-more b es n (toldOf e 0) (told-nothing e) p
 
-  many : (rs : List (List ℕ)) (b : Board) (es : List Account) (n : ℕ) → all (all isByte) rs ≡ true → Kept m b es → P b es n
+  many : (rs : List (List ℕ)) (b : Board) (es : List Account) (n : ℕ) → Kept m b es → P b es n
       → P (run b rs .board) (acceptedFrom b rs es) (n + toldIn rs (run b rs .answers))
   unfolding run acceptedFrom step toldIn
-  many [] b es n e k p = no-more b es n 0 refl p
-  many (r ∷ rs) b es n e k p =
-      let z = and-true (all isByte r) (all (all isByte) rs) e in
+  many [] b es n k p = no-more b es n 0 refl p
+  many (r ∷ rs) b es n k p =
       let p′ : P (step b r .board) (noted (step b r .answer .refusal) (readRecord r) es) (n + toldBy (readRecord r) (step b r .answer))
       = one b es n (readRecord r) k p in
-      let k′ : Kept m (step b r .board) (noted (step b r .answer .refusal) (readRecord r) es) = step-kept m b es (readRecord r) (sound-record r (z .0)) k in
+      let k′ : Kept m (step b r .board) (noted (step b r .answer .refusal) (readRecord r) es) = step-kept m b es (readRecord r) k in
       subst (P (run (step b r .board) rs .board) (acceptedFrom (step b r .board) rs (noted (step b r .answer .refusal) (readRecord r) es)))
       (let q : (n + toldBy (readRecord r) (step b r .answer)) + toldIn rs (run (step b r .board) rs .answers)
       ≡ n + (toldBy (readRecord r) (step b r .answer) + toldIn rs (run (step b r .board) rs .answers)) = omega arith in q)
-      (many rs (step b r .board) (noted (step b r .answer .refusal) (readRecord r) es) (n + toldBy (readRecord r) (step b r .answer)) (z .1) k′ p′)
+      (many rs (step b r .board) (noted (step b r .answer .refusal) (readRecord r) es) (n + toldBy (readRecord r) (step b r .answer)) k′ p′)
 
-  pub along : P (fresh m) [] 0 → (rs : List (List ℕ)) → isByteMemory m ≡ true → all (all isByte) rs ≡ true
+  pub along : P (fresh m) [] 0 → (rs : List (List ℕ)) → isByteMemory m ≡ true
       → P (boardAfter m rs) (acceptedIn m rs) (toldIn rs (run (fresh m) rs .answers))
-  along p rs bm br =
+  along p rs bm =
       subst (P (boardAfter m rs) (acceptedIn m rs)) (let q : 0 + toldIn rs (run (fresh m) rs .answers) ≡ toldIn rs (run (fresh m) rs .answers) = omega arith in q)
-      (many rs (fresh m) [] 0 br (initially m bm) p)
+      (many rs (fresh m) [] 0 (initially m bm) p)

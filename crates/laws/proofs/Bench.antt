@@ -162,12 +162,12 @@ module _ (m : Memory) (rs : List (List ℕ)) (bm : isByteMemory m ≡ true) (br 
     pub later : InStep (restores n (act (recovering m rs as′) PowerCut)) (benchActs (benchAct (benchActs begun as′) PowerCut) (replicate n Restore))
 
   runs-along : (as′ : List Act) (n : ℕ) → Along as′ n
-  runs-along as′ n = go (every m rs bm br .simulated)
+  runs-along as′ n = go (every m rs bm .simulated)
     where
       go : Simulated m (boardAfter m rs) (acceptedIn m rs) → Along as′ n
       go (by t h rc i) =
           let up = i .shape .cut-setup cut in
-          let quiet = sound rc i (every m rs bm br .rest) in
+          let quiet = sound rc i (every m rs bm .rest) in
           let p = start-stands rc i up quiet in
           let there = acts-stand rc i up quiet as′ p in
           let here : InStep (recovering m rs as′) (benchActs begun as′)

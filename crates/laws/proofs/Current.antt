@@ -11,11 +11,10 @@ use Rattle.laws.specs.Laws.{ReadGives}
 use Rattle.laws.specs.Words.{allApplied}
 use Rattle.rules.specs.Access.{changeLine, logged, needsLog, stored, storedIn, write}
 use Rattle.rules.specs.Acknowledge.{dataAck, logAck}
-use Rattle.rules.specs.Claim.{boardAfter, isByte, isByteMemory}
+use Rattle.rules.specs.Claim.{boardAfter, isByteMemory}
 use Rattle.rules.specs.End.{endRegion}
 use Rattle.rules.specs.Flight.{flown}
 use Rattle.rules.specs.History.{Account, acceptedIn, accountOf, writesIn}
-use Rattle.rules.specs.Lists.{all}
 use Rattle.rules.specs.Record.{readRecord}
 use Rattle.rules.specs.Refusal.{depthOf, refusal}
 use Rattle.rules.specs.Step.{apply, settledBoard, step, stepBy, stepEvent}
@@ -34,18 +33,17 @@ told-after m b es (Setup n l) h = h
 told-after m b es (Begin t) h = h
 told-after m b es (End t) h = test (eqb (depthOf t (b .tables)) 1) (λ d. rw d h) (λ d. rw d h)
 told-after m b es (Read t l w) h = h
-told-after m b es (Write t l w v) h =
-    test (needsLog (current t (b .tables)) l (b .tables)) (λ d. rw d (ap (changeLine l (storedIn w v)) h)) (λ d. rw d (ap (changeLine l (storedIn w v)) h))
+told-after m b es (Write t l w mask v) h =
+    let e = ap (changeLine l (storedIn w mask v)) h in test (needsLog (current t (b .tables)) l (b .tables)) (λ d. rw d e) (λ d. rw d e)
 told-after m b es (LogAck l) h = h
 told-after m b es (DataAck l) h = h
 told-after m b es (Fence t) h = h
 told-after m b es Cut h = h
 
 -- current memory after every list of records
-pub current-memory : (m : Memory) (rs : List (List ℕ)) → isByteMemory m ≡ true → all (all isByte) rs ≡ true
-    → boardAfter m rs .cur ≡ allApplied (writesIn (acceptedIn m rs)) (startLines m)
+pub current-memory : (m : Memory) (rs : List (List ℕ)) → isByteMemory m ≡ true → boardAfter m rs .cur ≡ allApplied (writesIn (acceptedIn m rs)) (startLines m)
 unfolding fresh writesIn allApplied
-current-memory m rs bm br = along m (λ b es n. Told (startLines m) b es) (λ b es n e r k h. told-after (startLines m) b es e h) refl rs bm br
+current-memory m rs bm = along m (λ b es n. Told (startLines m) b es) (λ b es n e r k h. told-after (startLines m) b es e h) refl rs bm
 
 -- the value of an accepted event
 pub value-is : (b : Board) (r : List ℕ) (e : Event) → readRecord r ≡ Whole e → step b r .answer .refusal ≡ 0
@@ -59,4 +57,4 @@ value-is b r e q z = rw q (go (refusal (b .tables) e) (rw q at z))
 
 pub read-gives : ReadGives
 unfolding apply
-read-gives m rs bm br r t l w a = value-is (boardAfter m rs) r (Read t l w) (a .is) (a .unrefused) .0 ∙ ap (λ c. getD (lineOf l c) w 0) (current-memory m rs bm br)
+read-gives m rs bm br r t l w a = value-is (boardAfter m rs) r (Read t l w) (a .is) (a .unrefused) .0 ∙ ap (λ c. getD (lineOf l c) w 0) (current-memory m rs bm)

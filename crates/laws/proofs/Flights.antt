@@ -62,4 +62,4 @@ by-flights {m} {b} {es} (by s h rc sim) l i j p q f g = (here, slots here)
         one-slot (sim .shape .regions .good i .distinct) p q (full i p f) (full i q g′) (f .1 ∙ sym (g′ .1))
 
 pub one-flight : OneFlight
-one-flight m rs bm br = by-flights (every m rs bm br .simulated)
+one-flight m rs bm br = by-flights (every m rs bm .simulated)

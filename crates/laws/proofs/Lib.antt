@@ -3,6 +3,8 @@ pub mod Rest
 pub mod Flights
 pub mod Current
 pub mod Lines
+pub mod Stored
+pub mod Masks
 pub mod Opened
 pub mod Counts
 pub mod Values

@@ -10,14 +10,12 @@ use native.Mathlib.Omega.{arith}
 use borrow.Author.Tests.{eqb-false, eqb-true}
 use Rattle.rules.proofs.Codec.Bytes.{isLine}
 use Rattle.rules.proofs.Recover.Expected.{applied-length, effects-length}
-use Rattle.rules.proofs.Sim.All.{isSoundReading, sound-record}
-use Rattle.rules.proofs.Sim.State.{Simulated, by, isSound}
+use Rattle.rules.proofs.Sim.State.{Simulated, by}
 use Rattle.rules.proofs.Sim.Store.{KeepsLine, word-keeps}
 use Rattle.rules.proofs.Start.{initially, start-length}
 use Rattle.rules.specs.Access.{changeLine}
-use Rattle.rules.specs.Claim.{isByte, isByteMemory}
+use Rattle.rules.specs.Claim.{isByteMemory}
 use Rattle.rules.specs.History.{Account, Change, accountOf, acceptedFrom, acceptedIn, applied, committed, effects, endsIn, expected, noted, writesIn}
-use Rattle.rules.specs.Lists.{all}
 use Rattle.rules.specs.Record.{readRecord}
 use Rattle.rules.specs.Step.{step}
 use Rattle.rules.specs.Tables.{Board, Memory, fresh, lineOf, startLines}
@@ -25,24 +23,24 @@ use Rattle.rules.specs.declared.Event.{Event}
 use Rattle.rules.specs.declared.Event.the-variants.{Begin, Cut, DataAck, End, Fence, LogAck, Read, Setup, Write}
 use Rattle.rules.specs.declared.Reading.{Reading}
 use Rattle.rules.specs.declared.Reading.the-variants.{Refused, Whole}
-use Rattle.undo.proofs.Laws.{and-true, test}
+use Rattle.undo.proofs.Laws.{test}
 
 -- each of these changes leaves a line a line
-data Keeping : List Change → Type 0 where
+pub data Keeping : List Change → Type 0 where
   nothing : Keeping []
   more : {w : Change} {ws : List Change} → KeepsLine (w .change) → Keeping ws → Keeping (w ∷ ws)
 
 -- a memory of lines
-abbrev Lines : List (List ℕ) → Type 0
+abbrev pub Lines : List (List ℕ) → Type 0
 Lines m = (j : ℕ) → j < 256 → isLine (lineOf j m) ≡ true
 
-change-lines : (m : List (List ℕ)) (l : ℕ) (change : List ℕ → List ℕ) → length m ≡ 256 → KeepsLine change → Lines m → Lines (changeLine l change m)
+pub change-lines : (m : List (List ℕ)) (l : ℕ) (change : List ℕ → List ℕ) → length m ≡ 256 → KeepsLine change → Lines m → Lines (changeLine l change m)
 change-lines m l change n k h j d =
     test (eqb j l)
     (λ e. rw (← eqb-true j l e, getD-set-same m j (change (lineOf j m)) [] (omega arith)) (k (lineOf j m) (h j d)))
     (λ e. rw (getD-set-other m l j (change (lineOf l m)) [] (eqb-false j l e)) (h j d))
 
-applied-lines : (k : ℕ) {ws : List Change} (m : List (List ℕ)) → Keeping ws → length m ≡ 256 → Lines m → Lines (applied k ws m)
+pub applied-lines : (k : ℕ) {ws : List Change} (m : List (List ℕ)) → Keeping ws → length m ≡ 256 → Lines m → Lines (applied k ws m)
 unfolding applied
 applied-lines k m nothing n h = h
 applied-lines k m (more {w} {ws} c cs) n h =
@@ -51,7 +49,7 @@ applied-lines k m (more {w} {ws} c cs) n h =
     (λ a. rw a (change-lines (applied k ws m) (w .line) (w .change) (applied-length k ws m ∙ n) c ih))
     (λ a. rw a ih)
 
-effects-lines : (done : ℕ → Bool) {ws : List Change} (m : List (List ℕ)) (ks : List ℕ) → Keeping ws → length m ≡ 256 → Lines m → Lines (effects done ws m ks)
+pub effects-lines : (done : ℕ → Bool) {ws : List Change} (m : List (List ℕ)) (ks : List ℕ) → Keeping ws → length m ≡ 256 → Lines m → Lines (effects done ws m ks)
 unfolding effects
 effects-lines done m [] c n h = h
 effects-lines done {ws} m (k ∷ ks) c n h =
@@ -60,42 +58,41 @@ effects-lines done {ws} m (k ∷ ks) c n h =
     (λ a. rw a (applied-lines k (effects done ws m ks) c (effects-length done ws m ks ∙ n) ih))
     (λ a. rw a ih)
 
-noted-keeping : (n : ℕ) (x : Reading) (es : List Account) → isSoundReading x ≡ true → Keeping (writesIn es) → Keeping (writesIn (noted n x es))
+noted-keeping : (n : ℕ) (x : Reading) (es : List Account) → Keeping (writesIn es) → Keeping (writesIn (noted n x es))
 unfolding writesIn
-noted-keeping zero (Refused n) es q h = h
-noted-keeping (suc n) x es q h = h
-noted-keeping zero (Whole e) es q h = one e q
+noted-keeping zero (Refused n) es h = h
+noted-keeping (suc n) x es h = h
+noted-keeping zero (Whole e) es h = one e
   where
-    one : (e : Event) → isSound e ≡ true → Keeping (writesIn (accountOf e ∷ es))
-    one (Setup n l) q = h
-    one (Begin t) q = h
-    one (End t) q = h
-    one (Read t l w) q = h
-    one (Write t l w v) q = more (word-keeps w v q) h
-    one (LogAck l) q = h
-    one (DataAck l) q = h
-    one (Fence t) q = h
-    one Cut q = h
+    one : (e : Event) → Keeping (writesIn (accountOf e ∷ es))
+    one (Setup n l) = h
+    one (Begin t) = h
+    one (End t) = h
+    one (Read t l w) = h
+    one (Write t l w mask v) = more (word-keeps w mask v) h
+    one (LogAck l) = h
+    one (DataAck l) = h
+    one (Fence t) = h
+    one Cut = h
 
-accepted-keeping : (rs : List (List ℕ)) (b : Board) (es : List Account) → all (all isByte) rs ≡ true → Keeping (writesIn es)
+accepted-keeping : (rs : List (List ℕ)) (b : Board) (es : List Account) → Keeping (writesIn es)
     → Keeping (writesIn (acceptedFrom b rs es))
 unfolding acceptedFrom
-accepted-keeping [] b es e h = h
-accepted-keeping (r ∷ rs) b es e h =
-    let z = and-true (all isByte r) (all (all isByte) rs) e in
-    accepted-keeping rs (step b r .board) (noted (step b r .answer .refusal) (readRecord r) es) (z .1)
-    (noted-keeping (step b r .answer .refusal) (readRecord r) es (sound-record r (z .0)) h)
+accepted-keeping [] b es h = h
+accepted-keeping (r ∷ rs) b es h =
+    accepted-keeping rs (step b r .board) (noted (step b r .answer .refusal) (readRecord r) es)
+    (noted-keeping (step b r .answer .refusal) (readRecord r) es h)
 
-start-lines : (m : Memory) → isByteMemory m ≡ true → Lines (startLines m)
+pub start-lines : (m : Memory) → isByteMemory m ≡ true → Lines (startLines m)
 unfolding fresh
 start-lines m bm j d = go (initially m bm .simulated)
   where
     go : Simulated m (fresh m) [] → isLine (lineOf j (startLines m)) ≡ true
     go (by s h rc i) = i .memories .med-lines j d
 
-pub expected-lines : (m : Memory) (rs : List (List ℕ)) → isByteMemory m ≡ true → all (all isByte) rs ≡ true
+pub expected-lines : (m : Memory) (rs : List (List ℕ)) → isByteMemory m ≡ true
     → (j : ℕ) → j < 256 → isLine (lineOf j (expected m rs)) ≡ true
 unfolding expected writesIn
-expected-lines m rs bm br =
+expected-lines m rs bm =
     effects-lines (committed m rs) (startLines m) (endsIn (acceptedIn m rs))
-    (accepted-keeping rs (fresh m) [] br nothing) (start-length m) (start-lines m bm)
+    (accepted-keeping rs (fresh m) [] nothing) (start-length m) (start-lines m bm)

@@ -53,4 +53,4 @@ at-rest {b = b} (by s h rc i) rest =
     }
 
 pub nothing-left : NothingLeft
-nothing-left m rs bm br = let k = every m rs bm br in at-rest (k .simulated) (k .rest)
+nothing-left m rs bm br = let k = every m rs bm in at-rest (k .simulated) (k .rest)

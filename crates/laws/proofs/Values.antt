@@ -29,7 +29,7 @@ use Rattle.rules.proofs.Sim.End.{ends-region}
 use Rattle.rules.specs.Access.{read, storedIn, write}
 use Rattle.rules.specs.Acknowledge.{dataAck, logAck}
 use Rattle.rules.specs.Begin.{begin, opened}
-use Rattle.rules.specs.Claim.{boardAfter, isByte, isByteMemory}
+use Rattle.rules.specs.Claim.{boardAfter, isByteMemory}
 use Rattle.rules.specs.End.{endRegion}
 use Rattle.rules.specs.History.{Account, Closes, Nothing, Opens, acceptedIn, accountOf, committed, endsIn}
 use Rattle.rules.specs.Lists.{all, count, place}
@@ -97,7 +97,7 @@ balance m b es n (End t) r k p =
     (λ d. rw d (omega arith))
 balance m b es n (Read t l w) r k p =
     let z = same-held b (withTables (read (current t (b .tables)) l (b .tables)) b) (read-keys (current t (b .tables)) l (b .tables)) in omega arith
-balance m b es n (Write t l w v) r k p = let z = same-held b (write t l (storedIn w v) b) (write-keys t l (storedIn w v) b) in omega arith
+balance m b es n (Write t l w mask v) r k p = let z = same-held b (write t l (storedIn w mask v) b) (write-keys t l (storedIn w mask v) b) in omega arith
 balance m b es n (LogAck l) r k p = balance-settled b (logAck l b) es (Nothing ∷ es) n (log-ack l m b es r k .0) (log-keys l b) p
 balance m b es n (DataAck l) r k p = balance-settled b (dataAck l b) es (Nothing ∷ es) n (lands l m b es r k .0) (data-keys l b) p
 balance m b es n (Fence t) r k p = omega arith
@@ -112,10 +112,10 @@ fresh-held : (m : Memory) → held (fresh m) ≡ 0
 unfolding fresh
 fresh-held m = none-held 32
 
-balanced : (m : Memory) (rs : List (List ℕ)) → isByteMemory m ≡ true → all (all isByte) rs ≡ true
+balanced : (m : Memory) (rs : List (List ℕ)) → isByteMemory m ≡ true
     → toldIn rs (run (fresh m) rs .answers) + held (boardAfter m rs) ≡ length (opensIn (acceptedIn m rs))
 unfolding opensIn
-balanced m rs bm br = along m Balance (λ b es n e r k p. balance m b es n e r k p) (omega (arith, fresh-held m)) rs bm br
+balanced m rs bm = along m Balance (λ b es n e r k p. balance m b es n e r k p) (omega (arith, fresh-held m)) rs bm
 
 -- ---- lists of regions
 
@@ -187,17 +187,17 @@ module _ (m : Memory) (rs : List (List ℕ)) (told : CommitsTold m rs) {s : u.St
 
 pub cut-counts : CutCounts
 unfolding apply
-cut-counts m rs bm br r a = go (every m rs bm br .simulated)
+cut-counts m rs bm br r a = go (every m rs bm .simulated)
   where
     go : Simulated m (boardAfter m rs) (acceptedIn m rs) → valueAfter m rs r ≡ count (λ k. not (committed m rs k)) (opensIn (acceptedIn m rs))
-    go (by s h rc i) = value-is (boardAfter m rs) r Cut (a .is) (a .unrefused) .0 ∙ held-uncommitted m rs (commits-told m rs bm br) rc i
+    go (by s h rc i) = value-is (boardAfter m rs) r Cut (a .is) (a .unrefused) .0 ∙ held-uncommitted m rs (commits-told m rs bm) rc i
 
 pub fence-tells : FenceTells
 unfolding apply
-fence-tells m rs bm br r t a = go (every m rs bm br .simulated)
+fence-tells m rs bm br r t a = go (every m rs bm .simulated)
   where
     go : Simulated m (boardAfter m rs) (acceptedIn m rs) → valueAfter m rs r ≡ cond (all (committed m rs) (othersOf t (acceptedIn m rs))) 1 0
-    go (by s h rc i) = value-is (boardAfter m rs) r (Fence t) (a .is) (a .unrefused) .0 ∙ fence-value m rs (commits-told m rs bm br) rc i t
+    go (by s h rc i) = value-is (boardAfter m rs) r (Fence t) (a .is) (a .unrefused) .0 ∙ fence-value m rs (commits-told m rs bm) rc i t
 
 -- no region has the key 0, so at depth 0 none is left out
 any-of-thread : (t : ℕ) (rs : List Region) → any (isOther t 0) rs ≡ any (isOfThread t) rs
@@ -212,18 +212,18 @@ unfolding fence
 fence-outside t ts e = rw (e, any-of-thread t (ts .regions))
 
 pub commits-add-up : CommitsAddUp
-commits-add-up m rs bm br = go (every m rs bm br .simulated)
+commits-add-up m rs bm br = go (every m rs bm .simulated)
   where
     go : Simulated m (boardAfter m rs) (acceptedIn m rs) → toldIn rs (run (fresh m) rs .answers) ≡ count (committed m rs) (opensIn (acceptedIn m rs))
     go (by s h rc i) =
-        let x = balanced m rs bm br in
-        let y = held-uncommitted m rs (commits-told m rs bm br) rc i in
+        let x = balanced m rs bm in
+        let y = held-uncommitted m rs (commits-told m rs bm) rc i in
         let z = count-not (committed m rs) (opensIn (acceptedIn m rs)) in
         omega arith
 
 pub committed-is-ended : CommittedEnded
-committed-is-ended m rs bm br k = go (every m rs bm br .simulated)
+committed-is-ended m rs bm br k = go (every m rs bm .simulated)
   where
     go : Simulated m (boardAfter m rs) (acceptedIn m rs)
         → committed m rs k ≡ (isIn k (endsIn (acceptedIn m rs)) && not (listed k (boardAfter m rs .tables .regions)))
-    go (by s h rc i) = committed-ended m rs (commits-told m rs bm br) rc i k
+    go (by s h rc i) = committed-ended m rs (commits-told m rs bm) rc i k

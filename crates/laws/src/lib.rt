@@ -4,6 +4,7 @@ ghost use Rattle.laws.specs.Bench.{BenchRecovers};
 ghost use Rattle.laws.specs.Causes.{CausesMatter};
 ghost use Rattle.laws.specs.Images.{FinishedLast, RecoveryAnswers, WalkWhole};
 ghost use Rattle.laws.specs.Laws.{CommitsAddUp, CommittedEnded, CutCounts, FenceOutside, FenceTells, NothingLeft, OneFlight, ReadGives};
+ghost use Rattle.laws.specs.Stores.{MaskTested, StoresBytes, WholeWord, WritesRead};
 
 // Between two events nothing is left over: no slot that could fly waits, every ended region without slots is done, no done region without dependences is listed.
 pub fn nothing_is_left()
@@ -38,6 +39,26 @@ pub fn fence_tells()
 // Outside a region a fence is what document 01 says, on any tables.
 pub fn fence_outside()
     ensures { λ r. ⌜ FenceOutside ⌝ }
+{}
+
+// A record of kind 10 is a write with its mask, one of kind 4 a write with all bits set; kind 9 is unknown.
+pub fn writes_are_read()
+    ensures { λ r. ⌜ WritesRead ⌝ }
+{}
+
+// A mask 0 is refused with 27, after 5 and before 11. In all else a write does not depend on its mask but in the bytes it stores.
+pub fn mask_is_tested()
+    ensures { λ r. ⌜ MaskTested ⌝ }
+{}
+
+// Each byte of current memory, and of the memory that recovery finds, is that of the last write that stores it, or as it was at the start.
+pub fn bytes_are_stored()
+    ensures { λ r. ⌜ StoresBytes ⌝ }
+{}
+
+// With all bits set a word is stored whole.
+pub fn whole_word_is_stored()
+    ensures { λ r. ⌜ WholeWord ⌝ }
 {}
 
 // The committed regions are the ended ones that are listed no more.

@@ -3,26 +3,18 @@
 use measures::LINE_WORDS;
 use measures::Line;
 use measures::Lines;
-ghost use Prim.Native.Nat.{_+_, _*_, _%_, _<_, _≤_};
+ghost use Prim.Native.Nat.{_+_, _*_, _%_, _≤_};
 ghost use mathlib.Core.Path.{_≡_};
+ghost use mathlib.Core.List.{[], _∷_, map};
 ghost use lib.Dec.{leb};
 ghost use lib.ListN.{length, set, take, drop};
 ghost use lib.Seq.{sets};
 ghost use Rattle.rules.specs.Bytes.{bytesOf, numOf, lineBytes, lineAt};
 ghost use Rattle.rules.specs.Run.{answerBytes};
 ghost use Rattle.rules.specs.Tables.{lineOf};
+ghost use Rattle.rules.specs.Access.{byteAfter, storedIn, wordAfter};
 ghost use Rattle.lines.specs.Room.{lineIn, putAt, wordIn};
-
-// The line with the word w changed; there are eight.
-pub fn store_word(line: Line, w: usize, v: u64) -> Line
-    ensures { λ r. ⌜ r ≡ set line w v ⌝ }
-{
-    let mut l = line;
-    if w < LINE_WORDS {
-        l[w] = v;
-    }
-    l
-}
+ghost use Rattle.lines.specs.Stores.{Stores};
 
 // Line l of a memory, taken whole.
 pub fn line_of(m: &Lines, l: u8) -> Line
@@ -117,6 +109,56 @@ pub fn take_word(src: &[u8], at: usize) -> u64
     } else {
         0
     }
+}
+
+// ---- bytes of a word, where a mask has a bit for each
+
+// The low byte of v where the lowest bit of the mask is set, else that of x.
+fn byte_after(mask: u8, v: u64, x: u64) -> u8
+    ensures { λ r. ⌜ r ≡ byteAfter mask v x 0 ⌝ }
+{
+    if mask % 2 == 1 { low(v) } else { low(x) }
+}
+
+// The low two bytes.
+fn two_after(mask: u8, v: u64, x: u64) -> u16
+    ensures { λ r. ⌜ r ≡ numOf (map (byteAfter mask v x) (0 ∷ 1 ∷ [])) ⌝ }
+{
+    join8(
+        byte_after(mask, v, x),
+        byte_after(mask / 2, v / 256, x / 256),
+    )
+}
+
+// The low four.
+fn four_after(mask: u8, v: u64, x: u64) -> u32
+    ensures { λ r. ⌜ r ≡ numOf (map (byteAfter mask v x) (0 ∷ 1 ∷ 2 ∷ 3 ∷ [])) ⌝ }
+{
+    join16(
+        two_after(mask, v, x),
+        two_after(mask / 4, v / 65536, x / 65536),
+    )
+}
+
+// The word x with those bytes of v whose bit is set.
+fn word_after(mask: u8, v: u64, x: u64) -> u64
+    ensures { λ r. ⌜ r ≡ wordAfter mask v x ⌝ }
+{
+    join32(
+        four_after(mask, v, x),
+        four_after(mask / 16, v / 4294967296, x / 4294967296),
+    )
+}
+
+// The line with those bytes of v in its word w, and every other byte as it was.
+pub fn store_bytes(line: Line, w: usize, mask: u8, v: u64) -> Line
+    ensures { λ r. ⌜ (r ≡ storedIn w mask v line) × Stores w mask v line r ⌝ }
+{
+    let mut l = line;
+    if w < LINE_WORDS {
+        l[w] = word_after(mask, v, l[w]);
+    }
+    l
 }
 
 // ---- a line

@@ -9,6 +9,9 @@ pub const LINE_WORDS: usize = 8;
 
 pub const LINE_BYTES: usize = 8 * LINE_WORDS;
 
+// Request 9: "all bits set", a bit for each byte of a word.
+pub const WHOLE_WORD: u8 = 255;
+
 // "Per thread: 4 regions in the modified list, 32 log entries, nesting depth 15, region numbers 1 to 65,535"
 pub const MOST_MODIFIED: u8 = 4;
 

@@ -53,8 +53,9 @@ bytesLine = 254
 abbrev pub noWord : ℕ
 noWord = 255
 
+-- a word is that of a kind; no kind has the empty word
 abbrev pub isName : List ℕ → Kind → Bool
-isName w k = same w (k .word)
+isName w k = ltb 0 (length w) && same w (k .word)
 
 -- the line that a word begins which is no kind's
 unfoldable pub otherLine : List ℕ → ℕ

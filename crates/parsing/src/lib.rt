@@ -4,11 +4,11 @@ ghost use Prim.Native.Nat.{_+_, _%_, _≤_};
 ghost use mathlib.Core.Path.{_≡_};
 ghost use lib.ListN.{length, drop};
 ghost use Rattle.rules.specs.Bytes.{bytesOf};
-ghost use Rattle.rules.specs.Kinds.{wordOf};
+ghost use Rattle.rules.specs.Kinds.{kindAt};
 ghost use Rattle.rules.specs.Lists.{place};
 ghost use Rattle.output.specs.Room.{room, puts};
 ghost use Rattle.parsing.specs.Results.{NextWord, ReadsAs, TextReadAs};
-ghost use Rattle.parsing.specs.Read.{stops, same, kindOf, otherLine, mostOf, withDigit, numberIn, widthAt, complete};
+ghost use Rattle.parsing.specs.Read.{stops, same, isName, kindOf, otherLine, mostOf, withDigit, numberIn, widthAt, complete};
 ghost use Rattle.parsing.specs.Read.{wordsIn, fieldsFrom, kindBytes, wordsRead, bytesOfText, goodBytes, lastLine};
 
 // Lines that are no event: bytes as they stand, and a first word that means nothing. No kind has these numbers.
@@ -107,10 +107,13 @@ fn equal(a: &[u8], b: &[u8]) -> bool
     true
 }
 
-// Whether a word is the one of a kind.
+// Whether a word is the one of a kind; no kind has the empty word.
 fn is_name(word: &[u8], kind: u8) -> bool
-    ensures { λ r. ⌜ r ≡ same (now (word .entry)) (wordOf kind) ⌝ }
+    ensures { λ r. ⌜ r ≡ isName (now (word .entry)) (kindAt kind) ⌝ }
 {
+    if word.len() == 0 {
+        return false;
+    }
     let row = events::kind_row(kind);
     let name = row.word;
     let n = row.letters;

@@ -15,6 +15,7 @@ use measures::Owners;
 use measures::Regions;
 use measures::ThreadRow;
 use measures::Threads;
+use measures::WHOLE_WORD;
 use rows::Head;
 use rules::Event;
 use rules::Size;
@@ -166,9 +167,9 @@ fn ack_refusal(h: Head, l: u8) -> u8
     if h.cut { 11 } else { 0 }
 }
 
-// The numbers of the record, cut and an open region: read and write.
-fn access_refusal(h: Head, threads: &Threads, t: u8, l: u8, w: u8) -> u8
-    ensures { λ r. ⌜ ByThreads (λ ts. firstBad (before 17 (testsOf ts (Read t l w)))) h threads r ⌝ }
+// The numbers of the record, cut and an open region: read and write. A read, which has no mask, is tested with that of a whole word.
+fn access_refusal(h: Head, threads: &Threads, t: u8, l: u8, w: u8, mask: u8) -> u8
+    ensures { λ r. ⌜ ((v : ℕ) → ByThreads (λ ts. firstBad (before 17 (testsOf ts (Write t l w mask v)))) h threads r) ⌝ }
 {
     if !is_set_up(h) {
         return 6;
@@ -181,6 +182,9 @@ fn access_refusal(h: Head, threads: &Threads, t: u8, l: u8, w: u8) -> u8
     }
     if LINE_WORDS <= w as usize {
         return 5;
+    }
+    if mask == 0 {
+        return 27;
     }
     if h.cut {
         return 11;
@@ -255,7 +259,7 @@ fn read_refusal(
 ) -> u8
     ensures { λ r. ⌜ ByOwners (λ ts. refusal ts (Read t l w)) h threads regions owner r ⌝ }
 {
-    let c = access_refusal(h, threads, t, l, w);
+    let c = access_refusal(h, threads, t, l, w, WHOLE_WORD);
     if c != 0 {
         return c;
     }
@@ -284,10 +288,11 @@ fn write_refusal(
     t: u8,
     l: u8,
     w: u8,
+    mask: u8,
 ) -> u8
-    ensures { λ r. ⌜ ((v : ℕ) → r ≡ refusal (tablesOf h (was threads) (was regions) (was owner) (was lock)) (Write t l w v)) ⌝ }
+    ensures { λ r. ⌜ ((v : ℕ) → r ≡ refusal (tablesOf h (was threads) (was regions) (was owner) (was lock)) (Write t l w mask v)) ⌝ }
 {
-    let c = access_refusal(h, threads, t, l, w);
+    let c = access_refusal(h, threads, t, l, w, mask);
     if c != 0 {
         return c;
     }
@@ -361,7 +366,17 @@ pub fn refusal(
         Event::Begin(t) => begin_refusal(h, threads, regions, t),
         Event::End(t) => end_refusal(h, threads, t),
         Event::Read(t, l, w) => read_refusal(h, threads, regions, owner, t, l, w),
-        Event::Write(t, l, w, _) => write_refusal(h, threads, regions, owner, lock, t, l, w),
+        Event::Write(t, l, w, mask, _) => write_refusal(
+            h,
+            threads,
+            regions,
+            owner,
+            lock,
+            t,
+            l,
+            w,
+            mask,
+        ),
         Event::LogAck(l) => log_ack_refusal(h, lock, l),
         Event::DataAck(l) => data_ack_refusal(h, regions, l),
         Event::Fence(t) => thread_refusal(h, t),

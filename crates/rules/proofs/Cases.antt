@@ -4,7 +4,7 @@ use mathlib.Core.Bool.{Bool, _&&_, cond, false, true}
 use mathlib.Core.List.{List, [], _++_, _∷_, map}
 use lib.Dec.{T, eqb}
 use lib.ListN.{length, replicate}
-use Rattle.rules.specs.Access.{joined, logged, read, stored, write, wrote}
+use Rattle.rules.specs.Access.{joined, logged, read, stored, wordAfter, write, wrote}
 use Rattle.rules.specs.Acknowledge.{dataAck, dropped, kept, keptEntry, landed, logAck, unlocked}
 use Rattle.rules.specs.Begin.{begin, opened}
 use Rattle.rules.specs.Bytes.{bytesOf, lineAt, numOf, wordsBytes, wordsOf}
@@ -14,6 +14,7 @@ use Rattle.rules.specs.Contradiction.{anyBroken, anyClash, contradicts, 
 use Rattle.rules.specs.End.{closed, endRegion}
 use Rattle.rules.specs.Flight.{flown}
 use Rattle.rules.specs.Image.{encode, entryRecord, headRecord, image, lineRecord, regionRecord, saved, savedEntry, savedLog, savedRegion, savedRegions, savedThread}
+use Rattle.rules.specs.Kinds.{kindAt}
 use Rattle.rules.specs.Lists.{aboveFrom, all, count, flat, place, risingFrom}
 use Rattle.rules.specs.Reader.{endTurn, fieldsTurn, headTurn, lineTurn, listedAt, listedTurn, loggedAt, loggedTurn, readBy, readImage, turnBy}
 use Rattle.rules.specs.Record.{eventOf, readRecord}
@@ -221,5 +222,5 @@ holds c =
 
 -- every case P1 to P11 and the 33rd logged line
 pub table : T (all holds cases)
-unfolding holds holdsCut acts recovered foundWords lineWords same cases p1 p2 p3 joined read logged wrote stored write dropped keptEntry kept unlocked logAck landed dataAck opened begin bytesOf numOf wordsBytes wordsOf entriesIn restores doneRegion commits earlier earliestFrom afterCommit freed commit settle settled inOrder anyBroken reachesIn reaches anyClash contradicts closed endRegion flown savedRegion savedRegions savedEntry savedThread savedLog saved headRecord lineRecord regionRecord entryRecord encode image count place flat aboveFrom risingFrom headTurn lineTurn listedAt listedTurn loggedAt loggedTurn endTurn fieldsTurn turnBy readBy readImage eventOf readRecord restoreBy restore act testsOf refusal run slotFrom written flownSlots carried settledBoard setup fence apply stepBy stepEvent step lentLine lentFrom startLines fresh ownerOf nextPlace without walkFrom walk entriesOf entriesFrom walkEntries
+unfolding holds holdsCut acts recovered foundWords lineWords same cases p1 p2 p3 joined read logged wrote stored write dropped keptEntry kept unlocked logAck landed dataAck opened begin bytesOf numOf wordsBytes wordsOf entriesIn restores doneRegion commits earlier earliestFrom afterCommit freed commit settle settled inOrder anyBroken reachesIn reaches anyClash contradicts closed endRegion flown savedRegion savedRegions savedEntry savedThread savedLog saved headRecord lineRecord regionRecord entryRecord encode image count place flat aboveFrom risingFrom headTurn lineTurn listedAt listedTurn loggedAt loggedTurn endTurn fieldsTurn turnBy readBy readImage eventOf readRecord restoreBy restore act testsOf refusal run slotFrom written flownSlots carried settledBoard setup fence apply stepBy stepEvent step lentLine lentFrom startLines fresh ownerOf nextPlace without walkFrom walk entriesOf entriesFrom walkEntries kindAt wordAfter
 table = tt

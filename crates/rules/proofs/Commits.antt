@@ -11,7 +11,7 @@ use borrow.Author.Tests.{eqb-false, eqb-true, leb-false, lt-leb}
 use Rattle.rules.proofs.Places.{Unique, listed-commit, listed-key, listed-mapped, unique-commit, unique-mapped}
 use Rattle.rules.proofs.Sim.State.{Kept, Simulated, by}
 use Rattle.rules.proofs.Sim.Ack.{log-ack}
-use Rattle.rules.proofs.Sim.All.{sound-record, step-kept}
+use Rattle.rules.proofs.Sim.All.{step-kept}
 use Rattle.rules.proofs.Sim.Done.{ready}
 use Rattle.rules.proofs.Sim.Data.{lands}
 use Rattle.rules.proofs.Sim.Begin.{born-begun, listed-begun, newKey, unborn}
@@ -21,11 +21,11 @@ use Rattle.rules.proofs.Views.{isOpened}
 use Rattle.rules.specs.Access.{read, storedIn, write}
 use Rattle.rules.specs.Acknowledge.{dataAck, logAck}
 use Rattle.rules.specs.Begin.{begin, opened}
-use Rattle.rules.specs.Claim.{boardAfter, isByte, isByteMemory}
+use Rattle.rules.specs.Claim.{boardAfter, isByteMemory}
 use Rattle.rules.specs.Commit.{Settled, afterCommit, before, commit, commits, doneRegion, earliest, settle, settled}
 use Rattle.rules.specs.End.{endRegion}
 use Rattle.rules.specs.History.{Account, Closes, Nothing, Opens, acceptedFrom, acceptedIn, accountOf, commitsBy, commitsFrom, commitsOf, committed, depthIn, noted, openedIn}
-use Rattle.rules.specs.Lists.{all, count}
+use Rattle.rules.specs.Lists.{count}
 use Rattle.rules.specs.Record.{readRecord}
 use Rattle.rules.specs.Refusal.{depthOf, refusal, testsOf}
 use Rattle.rules.specs.Run.{run}
@@ -142,7 +142,8 @@ gone-after m b es ks (End t) r kept p =
 gone-after m b es ks (Read t l w) r kept p =
     λ k. p k ∙ ap (λ x. isOpened es k && not x)
     (sym (listed-keys (read (current t (b .tables)) l (b .tables) .regions) (b .tables .regions) (read-keys (current t (b .tables)) l (b .tables)) k))
-gone-after m b es ks (Write t l w v) r kept p = λ k. rw (listed-keys (write t l (storedIn w v) b .tables .regions) (b .tables .regions) (write-keys t l (storedIn w v) b) k) (p k)
+gone-after m b es ks (Write t l w mask v) r kept p =
+    λ k. rw (listed-keys (write t l (storedIn w mask v) b .tables .regions) (b .tables .regions) (write-keys t l (storedIn w mask v) b) k) (p k)
 gone-after m b es ks (LogAck l) r kept p =
     gone-settled b (logAck l b) es (Nothing ∷ es) ks (log-ack l m b es r kept .0) (log-keys l b) (λ k. refl) p
 gone-after m b es ks (DataAck l) r kept p =
@@ -162,22 +163,21 @@ step-gone m b es ks (Whole e) kept p = go (refusal (b .tables) e) refl
     go zero r = gone-after m b es ks e r kept p
     go (suc n) r = p
 
-run-gone : (m : Memory) (rs : List (List ℕ)) (b : Board) (es : List Account) (ks : List ℕ) → all (all isByte) rs ≡ true → Kept m b es → Gone b es ks
+run-gone : (m : Memory) (rs : List (List ℕ)) (b : Board) (es : List Account) (ks : List ℕ) → Kept m b es → Gone b es ks
     → Gone (run b rs .board) (acceptedFrom b rs es) (commitsFrom b rs ks)
 unfolding run acceptedFrom step commitsFrom
-run-gone m [] b es ks e kept p = p
-run-gone m (r ∷ rs) b es ks e kept p =
-    let z = and-true (all isByte r) (all (all isByte) rs) e in
-    run-gone m rs (step b r .board) (noted (step b r .answer .refusal) (readRecord r) es) (commitsBy (step b r .answer .refusal) (readRecord r) b ++ ks) (z .1)
-    (step-kept m b es (readRecord r) (sound-record r (z .0)) kept) (step-gone m b es ks (readRecord r) kept p)
+run-gone m [] b es ks kept p = p
+run-gone m (r ∷ rs) b es ks kept p =
+    run-gone m rs (step b r .board) (noted (step b r .answer .refusal) (readRecord r) es) (commitsBy (step b r .answer .refusal) (readRecord r) b ++ ks)
+    (step-kept m b es (readRecord r) kept) (step-gone m b es ks (readRecord r) kept p)
 
 -- what is committed was opened and is listed no more
 abbrev pub CommitsTold : Memory → List (List ℕ) → Type 0
 CommitsTold m rs = (k : ℕ) → committed m rs k ≡ (isOpened (acceptedIn m rs) k && not (listed k (boardAfter m rs .tables .regions)))
 
-pub commits-told : (m : Memory) (rs : List (List ℕ)) → isByteMemory m ≡ true → all (all isByte) rs ≡ true → CommitsTold m rs
+pub commits-told : (m : Memory) (rs : List (List ℕ)) → isByteMemory m ≡ true → CommitsTold m rs
 unfolding committed openedIn
-commits-told m rs bm br = run-gone m rs (fresh m) [] [] br (initially m bm) (λ k. sym (none (numberOf k) (not (isListed k (fresh m)))))
+commits-told m rs bm = run-gone m rs (fresh m) [] [] (initially m bm) (λ k. sym (none (numberOf k) (not (isListed k (fresh m)))))
   where
     none : (n : ℕ) (x : Bool) → ((not (eqb n 0) && leb n 0) && x) ≡ false
     none n x =

@@ -23,9 +23,8 @@ use Rattle.rules.proofs.Recover.Sound.{sound}
 use Rattle.rules.proofs.Recover.Steps.{acts-stand, cut-stands, memory-found, pass-finishes, start-stands, step-accepted, step-ended, step-stands, walked-length}
 use Rattle.rules.proofs.Recover.Valid.{saved-valid}
 use Rattle.rules.specs.Acknowledge.{kept}
-use Rattle.rules.specs.Claim.{Demand3, Holds, ReadsBack, boardAfter, entriesIn, isByte, isByteMemory, passLength, recovering}
+use Rattle.rules.specs.Claim.{Demand3, Holds, ReadsBack, boardAfter, entriesIn, isByteMemory, passLength, recovering}
 use Rattle.rules.specs.Image.{image, saved}
-use Rattle.rules.specs.Lists.{all}
 use Rattle.rules.specs.Reader.{Reads, readImage}
 use Rattle.rules.specs.Recovery.{Act, restore}
 use Rattle.rules.specs.Tables.{Memory, lineOf, startLines}
@@ -34,7 +33,7 @@ use Rattle.undo.proofs.Shape.{rest}
 
 -- what is proved of the events: after every list of records some state of the undo log has the board's tables
 abbrev pub EveryKept : Type 0
-EveryKept = (m : Memory) (rs : List (List ℕ)) → isByteMemory m ≡ true → all (all isByte) rs ≡ true → Kept m (boardAfter m rs) (acceptedIn m rs)
+EveryKept = (m : Memory) (rs : List (List ℕ)) → isByteMemory m ≡ true → Kept m (boardAfter m rs) (acceptedIn m rs)
 
 module _ (m : Memory) (rs : List (List ℕ)) (told : CommitsTold m rs) {s : u.State (List ℕ)} {h : v.History (List ℕ)}
     (rc : Reach (λ l. lineOf l (startLines m)) s h) (i : Sim (boardAfter m rs) (acceptedIn m rs) s h) where
@@ -74,13 +73,13 @@ module _ (m : Memory) (rs : List (List ℕ)) (told : CommitsTold m rs) {s : u.St
       image-read (saved (boardAfter m rs)) (saved-valid rc i (i .shape .cut-setup cut)) (sound rc i rest)
 
 pub demand3 : EveryKept → Demand3
-demand3 kept m rs as′ bm br cut = go (kept m rs bm br .simulated)
+demand3 kept m rs as′ bm br cut = go (kept m rs bm .simulated)
   where
     go : Simulated m (boardAfter m rs) (acceptedIn m rs) → Holds m rs as′
-    go (by s h rc i) = holds m rs (commits-told m rs bm br) rc i (kept m rs bm br .rest) (cut-is m rs ∙ cut) as′
+    go (by s h rc i) = holds m rs (commits-told m rs bm) rc i (kept m rs bm .rest) (cut-is m rs ∙ cut) as′
 
 pub reads-back-all : EveryKept → ReadsBack
-reads-back-all kept m rs bm br cut = go (kept m rs bm br .simulated)
+reads-back-all kept m rs bm br cut = go (kept m rs bm .simulated)
   where
     go : Simulated m (boardAfter m rs) (acceptedIn m rs) → readImage (image (boardAfter m rs)) ≡ Reads (saved (boardAfter m rs))
-    go (by s h rc i) = reads-it m rs (commits-told m rs bm br) rc i (kept m rs bm br .rest) (cut-is m rs ∙ cut)
+    go (by s h rc i) = reads-it m rs (commits-told m rs bm) rc i (kept m rs bm .rest) (cut-is m rs ∙ cut)

@@ -176,7 +176,7 @@ keys-after b (End t) =
     (λ d. rw d (settled-fewer b (endRegion t b) (End t) (rw d) (end-keys t b)))
     (λ d. rw d (same refl))
 keys-after b (Read t l w) = same (read-keys (current t (b .tables)) l (b .tables))
-keys-after b (Write t l w v) = same (write-keys t l (storedIn w v) b)
+keys-after b (Write t l w mask v) = same (write-keys t l (storedIn w mask v) b)
 keys-after b (LogAck l) = settled-fewer b (logAck l b) (LogAck l) refl (log-keys l b)
 keys-after b (DataAck l) = settled-fewer b (dataAck l b) (DataAck l) refl (data-keys l b)
 keys-after b (Fence t) = same refl

@@ -1,15 +1,17 @@
 -- Laws of the definitions: a refusal changes nothing, answers lie in the list of document 01, what commits in a step does not depend on the order of choice,
 -- and a record holds bytes of its file.
 use Prim.Native.Nat.{suc, zero, ℕ}
-use mathlib.Core.Bool.{Bool, _&&_, _||_, true}
+use mathlib.Core.Bool.{Bool, _&&_, _||_, not, true}
 use mathlib.Core.List.{List, [], _∷_}
 use mathlib.Core.Logic.{_≢_}
 use mathlib.Core.Path.{_≡_, refl}
-use lib.Dec.{leb, ltb}
+use lib.Dec.{eqb, leb, ltb}
 use lib.ListN.{length}
+use native.Mathlib.Omega.{arith}
+use borrow.Author.Tests.{lt-leb, ne-eqb}
 use Rattle.undo.proofs.Laws.{and-true, test}
 use Rattle.rules.specs.Claim.{isByte}
-use Rattle.rules.specs.Kinds.{lastKind}
+use Rattle.rules.specs.Kinds.{isKind, kindAt}
 use Rattle.rules.specs.Lists.{all}
 use Rattle.rules.specs.Record.{bodyLength, eventOf, isWhole, readRecord, recordsFrom}
 use Rattle.rules.specs.Refusal.{Test, firstBad, refusal, testsOf}
@@ -37,10 +39,10 @@ pub refusal-leaves : (b : Board) (bs : List ℕ) → step b bs .answer .refusal 
 unfolding step
 refusal-leaves b bs n = read-leaves b (readRecord bs) n
 
--- ---- "Refused because of the input" gives an event 1 to 6, "Refused because of the state" 11 to 22
+-- ---- "Refused because of the input" gives an event 1 to 6 or 27, "Refused because of the state" 11 to 22
 
 abbrev pub isAnswer : ℕ → Bool
-isAnswer n = leb n 6 || (leb 11 n && leb n 22)
+isAnswer n = leb n 6 || ((leb 11 n && leb n 22) || eqb n 27)
 
 first-answer : (ts : List Test) → all (λ t. isAnswer (t .code)) ts ≡ true → isAnswer (firstBad ts) ≡ true
 first-answer [] e = refl
@@ -54,7 +56,7 @@ codes-answer ts (Setup n l) = refl
 codes-answer ts (Begin t) = refl
 codes-answer ts (End t) = refl
 codes-answer ts (Read t l w) = refl
-codes-answer ts (Write t l w v) = refl
+codes-answer ts (Write t l w mask v) = refl
 codes-answer ts (LogAck l) = refl
 codes-answer ts (DataAck l) = refl
 codes-answer ts (Fence t) = refl
@@ -73,9 +75,27 @@ pub answers : (b : Board) (bs : List ℕ) → isAnswer (step b bs .answer .refus
 unfolding step readRecord
 answers b [] = refl
 answers b (k ∷ body) =
-    test (ltb lastKind k)
-    (λ e. rw e)
+    test (isKind k)
     (λ e. test (ltb (length body) (bodyLength k)) (λ f. rw (e, f)) (λ f. rw (e, f) (event-answer b (eventOf k body))))
+    (λ e. rw e)
+
+-- ---- which numbers are kinds
+
+pub known : (k : ℕ) → isKind k ≡ (not (eqb k 9) && leb k 10)
+unfolding kindAt
+known zero = refl
+known (suc zero) = refl
+known (suc (suc zero)) = refl
+known (suc (suc (suc zero))) = refl
+known (suc (suc (suc (suc zero)))) = refl
+known (suc (suc (suc (suc (suc zero))))) = refl
+known (suc (suc (suc (suc (suc (suc zero)))))) = refl
+known (suc (suc (suc (suc (suc (suc (suc zero))))))) = refl
+known (suc (suc (suc (suc (suc (suc (suc (suc zero)))))))) = refl
+known (suc (suc (suc (suc (suc (suc (suc (suc (suc zero))))))))) = refl
+known (suc (suc (suc (suc (suc (suc (suc (suc (suc (suc zero)))))))))) = refl
+known (suc (suc (suc (suc (suc (suc (suc (suc (suc (suc (suc k))))))))))) =
+    let n : ℕ = suc (suc (suc (suc (suc (suc (suc (suc (suc (suc (suc k)))))))))) in rw (ne-eqb n 9 (λ e. omega arith), lt-leb n 10 (omega arith))
 
 -- ---- a record holds bytes of its file
 

@@ -1,9 +1,10 @@
 -- "Read and write" and "Write".
-use Prim.Native.Nat.{_*_, _+_, ℕ}
+use Prim.Native.Nat.{_%_, _*_, _+_, _/_, _^_, ℕ}
 use mathlib.Core.Bool.{Bool, _||_, cond, not, true}
-use mathlib.Core.List.{List}
+use mathlib.Core.List.{List, [], _∷_, map}
 use lib.Dec.{eqb}
 use lib.ListN.{getD, set}
+use Rattle.rules.specs.Bytes.{byteOf, numOf}
 use Rattle.rules.specs.Flight.{flown}
 use Rattle.rules.specs.Lists.{count, place}
 use Rattle.rules.specs.Slots.{written}
@@ -59,10 +60,23 @@ abbrev pub loggedOnce : ℕ → ℕ → ℕ → Board → Board
 loggedOnce t k l b = cond (needsLog k l (b .tables)) (logged t k l b) b
 
 -- ---- "The word is stored", and the region's slots and dependences follow
+-- request 9: "byte i is stored where bit i of the mask (bit 0 the lowest) is set, the rest of the word stays. Kind 4 becomes the same with all bits set"
+
+-- bit i of a mask
+abbrev pub isSet : ℕ → ℕ → Bool
+isSet i mask = eqb (mask / 2 ^ i % 2) 1
+
+-- byte i of the word x after a write of the value v with a mask
+abbrev pub byteAfter : ℕ → ℕ → ℕ → ℕ → ℕ
+byteAfter mask v x i = cond (isSet i mask) (byteOf i v) (byteOf i x)
+
+-- the word after it
+unfoldable pub wordAfter : ℕ → ℕ → ℕ → ℕ
+wordAfter mask v x = numOf (map (byteAfter mask v x) (0 ∷ 1 ∷ 2 ∷ 3 ∷ 4 ∷ 5 ∷ 6 ∷ 7 ∷ []))
 
 -- what a write changes in its line
-abbrev pub storedIn : ℕ → ℕ → List ℕ → List ℕ
-storedIn w v x = set x w v
+abbrev pub storedIn : ℕ → ℕ → ℕ → List ℕ → List ℕ
+storedIn w mask v x = set x w (wordAfter mask v (getD x w 0))
 
 -- line l changed
 abbrev pub changeLine : ℕ → (List ℕ → List ℕ) → List (List ℕ) → List (List ℕ)

@@ -1,5 +1,5 @@
 -- Numbers, lines and bytes. "Numbers are little-endian"; "a line is eight words of 8 bytes, taken and given whole".
-use Prim.Native.Nat.{_%_, _*_, _+_, _/_, suc, zero, ℕ}
+use Prim.Native.Nat.{_%_, _*_, _+_, _/_, _^_, suc, zero, ℕ}
 use mathlib.Core.List.{List, [], _++_, _∷_}
 use lib.ListN.{drop, getD, length, take}
 
@@ -7,6 +7,10 @@ use lib.ListN.{drop, getD, length, take}
 unfoldable pub bytesOf : ℕ → ℕ → List ℕ
 bytesOf zero n = []
 bytesOf (suc k) n = n % 256 ∷ bytesOf k (n / 256)
+
+-- byte i of a number, byte 0 the low one
+abbrev pub byteOf : ℕ → ℕ → ℕ
+byteOf i n = n / 256 ^ i % 256
 
 -- the number that bytes hold, the low one first
 unfoldable pub numOf : List ℕ → ℕ

@@ -1,9 +1,9 @@
 -- "Event records. One byte of kind, then a body whose length the kind fixes; numbers are little-endian. 0 setup: T (1 byte), L (2). 1 begin: thread (1).
 -- 2 end: thread. 3 read: thread, line, word (1 each). 4 write: thread, line, word, value (8). 5 log acknowledgement: line. 6 data acknowledgement: line.
--- 7 fence: thread. 8 cut: empty."
+-- 7 fence: thread. 8 cut: empty." Request 9: "Kind 10 is a write with thread, line, word, a mask byte and 8 value bytes"
 -- The one table of kinds: everything about the form of an event record is read from it.
-use Prim.Native.Nat.{_+_, _-_, suc, ℕ}
-use mathlib.Core.Bool.{cond}
+use Prim.Native.Nat.{_+_, suc, ℕ}
+use mathlib.Core.Bool.{Bool, cond}
 use mathlib.Core.List.{List, [], _∷_, map}
 use lib.Dec.{ltb}
 use lib.ListN.{getD, length}
@@ -13,7 +13,10 @@ pub record Kind : Type 0 where
   pub word : List ℕ
   pub widths : List ℕ
 
--- in the order of their numbers: setup, begin, end, read, write, log-ack, data-ack, fence, cut
+abbrev pub noKind : Kind
+noKind = record { word = []; widths = [] }
+
+-- in the order of their numbers: setup, begin, end, read, write, log-ack, data-ack, fence, cut; none for 9; write-bytes
 abbrev pub kinds : List Kind
 kinds =
     record { word = 115 ∷ 101 ∷ 116 ∷ 117 ∷ 112 ∷ []; widths = 1 ∷ 2 ∷ [] }
@@ -25,14 +28,9 @@ kinds =
     ∷ record { word = 100 ∷ 97 ∷ 116 ∷ 97 ∷ 45 ∷ 97 ∷ 99 ∷ 107 ∷ []; widths = 1 ∷ [] }
     ∷ record { word = 102 ∷ 101 ∷ 110 ∷ 99 ∷ 101 ∷ []; widths = 1 ∷ [] }
     ∷ record { word = 99 ∷ 117 ∷ 116 ∷ []; widths = [] }
+    ∷ noKind
+    ∷ record { word = 119 ∷ 114 ∷ 105 ∷ 116 ∷ 101 ∷ 45 ∷ 98 ∷ 121 ∷ 116 ∷ 101 ∷ 115 ∷ []; widths = 1 ∷ 1 ∷ 1 ∷ 1 ∷ 8 ∷ [] }
     ∷ []
-
--- the highest kind
-abbrev pub lastKind : ℕ
-lastKind = length kinds - 1
-
-abbrev pub noKind : Kind
-noKind = record { word = []; widths = [] }
 
 -- the kind of a number
 unfoldable pub kindAt : ℕ → Kind
@@ -43,6 +41,10 @@ wordOf k = kindAt k .word
 
 abbrev pub widthsOf : ℕ → List ℕ
 widthsOf k = kindAt k .widths
+
+-- a number is a kind's if that has a word
+abbrev pub isKind : ℕ → Bool
+isKind k = ltb 0 (length (wordOf k))
 
 -- bytes that are no whole record stand in a line of their own in the readable form, behind this word: bytes
 abbrev pub bytesWord : List ℕ

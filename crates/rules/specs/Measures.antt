@@ -11,6 +11,10 @@ mostLines = 256
 abbrev pub lineWords : ℕ
 lineWords = 8
 
+-- request 9: "all bits set", a bit for each byte of a word
+abbrev pub wholeWord : ℕ
+wholeWord = 255
+
 -- "Per thread: 4 regions in the modified list, 32 log entries, nesting depth 15, region numbers 1 to 65,535"
 abbrev pub mostModified : ℕ
 mostModified = 4

@@ -5,7 +5,8 @@ use mathlib.Core.List.{List, [], _∷_}
 use lib.Dec.{eqb, ltb}
 use lib.ListN.{drop, getD, length, take}
 use Rattle.rules.specs.Bytes.{numOf}
-use Rattle.rules.specs.Kinds.{bodyLengths, lastKind}
+use Rattle.rules.specs.Kinds.{bodyLengths, isKind}
+use Rattle.rules.specs.Measures.{wholeWord}
 use Rattle.rules.specs.declared.Event.{Event}
 use Rattle.rules.specs.declared.Event.the-variants.{Begin, Cut, DataAck, End, Fence, LogAck, Read, Setup, Write}
 use Rattle.rules.specs.declared.Reading.{Reading}
@@ -15,23 +16,26 @@ use Rattle.rules.specs.declared.Reading.the-variants.{Refused, Whole}
 abbrev pub bodyLength : ℕ → ℕ
 bodyLength k = getD bodyLengths k 0
 
--- the event of a kind with its body; every kind above 7 is read as a cut, and only 8 gets here
+-- the event of a kind with its body; every other kind is read as a cut, and only 8 gets here
+-- request 9: "Kind 4 becomes the same with all bits set"
 unfoldable pub eventOf : ℕ → List ℕ → Event
 eventOf k body =
     cond (eqb k 0) (Setup (getD body 0 0) (numOf (take 2 (drop 1 body))))
     (cond (eqb k 1) (Begin (getD body 0 0))
     (cond (eqb k 2) (End (getD body 0 0))
     (cond (eqb k 3) (Read (getD body 0 0) (getD body 1 0) (getD body 2 0))
-    (cond (eqb k 4) (Write (getD body 0 0) (getD body 1 0) (getD body 2 0) (numOf (take 8 (drop 3 body))))
+    (cond (eqb k 4) (Write (getD body 0 0) (getD body 1 0) (getD body 2 0) wholeWord (numOf (take 8 (drop 3 body))))
     (cond (eqb k 5) (LogAck (getD body 0 0))
     (cond (eqb k 6) (DataAck (getD body 0 0))
-    (cond (eqb k 7) (Fence (getD body 0 0)) Cut)))))))
+    (cond (eqb k 7) (Fence (getD body 0 0))
+    (cond (eqb k 10) (Write (getD body 0 0) (getD body 1 0) (getD body 2 0) (getD body 3 0) (numOf (take 8 (drop 4 body)))) Cut))))))))
 
--- "2 unknown kind (in an event not 0 to 8). 1 record cut short or empty (bytes behind a whole record are not looked at)." "Event order: 2, 1, .."
+-- "2 unknown kind (in an event not 0 to 8)": no kind's number, so that 10 is known and 9 is not. "1 record cut short or empty (bytes behind a whole record are
+-- not looked at)." "Event order: 2, 1, .."
 unfoldable pub readRecord : List ℕ → Reading
 readRecord [] = Refused 1
 readRecord (k ∷ body) =
-    cond (ltb lastKind k) (Refused 2) (cond (ltb (length body) (bodyLength k)) (Refused 1) (Whole (eventOf k body)))
+    cond (isKind k) (cond (ltb (length body) (bodyLength k)) (Refused 1) (Whole (eventOf k body))) (Refused 2)
 
 -- a record that does not end its file
 abbrev pub isWhole : Reading → Bool

@@ -1,5 +1,5 @@
--- "Refused because of the input" (6, 3, 4, 5) and "Refused because of the state" (11 to 22): for each event its tests, in the order of document 01.
--- Request 3: "Refusal 23 no longer occurs."
+-- "Refused because of the input" (6, 3, 4, 5, 27) and "Refused because of the state" (11 to 22): for each event its tests, in the order of document 01.
+-- Request 3: "Refusal 23 no longer occurs." Request 9: "27, mask 0, after 5."
 use Prim.Native.Nat.{_*_, ℕ}
 use mathlib.Core.Bool.{Bool, _&&_, _||_, cond, not}
 use mathlib.Core.List.{List, [], _∷_}
@@ -92,11 +92,12 @@ testsOf ts (Read t l w) =
     ∷ refuse 17 (isForeignOpen t (ownerOf l ts) ts)
     ∷ refuse 19 (noRoomForDep (dependence (current t ts) l ts) (regionAt (current t ts) (ts .regions) .deps))
     ∷ []
-testsOf ts (Write t l w v) =
+testsOf ts (Write t l w mask v) =
     refuse 6 (not (isSetUp ts))
     ∷ refuse 3 (leb (ts .size .threads) t)
     ∷ refuse 4 (leb (ts .size .lines) l)
     ∷ refuse 5 (ltb 7 w)
+    ∷ refuse 27 (eqb mask 0)
     ∷ refuse 11 (ts .cut)
     ∷ refuse 12 (eqb (depthOf t ts) 0)
     ∷ refuse 17 (isForeignOpen t (ownerOf l ts) ts)

@@ -62,13 +62,13 @@ pub struct Tables {
     pub lock: [bool; measures::MOST_LINES],
 }
 
-// An event: thread, line, word and value as far as its kind has them, in the order of its record.
+// An event: thread, line, word, mask and value as far as its kind has them, in the order of its record. A write of a whole word has the mask 255.
 pub enum Event {
     Setup(u8, u16),
     Begin(u8),
     End(u8),
     Read(u8, u8, u8),
-    Write(u8, u8, u8, u64),
+    Write(u8, u8, u8, u8, u64),
     LogAck(u8),
     DataAck(u8),
     Fence(u8),

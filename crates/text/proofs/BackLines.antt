@@ -1,12 +1,12 @@
 -- Fields and lines are read back.
 use Prim.Native.Nat.{_*_, _+_, _<_, _^_, _≤_, suc, zero, ℕ}
 use mathlib.Core.Path.{_∙_, _≡_, ap, refl, sym}
-use mathlib.Core.Bool.{Bool, _&&_, true}
+use mathlib.Core.Bool.{Bool, _&&_, _||_, false≢true, not, true}
 use mathlib.Core.List.{List, [], _++_, _∷_, map}
 use lib.Dec.{eqb, ltb}
-use lib.ListN.{drop, getD, length, length-drop, replicate, take, take-append-drop}
+use lib.ListN.{List·getD-eq-default, drop, getD, length, length-drop, replicate, take, take-append-drop}
 use native.Mathlib.Omega.{arith}
-use borrow.Author.Tests.{eqb-false, eqb-true, lt-ltb, ltb-true, ne-eqb}
+use borrow.Author.Tests.{eqb-false, eqb-true, lt-ltb, ltb-false, ltb-true, ne-eqb}
 use lib.Seq.{length-take-le}
 use native.Mathlib.Nat.{add-zero, pow-suc, zero-add}
 use Rattle.events.proofs.Table.{body-total, fitting}
@@ -19,7 +19,7 @@ use Rattle.parsing.specs.declared.Number.the-variants.{Is}
 use Rattle.printing.proofs.Pieces.{numbers-front}
 use Rattle.printing.specs.Text.{numberText, numbersOf}
 use Rattle.rules.specs.Bytes.{bytesOf, numOf}
-use Rattle.rules.specs.Kinds.{bytesWord, kindAt, kinds, lastKind, total, widthsOf, wordOf}
+use Rattle.rules.specs.Kinds.{bytesWord, isKind, kindAt, kinds, noKind, total, widthsOf, wordOf}
 use Rattle.rules.specs.Lists.{all, flat, place}
 use Rattle.rules.specs.Record.{bodyLength}
 use Rattle.text.proofs.Back.{decimal-back, line-words, plain}
@@ -107,16 +107,23 @@ fields-back k f (w ∷ ws) bs (one e h fs) b l =
 is-width : (w : ℕ) → isWidth w ≡ true → Width w
 is-width w e = test (eqb w 1) (λ a. rw (eqb-true w 1 a) width1) (λ a. test (eqb w 2) (λ b. rw (eqb-true w 2 b) width2) (λ b. rw (eqb-true w 8 (rw (a, b) at e)) width8))
 
+-- a kind stands in the table
+in-table : (k : ℕ) → isKind k ≡ true → k < length kinds
+unfolding kindAt
+in-table k h =
+    test (ltb k (length kinds)) (λ e. ltb-true k (length kinds) e)
+    (λ e. absurd (false≢true (rw (List·getD-eq-default kinds noKind (ltb-false k (length kinds) e)) at h)))
+
 -- the numbers of an event
-event-width : (k f : ℕ) → k ≤ lastKind → widthAt k f ≡ getD (widthsOf k) f 0
+event-width : (k f : ℕ) → isKind k ≡ true → widthAt k f ≡ getD (widthsOf k) f 0
 unfolding widthAt
-event-width k f h = rw (ne-eqb k bytesLine (λ e. omega arith))
+event-width k f h = rw (ne-eqb k bytesLine (λ e. omega (arith, in-table k h)))
 
-event-complete : (k f : ℕ) → k ≤ lastKind → getD (widthsOf k) f 0 ≡ 0 → complete k f ≡ true
+event-complete : (k f : ℕ) → isKind k ≡ true → getD (widthsOf k) f 0 ≡ 0 → complete k f ≡ true
 unfolding complete
-event-complete k f h e = rw (ne-eqb k bytesLine (λ z. omega arith), event-width k f h, e)
+event-complete k f h e = rw (ne-eqb k bytesLine (λ z. omega (arith, in-table k h)), event-width k f h, e)
 
-follow : (k f : ℕ) (ws : List ℕ) → k ≤ lastKind → all isWidth ws ≡ true → ((i : ℕ) → getD (widthsOf k) (f + i) 0 ≡ getD ws i 0) → Follows k f ws
+follow : (k f : ℕ) (ws : List ℕ) → isKind k ≡ true → all isWidth ws ≡ true → ((i : ℕ) → getD (widthsOf k) (f + i) 0 ≡ getD ws i 0) → Follows k f ws
 follow k f [] h e g = done (event-complete k f h (let z = g 0 in rw add-zero at z))
 follow k f (w ∷ ws) h e g =
     let p = and-true (isWidth w) (all isWidth ws) e in
@@ -125,7 +132,7 @@ follow k f (w ∷ ws) h e g =
 
 -- every kind of the table has a word that begins its line and nothing else: one test over the table
 abbrev named : ℕ → Bool
-named k = ltb 0 (length (wordOf k)) && (all plain (wordOf k) && eqb (kindOf (wordOf k)) k)
+named k = not (isKind k) || (all plain (wordOf k) && eqb (kindOf (wordOf k)) k)
 
 -- a test of every number below n
 below : (ℕ → Bool) → ℕ → Bool
@@ -149,13 +156,12 @@ record Kind (k : ℕ) : Type 0 where
   begins : kindOf (wordOf k) ≡ k
   follows : Follows k 0 (widthsOf k)
 
-kind : (k : ℕ) → k ≤ lastKind → Kind k
+kind : (k : ℕ) → isKind k ≡ true → Kind k
 kind k h =
-    let t = below-at named (length kinds) k all-named (omega arith) in
-    let a = and-true (ltb 0 (length (wordOf k))) (all plain (wordOf k) && eqb (kindOf (wordOf k)) k) t in
-    let b = and-true (all plain (wordOf k)) (eqb (kindOf (wordOf k)) k) (a .1) in
+    let t = below-at named (length kinds) k all-named (in-table k h) in
+    let b = and-true (all plain (wordOf k)) (eqb (kindOf (wordOf k)) k) (rw h at t) in
     record {
-      some = ltb-true 0 (length (wordOf k)) (a .0);
+      some = ltb-true 0 (length (wordOf k)) h;
       pure = b .0;
       begins = eqb-true (kindOf (wordOf k)) k (b .1);
       follows = follow k 0 (widthsOf k) h (fitting k .wide) (λ i. rw (zero-add i));
@@ -163,18 +169,18 @@ kind k h =
 
 -- ---- a line of an event
 
-kind-then : (k : ℕ) (ws : List (List ℕ)) → k ≤ lastKind → kindThen k ws ≡ behind (k ∷ []) (fieldsFrom k 0 ws)
+kind-then : (k : ℕ) (ws : List (List ℕ)) → isKind k ≡ true → kindThen k ws ≡ behind (k ∷ []) (fieldsFrom k 0 ws)
 unfolding kindThen kindBytes
-kind-then k ws h = rw (ne-eqb k noWord (λ e. omega arith), ne-eqb k bytesLine (λ e. omega arith))
+kind-then k ws h = rw (ne-eqb k noWord (λ e. omega (arith, in-table k h)), ne-eqb k bytesLine (λ e. omega (arith, in-table k h)))
 
 words-first : (w : List ℕ) (ws : List (List ℕ)) → wordsRead (w ∷ ws) ≡ kindThen (kindOf w) ws
 unfolding wordsRead
 words-first w ws = refl
 
-pub name-plain : (k : ℕ) → k ≤ lastKind → all plain (wordOf k) ≡ true
+pub name-plain : (k : ℕ) → isKind k ≡ true → all plain (wordOf k) ≡ true
 name-plain k h = kind k h .pure
 
-pub event-back : (k : ℕ) (body : List ℕ) → k ≤ lastKind → Bytes body → bodyLength k ≤ length body → wordsRead (wordsIn (wordOf k ++ flat numberText (numbersOf (widthsOf k) body))) ≡ got (k ∷ take (bodyLength k) body) true
+pub event-back : (k : ℕ) (body : List ℕ) → isKind k ≡ true → Bytes body → bodyLength k ≤ length body → wordsRead (wordsIn (wordOf k ++ flat numberText (numbersOf (widthsOf k) body))) ≡ got (k ∷ take (bodyLength k) body) true
 event-back k body h b l =
     let kd = kind k h in
     let n = bodyLength k in

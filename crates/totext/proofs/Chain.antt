@@ -1,6 +1,6 @@
 -- The text that is handed over piece by piece is that of the file.
 use Prim.Native.Nat.{_+_, _-_, _<_, _≤_, suc, zero, ℕ}
-use mathlib.Core.Bool.{true}
+use mathlib.Core.Bool.{false, true}
 use mathlib.Core.List.{List, [], _++_, _∷_, append-assoc, append-nil}
 use mathlib.Core.Path.{_≡_, refl}
 use lib.Dec.{ltb}
@@ -14,7 +14,7 @@ use Rattle.pieces.specs.Chain.{Chain, Chained, stop, turn}
 use Rattle.pieces.specs.Shift.{Refilled}
 use Rattle.printing.proofs.Pieces.{text-split}
 use Rattle.printing.specs.Text.{textOf}
-use Rattle.rules.specs.Kinds.{bodyLengths, largest, lastKind, longestRecord}
+use Rattle.rules.specs.Kinds.{bodyLengths, isKind, largest, longestRecord}
 use Rattle.undo.proofs.Laws.{test}
 use Rattle.totext.specs.Results.{Between, Parted, Pieced, Ran, Rest, Rested, Turned, between, follows, goesOn, isLeft, rest, start}
 use Rattle.totext.specs.declared.Left.{Left}
@@ -43,10 +43,11 @@ largest-at [] (suc k) = omega arith
 largest-at (n ∷ ns) zero = test (ltb (largest ns) n) (λ e. rw e (omega arith)) (λ e. rw e (ltb-false (largest ns) n e))
 largest-at (n ∷ ns) (suc k) = test (ltb (largest ns) n) (λ e. rw e (omega (arith, largest-at ns k, ltb-true (largest ns) n e))) (λ e. rw e (largest-at ns k))
 
-long-unknown : (r : List ℕ) → longestRecord ≤ length r → recordLength r ≡ 0 → lastKind < getD r 0 0
+long-unknown : (r : List ℕ) → longestRecord ≤ length r → recordLength r ≡ 0 → isKind (getD r 0 0) ≡ false
 long-unknown r h e =
-    test (ltb lastKind (getD r 0 0)) (λ u. ltb-true lastKind (getD r 0 0) u)
-    (λ u. absurd (omega (arith, e, length-whole r (omega arith) (ltb-false lastKind (getD r 0 0) u) (omega (arith, largest-at bodyLengths (getD r 0 0))))))
+    test (isKind (getD r 0 0))
+    (λ u. absurd (omega (arith, e, length-whole r (omega arith) u (omega (arith, largest-at bodyLengths (getD r 0 0))))))
+    (λ u. u)
 
 -- ---- a run that goes on, with `left` turns left to count
 

@@ -1,20 +1,20 @@
 -- What a piece of a file leaves, and what the whole run does.
-use Prim.Native.Nat.{_<_, _≤_, ℕ}
+use Prim.Native.Nat.{_≤_, ℕ}
 use mathlib.Core.Path.{_≡_}
-use mathlib.Core.Bool.{Bool, _&&_, true}
+use mathlib.Core.Bool.{Bool, _&&_, false, true}
 use mathlib.Core.List.{List, _++_}
-use lib.Dec.{leb, ltb}
+use lib.Dec.{ltb}
 use lib.ListN.{drop, getD, length, take}
 use Rattle.events.specs.Whole.{recordLength, wholeLength}
 use Rattle.pieces.specs.Chain.{Chained}
 use Rattle.pieces.specs.Shift.{Refilled}
 use Rattle.printing.specs.Text.{textOf, wholeText}
-use Rattle.rules.specs.Kinds.{lastKind, longestRecord}
+use Rattle.rules.specs.Kinds.{isKind, longestRecord}
 use Rattle.totext.specs.declared.Left.{Left}
 
 -- a whole record may still come: more was read than was held, and what is left of it begins with a kind, or is empty
 unfoldable pub mayCome : Bool → List ℕ → Bool
-mayCome grew rest = grew && leb (getD rest 0 0) lastKind
+mayCome grew rest = grew && isKind (getD rest 0 0)
 
 -- from a buffer d, of which the first `have` bytes are held, to d′: a piece that begins with those is passed up to the end of its whole records.
 -- What is left of it is at the front. Whether its lines went out is the system's choice
@@ -54,7 +54,7 @@ pub record Ran (d d′ : List ℕ) (r : Left) : Type 0 where
   pub run : Chained follows Turned (between d start) (between d′ r)
   pub right : (f : List ℕ) → textOf (run .came ++ f) ≡ run .sent ++ textOf (take (r .held) d′ ++ f)
   pub rests : recordLength (take (r .held) d′) ≡ 0
-  pub unknown : longestRecord ≤ length (take (r .held) d′) → lastKind < getD (take (r .held) d′) 0 0
+  pub unknown : longestRecord ≤ length (take (r .held) d′) → isKind (getD (take (r .held) d′) 0 0) ≡ false
 
 -- what is left of a file: a buffer of which the first bytes count
 pub record Rest : Type 0 where

@@ -79,7 +79,7 @@ fn may_come(rest: &[u8], grew: bool) -> bool
     if rest.len() == 0 {
         return true;
     }
-    rest[0] <= events::LAST_KIND
+    events::is_kind(rest[0])
 }
 
 // Reads a piece behind the bytes that are held, writes its whole records, and keeps what is left.

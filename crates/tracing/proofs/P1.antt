@@ -4,7 +4,7 @@ use mathlib.Core.List.{List, [], _∷_}
 use lib.Dec.{T}
 use Rattle.output.specs.Decimal.{decimal, digits}
 use Rattle.rules.proofs.Cases.{same}
-use Rattle.rules.specs.Access.{joined, logged, read, stored, write, wrote}
+use Rattle.rules.specs.Access.{joined, logged, read, stored, wordAfter, write, wrote}
 use Rattle.rules.specs.Acknowledge.{dataAck, dropped, kept, keptEntry, landed, logAck, unlocked}
 use Rattle.rules.specs.Begin.{begin, opened}
 use Rattle.rules.specs.Bytes.{bytesOf, numOf, wordsBytes, wordsOf}
@@ -13,6 +13,7 @@ use Rattle.rules.specs.Contradiction.{anyBroken, anyClash, contradicts, inOrder
 use Rattle.rules.specs.End.{closed, endRegion}
 use Rattle.rules.specs.Flight.{flown}
 use Rattle.rules.specs.Image.{encode, entryRecord, headRecord, image, lineRecord, regionRecord, save, saved, savedEntry, savedLog, savedRegion, savedRegions, savedThread}
+use Rattle.rules.specs.Kinds.{kindAt}
 use Rattle.rules.specs.Lists.{aboveFrom, count, flat, place, risingFrom}
 use Rattle.rules.specs.Reader.{endTurn, fieldsTurn, headTurn, lineTurn, listedAt, listedTurn, loggedAt, loggedTurn, readImage, readBy, turnBy}
 use Rattle.rules.specs.Record.{eventOf, readRecord, recordsFrom, recordsOf}
@@ -40,5 +41,5 @@ output =
     ∷ 32 ∷ 55 ∷ 10 ∷ []
 
 pub prints : T (same (traceText (fresh Zero) (recordsOf file)) output)
-unfolding file output same joined read logged wrote stored write dropped keptEntry kept unlocked logAck landed dataAck opened begin bytesOf numOf wordsBytes wordsOf doneRegion commits earlier earliestFrom afterCommit freed commit settle settled inOrder anyBroken reachesIn reaches anyClash contradicts closed endRegion flown savedRegion savedRegions savedEntry savedThread savedLog saved headRecord lineRecord regionRecord entryRecord encode image count place flat aboveFrom risingFrom headTurn lineTurn listedAt listedTurn loggedAt loggedTurn endTurn fieldsTurn turnBy readBy readImage eventOf readRecord restoreBy restore testsOf refusal slotFrom written flownSlots carried settledBoard setup fence apply stepBy stepEvent step lentLine lentFrom startLines fresh ownerOf nextPlace without walkFrom walk entriesOf entriesFrom walkEntries save wroteInto recordsFrom digits decimal numberText answerText wordText flatTo lineText memoryText finish recoveredText imageBuffer cutText behindText eventText traceText
+unfolding file output same joined read logged wrote stored write dropped keptEntry kept unlocked logAck landed dataAck opened begin bytesOf numOf wordsBytes wordsOf doneRegion commits earlier earliestFrom afterCommit freed commit settle settled inOrder anyBroken reachesIn reaches anyClash contradicts closed endRegion flown savedRegion savedRegions savedEntry savedThread savedLog saved headRecord lineRecord regionRecord entryRecord encode image count place flat aboveFrom risingFrom headTurn lineTurn listedAt listedTurn loggedAt loggedTurn endTurn fieldsTurn turnBy readBy readImage eventOf readRecord restoreBy restore testsOf refusal slotFrom written flownSlots carried settledBoard setup fence apply stepBy stepEvent step lentLine lentFrom startLines fresh ownerOf nextPlace without walkFrom walk entriesOf entriesFrom walkEntries save wroteInto recordsFrom digits decimal numberText answerText wordText flatTo lineText memoryText finish recoveredText imageBuffer cutText behindText eventText traceText kindAt wordAfter
 prints = tt

@@ -151,7 +151,7 @@ module _ (m : Memory) (rs : List (List ℕ)) (bm : isByteMemory m ≡ true) (br 
       let e : flat lineBytes md ≡ flat lineBytes (take n (expected m rs)) =
       sym (found (withMedium md (saved (boardAfter m rs))) z) ∙ (ap memoryFound (sym q) ∙ (expected-found m rs bm br cut ∙ rw same)) in
       lines-same md (take n (expected m rs)) (w ∙ sym tl) (z .medium)
-      (λ j k. let d : j < n = omega arith in rw (getD-take n (expected m rs) j [] d) (expected-lines m rs bm br j (omega arith))) e
+      (λ j k. let d : j < n = omega arith in rw (getD-take n (expected m rs) j [] d) (expected-lines m rs bm j (omega arith))) e
 
   text-expected : Recovers (boardAfter m rs) (recovered (image (boardAfter m rs)))
       → memoryText n (recovered (image (boardAfter m rs))) ≡ flatTo (λ l. lineText l (lineOf l (expected m rs))) 0 n
@@ -165,14 +165,14 @@ module _ (m : Memory) (rs : List (List ℕ)) (bm : isByteMemory m ≡ true) (br 
 
 pub words-expected : WordsExpected
 unfolding cutText
-words-expected m rs bm br cut = go (every m rs bm br .simulated)
+words-expected m rs bm br cut = go (every m rs bm .simulated)
   where
     go : Simulated m (boardAfter m rs) (acceptedIn m rs) → cutText (boardAfter m rs) ≡ flatTo (λ l. lineText l (lineOf l (expected m rs))) 0 (linesIn (acceptedIn m rs))
     go (by s h rc i) =
         let b = boardAfter m rs in
         let c : b .tables .cut ≡ true = cut-is m rs ∙ cut in
         let up = i .shape .cut-setup c in
-        let quiet = sound rc i (every m rs bm br .rest) in
+        let quiet = sound rc i (every m rs bm .rest) in
         let same = i .told .lines up in
         saved-text (b .tables .size .lines) b imageBuffer up c (omega (arith, saved-short rc i up quiet, buffer-long))
         ∙ (text-expected m rs bm br cut up same (finish-recovers rc i up quiet 256 (start-stands rc i up quiet)) ∙ rw same)

@@ -85,7 +85,7 @@ module _ (m : Memory) (rs : List (List ℕ)) (bm : isByteMemory m ≡ true) (br 
   pub expected-found : memoryFound (recovered (image (boardAfter m rs))) ≡ expectedBytes m rs
   unfolding acts act
   expected-found =
-      let l = image-log (boardAfter m rs) (shaped (every m rs bm br .simulated)) in
+      let l = image-log (boardAfter m rs) (shaped (every m rs bm .simulated)) in
       let a = restore (restores (passLength m rs - 1) (act (recovering m rs []) PowerCut)) .answer in
       let e = eqb-true (a .value) 0 (and-true (eqb (a .refusal) 0) (eqb (a .value) 0) (recovery-is-right m rs [] bm br cut .finishes) .1) in
       let b = boardAfter m rs in

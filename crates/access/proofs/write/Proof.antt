@@ -63,7 +63,7 @@ returns c =
     let old = g .last .1 .1 .1 .1 .0 in
     let rs = regionsOf (s .regions .now) in
     let b = boardOf h ths (s .regions .now) owner lock (x .last .0) med old (s .car .now) in
-    write-law (s .t) (s .l) (k .result) (d .result) (storedIn (s .w) (s .v)) (q .result)
+    write-law (s .t) (s .l) (k .result) (d .result) (storedIn (s .w) (s .mask) (s .v)) (q .result)
     (boardOf h (s .threads .now) (s .regions .now) (s .owner .now) (s .lock .now) (s .cur .now) med (s .old .now) (s .car .now))
     (boardOf h ths (s .regions .now) owner lock (s .cur .now) med old (s .car .now))
     (placed (i .result) (q .result) b)

@@ -66,9 +66,27 @@ returns-8 : tie.Need-returns-8
 unfolding eventOf
 returns-8 c = rw (c .before .if8 .taken)
 
+write-bytes-of-requires : tie.Need-write-bytes-of-requires
+write-bytes-of-requires c κs = rw (c .if9 .taken) at (c .before .before .before .before .before .before .before .before .before .before .pre)
+
 returns-9 : tie.Need-returns-9
 unfolding eventOf
-returns-9 c = rw (ne-eqb _ 0 (c .before .before .before .before .before .before .before .if1 .left), ne-eqb _ 1 (c .before .before .before .before .before .before .if2 .left), ne-eqb _ 2 (c .before .before .before .before .before .if3 .left), ne-eqb _ 3 (c .before .before .before .before .if4 .left), ne-eqb _ 4 (c .before .before .before .if5 .left), ne-eqb _ 5 (c .before .before .if6 .left), ne-eqb _ 6 (c .before .if7 .left), ne-eqb _ 7 (c .if8 .left))
+returns-9 c = rw (c .before .if9 .taken) (c .write-bytes-of .ensures)
+
+returns-10 : tie.Need-returns-10
+unfolding eventOf
+returns-10 c =
+    rw (
+      ne-eqb _ 0 (c .before .before .before .before .before .before .before .before .if1 .left),
+      ne-eqb _ 1 (c .before .before .before .before .before .before .before .if2 .left),
+      ne-eqb _ 2 (c .before .before .before .before .before .before .if3 .left),
+      ne-eqb _ 3 (c .before .before .before .before .before .if4 .left),
+      ne-eqb _ 4 (c .before .before .before .before .if5 .left),
+      ne-eqb _ 5 (c .before .before .before .if6 .left),
+      ne-eqb _ 6 (c .before .before .if7 .left),
+      ne-eqb _ 7 (c .before .if8 .left),
+      ne-eqb _ 10 (c .if9 .left),
+    )
 
 pub event-of-spec : {M : Type 1} → statement M
 event-of-spec =
@@ -92,4 +110,6 @@ event-of-spec =
     returns-7
     shared-slice-read-t19
     returns-8
-    returns-9)
+    write-bytes-of-requires
+    returns-9
+    returns-10)

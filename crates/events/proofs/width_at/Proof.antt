@@ -17,7 +17,7 @@ array-read-result : tie.Need-array-read-result
 array-read-result c = search needs
 
 returns : tie.Need-returns
-returns c = let s = c .before .before .before in rw (c .before .before .kind-row .ensures) (pad-at 4 (widthsOf (s .args .kind)) (s .args .f) (c .if1 .taken))
+returns c = let s = c .before .before .before in rw (c .before .before .kind-row .ensures) (pad-at 5 (widthsOf (s .args .kind)) (s .args .f) (c .if1 .taken))
 
 returns-2 : tie.Need-returns-2
 returns-2 c = let s = c .before .before .before in sym (List·getD-eq-default (widthsOf (s .args .kind)) 0 (omega (arith, fitting (s .args .kind) .fields)))

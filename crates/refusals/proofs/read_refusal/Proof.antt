@@ -41,7 +41,7 @@ module _ (lock : List Bool) where
 
   passed-17 : (c : tie.Else1) → Passed 17 (tests (start c))
   unfolding testsOf
-  passed-17 c = let s = start c .args in goes 17 _ (tests (start c)) (c .before .access-refusal .ensures (s .regions .now) (s .owner .now) lock) refl (c .if1 .left)
+  passed-17 c = let s = start c .args in goes 17 _ (tests (start c)) (c .before .access-refusal .ensures 0 (s .regions .now) (s .owner .now) lock) refl (c .if1 .left)
 
   passed-19 : (c : tie.Else2) → Passed 19 (tests (start (to-17 c)))
   unfolding testsOf
@@ -52,7 +52,7 @@ access-refusal-requires c κs = search needs
 
 returns : tie.Need-returns
 unfolding refusal testsOf
-returns c = let s = c .before .before .args in λ lock. stops 17 _ (tests lock (c .before .before)) (c .before .access-refusal .ensures (s .regions .now) (s .owner .now) lock) (c .if1 .taken)
+returns c = let s = c .before .before .args in λ lock. stops 17 _ (tests lock (c .before .before)) (c .before .access-refusal .ensures 0 (s .regions .now) (s .owner .now) lock) (c .if1 .taken)
 
 current-requires : tie.Need-current-requires
 current-requires c κs = search needs

@@ -37,7 +37,7 @@ is-current c = c .before .before .before .before .current .ensures
 
 module _ (v : ℕ) where
   abbrev tests : tie.Start → List Test
-  tests s = testsOf (tables s) (Write (s .args .t) (s .args .l) (s .args .w) v)
+  tests s = testsOf (tables s) (Write (s .args .t) (s .args .l) (s .args .w) (s .args .mask) v)
 
   -- what each test says is what the code found
   says-17 : (c : tie.After-is-foreign) → badAt 17 (tests (start (c .before .before .before .before))) ≡ c .is-foreign .result
@@ -70,7 +70,7 @@ module _ (v : ℕ) where
   unfolding testsOf
   passed-17 c =
       let s = start c .args in
-      goes 17 _ (tests (start c)) (c .before .access-refusal .ensures (s .regions .now) (s .owner .now) (s .lock .now)) refl (c .if1 .left)
+      goes 17 _ (tests (start c)) (c .before .access-refusal .ensures v (s .regions .now) (s .owner .now) (s .lock .now)) refl (c .if1 .left)
 
   passed-18 : (c : tie.Else2) → Passed 18 (tests (start (to-17 c)))
   unfolding testsOf
@@ -93,7 +93,7 @@ access-refusal-requires c κs = search needs
 
 returns : tie.Need-returns
 unfolding refusal testsOf
-returns c = λ v. let s = c .before .before in stops 17 _ (tests v s) (c .before .access-refusal .ensures (s .args .regions .now) (s .args .owner .now) (s .args .lock .now)) (c .if1 .taken)
+returns c = λ v. let s = c .before .before in stops 17 _ (tests v s) (c .before .access-refusal .ensures v (s .args .regions .now) (s .args .owner .now) (s .args .lock .now)) (c .if1 .taken)
 
 current-requires : tie.Need-current-requires
 current-requires c κs = search needs

@@ -13,7 +13,6 @@ use lib.Dec.{eqb, ltb}
 use lib.ListN.{List·getD-eq-default, getD, length, length-set, set}
 use borrow.Author.Tests.{eq-eqb, eqb-false, eqb-true, ltb-false, ltb-true, not-false}
 use lib.Seq.{set-getD}
-use Rattle.rules.proofs.Recover.Sound.{sound}
 use Rattle.rules.proofs.Places.{Once, key-at, listed-key, listed-stored, region-stored}
 use Rattle.rules.proofs.Lists.{any-none, any-put, any-set, each-set, getD-set, place-lt, place-true}
 use Rattle.rules.proofs.Sim.State.{Finished, GoodRegion, Keeps, Kept, Rest, Sim, Simulated, Told, by}
@@ -306,7 +305,7 @@ rest-read {b} k l i o in′ r =
 
 pub read-keeps : (t l w : ℕ) → Keeps (Read t l w)
 unfolding apply testsOf
-read-keeps t l w m b es sound ref kept = go (kept .simulated)
+read-keeps t l w m b es ref kept = go (kept .simulated)
   where
     p : (n : ℕ) → badAt n (testsOf (b .tables) (Read t l w)) ≡ false
     p = passed (b .tables) (Read t l w) ref

@@ -315,7 +315,7 @@ module _ {m : ℕ → List ℕ} {b : Board} {es : List Account} {s : u.State (Li
 
 pub keeps-begin : (t : ℕ) → Keeps (Begin t)
 unfolding apply begin testsOf
-keeps-begin t m b es q r k =
+keeps-begin t m b es r k =
     test (eqb (depthOf t (b .tables)) 0)
     (λ d. rw d (opens d (k .simulated) (k .rest)))
     (λ d. rw d (keeps-deeper t m b es lt d k))

@@ -188,4 +188,4 @@ lands l m b es r kept = go (kept .simulated)
 
 pub keeps-data : (l : ℕ) → Keeps (DataAck l)
 unfolding apply
-keeps-data l m b es q r k = let z = lands l m b es r k in settles (z .0) (z .1)
+keeps-data l m b es r k = let z = lands l m b es r k in settles (z .0) (z .1)

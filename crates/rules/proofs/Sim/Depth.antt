@@ -48,7 +48,7 @@ alike-setup n l es =
 
 pub keeps-fence : (t : ℕ) → Keeps (Fence t)
 unfolding apply depthIn linesIn
-keeps-fence t m b es q r k = record { simulated = go (k .simulated); rest = k .rest }
+keeps-fence t m b es r k = record { simulated = go (k .simulated); rest = k .rest }
   where
     go : Simulated m b es → Simulated m b (Nothing ∷ es)
     go (by s h rc i) =
@@ -58,7 +58,7 @@ keeps-fence t m b es q r k = record { simulated = go (k .simulated); rest = k .r
 
 pub keeps-cut : Keeps Cut
 unfolding apply testsOf depthIn linesIn
-keeps-cut m b es q r k =
+keeps-cut m b es r k =
     record {
       simulated = go (k .simulated);
       rest = rest-alter {b = b} (b .tables .size) true (b .tables .clock) (b .tables .threads) (k .rest);
@@ -83,7 +83,7 @@ size′ n l b = withNumbers n l (b .tables .size)
 
 pub keeps-setup : (n l : ℕ) → Keeps (Setup n l)
 unfolding apply setup testsOf depthIn linesIn
-keeps-setup n l m b es q r k =
+keeps-setup n l m b es r k =
     record {
       simulated = go (k .simulated);
       rest = rest-alter {b = b} (size′ n l b) (b .tables .cut) (b .tables .clock) (b .tables .threads) (k .rest);

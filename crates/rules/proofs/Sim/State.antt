@@ -5,9 +5,9 @@ use Rattle.undo.specs.Claim as c
 use Prim.Native.Nat.{_*_, _+_, _<_, _≤_, ℕ}
 use mathlib.Core.Path.{_≡_}
 use mathlib.Core.Logic.{_≢_, _⊎_}
-use mathlib.Core.Bool.{Bool, _&&_, _||_, false, not, true}
+use mathlib.Core.Bool.{_&&_, _||_, false, not, true}
 use mathlib.Core.List.{List, [], _∷_}
-use lib.Dec.{eqb, ltb}
+use lib.Dec.{eqb}
 use lib.ListN.{getD, length}
 use Rattle.rules.proofs.Codec.Bytes.{isLine}
 use Rattle.rules.proofs.Views.{depView, entryAt, isOpened, newest, slotView, stateOf}
@@ -22,7 +22,6 @@ use Rattle.rules.specs.Step.{apply}
 use Rattle.rules.specs.Tables.{Board, Memory, lineOf, listed, noEntry, noRegion, noSlot, noThread, ownerOf, placeOf, regionAt, startLines, threadAt, threadOf}
 use Rattle.rules.specs.declared.Entry.{Entry}
 use Rattle.rules.specs.declared.Event.{Event}
-use Rattle.rules.specs.declared.Event.the-variants.{Begin, Cut, DataAck, End, Fence, LogAck, Read, Setup, Write}
 use Rattle.rules.specs.declared.Region.{Region}
 use Rattle.rules.specs.declared.Slot.{Slot}
 use Rattle.rules.specs.declared.SlotState.the-variants.{Empty, Waiting}
@@ -156,22 +155,10 @@ pub record Rest (b : Board) : Type 0 where
 pub data Simulated (m : Memory) (b : Board) (es : List Account) : Type 0 where
   by : (s : u.State (List ℕ)) (h : v.History (List ℕ)) → Reach (λ l. lineOf l (startLines m)) s h → Sim b es s h → Simulated m b es
 
--- a value that a record of bytes holds
-abbrev pub isSound : Event → Bool
-isSound (Setup n l) = true
-isSound (Begin t) = true
-isSound (End t) = true
-isSound (Read t l w) = true
-isSound (Write t l w v) = ltb v 18446744073709551616
-isSound (LogAck l) = true
-isSound (DataAck l) = true
-isSound (Fence t) = true
-isSound Cut = true
-
 -- what every accepted event keeps
 pub record Kept (m : Memory) (b : Board) (es : List Account) : Type 0 where
   pub simulated : Simulated m b es
   pub rest : Rest b
 
 abbrev pub Keeps : Event → Type 0
-Keeps e = (m : Memory) (b : Board) (es : List Account) → isSound e ≡ true → refusal (b .tables) e ≡ 0 → Kept m b es → Kept m (apply b e .board) (accountOf e ∷ es)
+Keeps e = (m : Memory) (b : Board) (es : List Account) → refusal (b .tables) e ≡ 0 → Kept m b es → Kept m (apply b e .board) (accountOf e ∷ es)

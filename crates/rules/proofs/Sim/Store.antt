@@ -7,20 +7,19 @@ use mathlib.Core.Path.{_∙_, _≡_, refl, sym}
 use mathlib.Core.Logic.{_⊎_, inl, inr, ⊎-elim}
 use mathlib.Core.Bool.{Bool, _&&_, cond, false, true}
 use mathlib.Core.List.{List, [], _∷_}
-use lib.Dec.{eqb, ltb}
+use lib.Dec.{eqb}
 use lib.ListN.{getD, length, length-set, set}
 use borrow.Author.Tests.{eqb-false, eqb-true}
 use Rattle.rules.proofs.Codec.Bytes.{isLine}
-use Rattle.rules.proofs.Recover.Sound.{sound}
 use Rattle.rules.proofs.Lists.{getD-set}
 use Rattle.rules.proofs.Places.{key-at, listed-key, listed-stored, region-stored}
 use Rattle.rules.proofs.Sim.State.{GoodRegion, Logs, Memories, Shape, Sim, Told}
 use Rattle.rules.proofs.Sim.Access.{open-undone, uses-access}
 use Rattle.rules.proofs.Sim.Parts.{logs-kept, once-at, owner-stored, part-stored, shape-stored, told-kept}
 use Rattle.rules.proofs.SlotLaws.{counted-view}
-use Rattle.rules.proofs.SlotWrites.{distinct-written, length-written, line-set, state-written, state-written-other}
+use Rattle.rules.proofs.SlotWrites.{distinct-written, length-written, line-set, state-written, state-written-other, word-small}
 use Rattle.rules.proofs.Views.{carryOf, newest, stateOf}
-use Rattle.rules.specs.Access.{changeLine, stored, storedIn}
+use Rattle.rules.specs.Access.{changeLine, stored, storedIn, wordAfter}
 use Rattle.rules.specs.History.{Account, Stores, depthIn, endsIn, lastWriter, linesIn, openedIn, regionIn, usesIn, writesIn}
 use Rattle.rules.specs.Slots.{isFull, slotFor, written}
 use Rattle.rules.specs.Tables.{Board, lineOf, listed, ownerOf, placeOf, regionAt, threadAt, withLocks, withOld, withOwners, withSlots, withTables, withThreads}
@@ -34,8 +33,8 @@ use Rattle.undo.proofs.Laws.{and-true, never, test}
 abbrev pub KeepsLine : (List ℕ → List ℕ) → Type 0
 KeepsLine change = (x : List ℕ) → isLine x ≡ true → isLine (change x) ≡ true
 
-pub word-keeps : (w y : ℕ) → ltb y 18446744073709551616 ≡ true → KeepsLine (storedIn w y)
-word-keeps w y sound x k = line-set x w y sound k
+pub word-keeps : (w mask v : ℕ) → KeepsLine (storedIn w mask v)
+word-keeps w mask v x k = line-set x w (wordAfter mask v (getD x w 0)) (word-small mask v (getD x w 0)) k
 
 -- the board with other logs, owners, locks and old lines
 abbrev pub relogged : List Thread → List ℕ → List Bool → List (List ℕ) → Board → Board

@@ -15,7 +15,6 @@ use native.Mathlib.Omega.{arith}
 use borrow.Author.Tests.{eq-eqb, eqb-false, eqb-true, leb-false, not-false}
 use lib.Seq.{set-set}
 use Rattle.rules.proofs.Recover.Live.{live-listed}
-use Rattle.rules.proofs.Recover.Sound.{sound}
 use Rattle.rules.proofs.Lists.{each-set, getD-set}
 use Rattle.rules.proofs.Places.{key-at, listed-key, listed-stored, place-stored, region-stored}
 use Rattle.rules.proofs.Sim.State.{Finished, Keeps, Kept, Rest, Sim, Simulated, by}
@@ -257,18 +256,18 @@ unfolding read
 slots-read k l ts in′ q =
     part-stored ts k (withDeps (joined (dependence k l ts) (regionAt k (ts .regions) .deps)) (regionAt k (ts .regions))) in′ (key-at k (ts .regions) in′) (λ x. x .slots) refl q
 
-pub write-keeps : (t l w y : ℕ) → Keeps (Write t l w y)
+pub write-keeps : (t l w mask y : ℕ) → Keeps (Write t l w mask y)
 unfolding apply testsOf read
-write-keeps t l w y m b es sound ref kept = go (kept .simulated)
+write-keeps t l w mask y m b es ref kept = go (kept .simulated)
   where
-    p : (n : ℕ) → badAt n (testsOf (b .tables) (Write t l w y)) ≡ false
-    p = passed (b .tables) (Write t l w y) ref
+    p : (n : ℕ) → badAt n (testsOf (b .tables) (Write t l w mask y)) ≡ false
+    p = passed (b .tables) (Write t l w mask y) ref
 
     deep : depthOf t (b .tables) ≢ 0
     deep = eqb-false (depthOf t (b .tables)) 0 (p 12)
 
     change : List ℕ → List ℕ
-    change = storedIn w y
+    change = storedIn w mask y
 
     go : Simulated m b es → Kept m (write t l change b) (Stores t l change ∷ es)
     go (by s h rc i) =
@@ -289,7 +288,7 @@ write-keeps t l w y m b es sound ref kept = go (kept .simulated)
             (not-false (isSetUp (b .tables)) (p 6))
             (leb-false (b .tables .size .threads) t (p 3))
             (leb-false (b .tables .size .lines) l (p 4))
-            (word-keeps w y sound)
+            (word-keeps w mask y)
             (rw cur at (p 18))
             (rw (slots-read (regionIn t es) l (b .tables) in′ (regionIn t es)) (rw cur at (p 20)))
             (rw cur at (p 21))
