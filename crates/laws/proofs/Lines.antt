@@ -1,5 +1,5 @@
--- The expected memory holds lines of eight words of 64 bits, since each accepted write leaves a line a line.
-use Prim.Native.Nat.{_<_, suc, zero, ℕ}
+-- Memories of lines of eight words of 64 bits: the starting memory, and one that changes which leave a line a line are applied to.
+use Prim.Native.Nat.{_<_, ℕ}
 use mathlib.Core.Path.{_∙_, _≡_}
 use mathlib.Core.Bool.{Bool, true}
 use mathlib.Core.List.{List, [], _∷_}
@@ -11,18 +11,12 @@ use borrow.Author.Tests.{eqb-false, eqb-true}
 use Rattle.rules.proofs.Codec.Bytes.{isLine}
 use Rattle.rules.proofs.Recover.Expected.{applied-length, effects-length}
 use Rattle.rules.proofs.Sim.State.{Simulated, by}
-use Rattle.rules.proofs.Sim.Store.{KeepsLine, word-keeps}
-use Rattle.rules.proofs.Start.{initially, start-length}
+use Rattle.rules.proofs.Sim.Store.{KeepsLine}
+use Rattle.rules.proofs.Start.{initially}
 use Rattle.rules.specs.Access.{changeLine}
 use Rattle.rules.specs.Claim.{isByteMemory}
-use Rattle.rules.specs.History.{Account, Change, accountOf, acceptedFrom, acceptedIn, applied, committed, effects, endsIn, expected, noted, writesIn}
-use Rattle.rules.specs.Record.{readRecord}
-use Rattle.rules.specs.Step.{step}
-use Rattle.rules.specs.Tables.{Board, Memory, fresh, lineOf, startLines}
-use Rattle.rules.specs.declared.Event.{Event}
-use Rattle.rules.specs.declared.Event.the-variants.{Begin, Cut, DataAck, End, Fence, LogAck, Read, Setup, Write}
-use Rattle.rules.specs.declared.Reading.{Reading}
-use Rattle.rules.specs.declared.Reading.the-variants.{Refused, Whole}
+use Rattle.rules.specs.History.{Change, applied, effects}
+use Rattle.rules.specs.Tables.{Memory, fresh, lineOf, startLines}
 use Rattle.undo.proofs.Laws.{test}
 
 -- each of these changes leaves a line a line
@@ -58,41 +52,9 @@ effects-lines done {ws} m (k ∷ ks) c n h =
     (λ a. rw a (applied-lines k (effects done ws m ks) c (effects-length done ws m ks ∙ n) ih))
     (λ a. rw a ih)
 
-noted-keeping : (n : ℕ) (x : Reading) (es : List Account) → Keeping (writesIn es) → Keeping (writesIn (noted n x es))
-unfolding writesIn
-noted-keeping zero (Refused n) es h = h
-noted-keeping (suc n) x es h = h
-noted-keeping zero (Whole e) es h = one e
-  where
-    one : (e : Event) → Keeping (writesIn (accountOf e ∷ es))
-    one (Setup n l) = h
-    one (Begin t) = h
-    one (End t) = h
-    one (Read t l w) = h
-    one (Write t l w mask v) = more (word-keeps w mask v) h
-    one (LogAck l) = h
-    one (DataAck l) = h
-    one (Fence t) = h
-    one Cut = h
-
-accepted-keeping : (rs : List (List ℕ)) (b : Board) (es : List Account) → Keeping (writesIn es)
-    → Keeping (writesIn (acceptedFrom b rs es))
-unfolding acceptedFrom
-accepted-keeping [] b es h = h
-accepted-keeping (r ∷ rs) b es h =
-    accepted-keeping rs (step b r .board) (noted (step b r .answer .refusal) (readRecord r) es)
-    (noted-keeping (step b r .answer .refusal) (readRecord r) es h)
-
 pub start-lines : (m : Memory) → isByteMemory m ≡ true → Lines (startLines m)
 unfolding fresh
 start-lines m bm j d = go (initially m bm .simulated)
   where
     go : Simulated m (fresh m) [] → isLine (lineOf j (startLines m)) ≡ true
     go (by s h rc i) = i .memories .med-lines j d
-
-pub expected-lines : (m : Memory) (rs : List (List ℕ)) → isByteMemory m ≡ true
-    → (j : ℕ) → j < 256 → isLine (lineOf j (expected m rs)) ≡ true
-unfolding expected writesIn
-expected-lines m rs bm =
-    effects-lines (committed m rs) (startLines m) (endsIn (acceptedIn m rs))
-    (accepted-keeping rs (fresh m) [] nothing) (start-length m) (start-lines m bm)

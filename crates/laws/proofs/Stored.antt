@@ -21,11 +21,12 @@ use Rattle.rules.proofs.Tests.{passed}
 use Rattle.rules.specs.Access.{changeLine, storedIn}
 use Rattle.rules.specs.Bytes.{byteOf}
 use Rattle.rules.specs.History.{Account, Change, acceptedFrom, acceptedIn, accountOf, applied, committed, effects, endsIn, expected, noted, regionIn, writesIn}
+use Rattle.rules.specs.Claim.{isByteMemory}
 use Rattle.rules.specs.Lists.{all}
 use Rattle.rules.specs.Record.{readRecord}
 use Rattle.rules.specs.Refusal.{refusal, testsOf}
 use Rattle.rules.specs.Step.{step, stepBy, stepEvent, stepRead}
-use Rattle.rules.specs.Tables.{Board, fresh, lineOf, startLines}
+use Rattle.rules.specs.Tables.{Board, Memory, fresh, lineOf, startLines}
 use Rattle.rules.specs.declared.Event.{Event}
 use Rattle.rules.specs.declared.Event.the-variants.{Begin, Cut, DataAck, End, Fence, LogAck, Read, Setup, Write}
 use Rattle.rules.specs.declared.Reading.{Reading}
@@ -138,6 +139,12 @@ module _ (x j : ℕ) (inside : x < 256) (low : j < 64) where
       (λ e. rw e (applied-byte k ws m′ (effects-length done (map asChange ws) m ks ∙ n) (effects-lines done m ks (keeps-lines ws) n h)
       ∙ ap (byteBy (λ r. eqb r k) x j ws) ih))
       (λ e. rw e ih)
+
+pub expected-lines : (m : Memory) (rs : List (List ℕ)) → isByteMemory m ≡ true → Lines (expected m rs)
+unfolding expected writesIn
+expected-lines m rs bm =
+    rw (run-fits rs (fresh m) [] [] (refl, refl) .0)
+    (effects-lines (committed m rs) (startLines m) (endsIn (acceptedIn m rs)) (keeps-lines (writtenIn m rs)) (start-length m) (start-lines m bm))
 
 pub stores-bytes : StoresBytes
 unfolding expected writesIn

@@ -46,7 +46,7 @@ pub fn writes_are_read()
     ensures { λ r. ⌜ WritesRead ⌝ }
 {}
 
-// A mask 0 is refused with 27, after 5 and before 11. In all else a write does not depend on its mask but in the bytes it stores.
+// A mask 0 is refused with 27, after 5 and before 11. In all else a write depends on its mask only in the bytes that it stores.
 pub fn mask_is_tested()
     ensures { λ r. ⌜ MaskTested ⌝ }
 {}

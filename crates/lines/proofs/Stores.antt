@@ -2,18 +2,18 @@
 use Prim.Native.Nat.{_%_, _*_, _+_, _-_, _/_, _<_, _^_, _≤_, suc, zero, ℕ}
 use mathlib.Core.Path.{_∙_, _≡_, ap, refl, sym}
 use mathlib.Core.Bool.{_&&_, cond, false}
-use mathlib.Core.List.{List, [], _++_, _∷_, map}
+use mathlib.Core.List.{List, [], _++_, _∷_, map, map-append}
 use lib.Dec.{eqb, ltb}
-use lib.ListN.{List·getD-append, drop, getD, length, set}
+use lib.ListN.{List·getD-append, drop, getD, length, length-map, set}
 use lib.Seq.{getD-append-add, getD-drop, getD-set-other, getD-set-same}
 use lib.Pow.{pow-add}
-use native.Mathlib.Nat.{div-div-eq-div-mul, div-one, pow-succ'}
+use native.Mathlib.Nat.{div-div-eq-div-mul, div-one, mul-assoc, pow-succ'}
 use native.Mathlib.Omega.{arith}
 use borrow.Author.Tests.{eqb-false, eqb-true, ltb-false, ltb-true}
-use Rattle.rules.specs.Access.{byteAfter, isSet, storedIn, wordAfter}
+use Rattle.rules.specs.Access.{byteAfter, isSet, storedIn, wordAfter, wordPlaces}
 use Rattle.rules.specs.Bytes.{byteOf, bytesOf, numOf, wordsBytes}
 use Rattle.rules.proofs.Codec.Bytes.{bytes-num, length-bytes}
-use Rattle.rules.proofs.SlotWrites.{word-bytes}
+use Rattle.rules.proofs.Words.{word-bytes}
 use Rattle.undo.proofs.Laws.{test}
 use Rattle.lines.specs.Stores.{Stores, bitsOf, isStored}
 
@@ -46,42 +46,32 @@ after-up mask v x k i = rw (div-up 2 mask k i, div-up 256 v k i, div-up 256 x k 
 pub after-low : (mask v x : ℕ) → cond (eqb (mask % 2) 1) (v % 256) (x % 256) ≡ byteAfter mask v x 0
 after-low mask v x = rw (div-one mask, div-one v, div-one x)
 
--- a word joined from its bytes, two and two, four and four
-module _ (mask v x a b : ℕ) where
-  pub two-joined : a ≡ byteAfter mask v x 0 → b ≡ byteAfter (mask / 2) (v / 256) (x / 256) 0 → a + 256 * b ≡ numOf (map (byteAfter mask v x) (0 ∷ 1 ∷ []))
-  unfolding numOf
-  two-joined p q = rw (p, q ∙ after-up mask v x 1 0) (by-two (byteAfter mask v x 0) (byteAfter mask v x 1))
-    where
-      by-two : (m n : ℕ) → m + 256 * n ≡ m + 256 * (n + 256 * 0)
-      by-two m n = omega arith
+-- a number joined from the bytes of two lists
+num-append : (xs ys : List ℕ) → numOf (xs ++ ys) ≡ numOf xs + 256 ^ length xs * numOf ys
+unfolding numOf
+num-append [] ys = omega arith
+num-append (x ∷ xs) ys =
+    let p = 256 ^ length xs in rw (num-append xs ys, pow-succ' 256 (length xs), mul-assoc 256 p (numOf ys)) (omega arith)
 
-  pub four-joined : a ≡ numOf (map (byteAfter mask v x) (0 ∷ 1 ∷ [])) → b ≡ numOf (map (byteAfter (mask / 4) (v / 65536) (x / 65536)) (0 ∷ 1 ∷ []))
-      → a + 65536 * b ≡ numOf (map (byteAfter mask v x) (0 ∷ 1 ∷ 2 ∷ 3 ∷ []))
-  unfolding numOf
-  four-joined p q =
+module _ (mask v x : ℕ) where
+  upper : (k : ℕ) (js : List ℕ) → map (byteAfter (mask / 2 ^ k) (v / 256 ^ k) (x / 256 ^ k)) js ≡ map (byteAfter mask v x) (map (λ j. k + j) js)
+  upper k [] = refl
+  upper k (j ∷ js) = rw (after-up mask v x k j, upper k js)
+
+  -- the bytes at places `is` below k and those at places js above it, of whatever width
+  pub joined : (k : ℕ) (is js : List ℕ) (a b : ℕ) → length is ≡ k → a ≡ numOf (map (byteAfter mask v x) is)
+      → b ≡ numOf (map (byteAfter (mask / 2 ^ k) (v / 256 ^ k) (x / 256 ^ k)) js) → a + 256 ^ k * b ≡ numOf (map (byteAfter mask v x) (is ++ map (λ j. k + j) js))
+  joined k is js a b n p q =
       let f = byteAfter mask v x in
-      let g = byteAfter (mask / 4) (v / 65536) (x / 65536) in
-      let h : g 0 + 256 * (g 1 + 256 * 0) ≡ f 2 + 256 * (f 3 + 256 * 0) = rw (after-up mask v x 2 0, after-up mask v x 2 1) in
-      rw (p, q ∙ h) (by-four (f 0) (f 1) (f 2 + 256 * (f 3 + 256 * 0)))
-    where
-      by-four : (m n o : ℕ) → m + 256 * (n + 256 * 0) + 65536 * o ≡ m + 256 * (n + 256 * o)
-      by-four m n o = omega arith
+      let ks = map (λ j. k + j) js in
+      rw (map-append f is ks, num-append (map f is) (map f ks), length-map is f, n, p, q, upper k js)
 
-  pub word-joined : a ≡ numOf (map (byteAfter mask v x) (0 ∷ 1 ∷ 2 ∷ 3 ∷ []))
-      → b ≡ numOf (map (byteAfter (mask / 16) (v / 4294967296) (x / 4294967296)) (0 ∷ 1 ∷ 2 ∷ 3 ∷ [])) → a + 4294967296 * b ≡ wordAfter mask v x
-  unfolding numOf wordAfter
-  word-joined p q =
-      let f = byteAfter mask v x in
-      let g = byteAfter (mask / 16) (v / 4294967296) (x / 4294967296) in
-      let y = f 4 + 256 * (f 5 + 256 * (f 6 + 256 * (f 7 + 256 * 0))) in
-      let h : g 0 + 256 * (g 1 + 256 * (g 2 + 256 * (g 3 + 256 * 0))) ≡ y
-      = rw (after-up mask v x 4 0, after-up mask v x 4 1, after-up mask v x 4 2, after-up mask v x 4 3) in
-      rw (p, q ∙ h) (by-eight (f 0) (f 1) (f 2) (f 3) y)
-    where
-      by-eight : (k l m n o : ℕ) → k + 256 * (l + 256 * (m + 256 * (n + 256 * 0))) + 4294967296 * o ≡ k + 256 * (l + 256 * (m + 256 * (n + 256 * o)))
-      by-eight k l m n o = omega arith
+-- one byte by itself
+pub alone : (b : ℕ) → b ≡ numOf (b ∷ [])
+unfolding numOf
+alone b = omega arith
 
-eight : (f : ℕ → ℕ) (i : ℕ) → i < 8 → getD (map f (0 ∷ 1 ∷ 2 ∷ 3 ∷ 4 ∷ 5 ∷ 6 ∷ 7 ∷ [])) i 0 ≡ f i
+eight : (f : ℕ → ℕ) (i : ℕ) → i < 8 → getD (map f wordPlaces) i 0 ≡ f i
 eight f zero h = refl
 eight f (suc zero) h = refl
 eight f (suc (suc zero)) h = refl
@@ -95,9 +85,8 @@ eight f (suc (suc (suc (suc (suc (suc (suc (suc i)))))))) h = absurd (omega arit
 pub word-byte : (mask v x i : ℕ) → i < 8 → byteOf i (wordAfter mask v x) ≡ byteAfter mask v x i
 unfolding wordAfter
 word-byte mask v x i h =
-    let is : List ℕ = 0 ∷ 1 ∷ 2 ∷ 3 ∷ 4 ∷ 5 ∷ 6 ∷ 7 ∷ [] in
-    let bs = map (byteAfter mask v x) is in
-    sym (byte-is 8 i (numOf bs) h) ∙ ap (λ ys. getD ys i 0) (bytes-num bs (word-bytes mask v x is)) ∙ eight (byteAfter mask v x) i h
+    let bs = map (byteAfter mask v x) wordPlaces in
+    sym (byte-is 8 i (numOf bs) h) ∙ ap (λ ys. getD ys i 0) (bytes-num bs (word-bytes mask v x wordPlaces)) ∙ eight (byteAfter mask v x) i h
 
 -- ---- a line
 

@@ -9,6 +9,7 @@ pub mod Lists
 pub mod Places
 pub mod SlotLaws
 pub mod SlotWrites
+pub mod Words
 pub mod Start
 pub mod Recover
 pub mod Keys

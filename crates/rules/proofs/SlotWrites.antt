@@ -1,27 +1,22 @@
 -- The slot that a write takes.
-use Prim.Native.Nat.{_+_, _/_, _<_, _^_, suc, ℕ}
+use Prim.Native.Nat.{_+_, _<_, suc, ℕ}
 use mathlib.Core.Path.{_∙_, _≡_, refl}
 use mathlib.Core.Bool.{cond, false, false≢true, true, true≢false}
 use mathlib.Core.List.{List, [], _∷_, map}
-use lib.Dec.{eqb, ltb}
+use lib.Dec.{eqb}
 use lib.ListN.{length, length-map, length-set, set}
 use native.Mathlib.Omega.{arith}
-use native.Mathlib.Nat.{add-zero, mod-lt, zero-add}
-use borrow.Author.Tests.{lt-ltb}
-use Rattle.rules.proofs.Codec.Bytes.{all-set, isLine, isWord, num-small}
+use native.Mathlib.Nat.{add-zero, zero-add}
 use Rattle.rules.proofs.Sim.State.{Distinct, more}
 use Rattle.rules.proofs.Views.{stateOf}
-use Rattle.rules.specs.Access.{byteAfter, isSet, wordAfter}
-use Rattle.rules.specs.Bytes.{byteOf, numOf}
-use Rattle.rules.specs.Claim.{isByte}
-use Rattle.rules.specs.Lists.{all, place}
+use Rattle.rules.specs.Lists.{place}
 use Rattle.rules.specs.Slots.{counted, countedSlot, isEmpty, isFull, orAt, slotFor, slotFrom, written, writtenAt}
 use Rattle.rules.specs.Tables.{noSlot, withLine, withState}
 use Rattle.rules.specs.declared.Found.{Found}
 use Rattle.rules.specs.declared.Found.the-variants.{At, Full}
 use Rattle.rules.specs.declared.Slot.{Slot}
 use Rattle.rules.specs.declared.SlotState.the-variants.{Empty, Waiting}
-use Rattle.undo.proofs.Laws.{and-true, flip, is-same, never, or-false, test}
+use Rattle.undo.proofs.Laws.{flip, is-same, never, or-false, test}
 use Rattle.undo.specs.Table.{any}
 use Rattle.rules.proofs.SlotLaws.{counted-empty, counted-mends, counted-names, distinct-map, empties, mend-absent, named, names-empty, names-here, names-other, names-true, rest-absent, state-counted, state-none}
 
@@ -153,27 +148,3 @@ module _ (ss : List Slot) (l : ℕ) (room : isFull (slotFor l ss) ≡ false) whe
     where
       go : Wrote l ss → Distinct (written l ss)
       go (at p f e) = rw e (distinct-set (waiting l) (is-same l) i (fits-counted f) (distinct-map counted-mends ds))
-
--- ---- a line keeps its form when a word is stored
-
-byte-small : (i n : ℕ) → isByte (byteOf i n) ≡ true
-byte-small i n = lt-ltb (byteOf i n) 256 (mod-lt (n / 256 ^ i) (omega arith))
-
--- each byte of a stored word is one of the value or of the word before
-byte-after : (mask v x i : ℕ) → isByte (byteAfter mask v x i) ≡ true
-byte-after mask v x i = test (isSet i mask) (λ e. rw e (byte-small i v)) (λ e. rw e (byte-small i x))
-
-pub word-bytes : (mask v x : ℕ) (is : List ℕ) → all isByte (map (byteAfter mask v x) is) ≡ true
-word-bytes mask v x [] = refl
-word-bytes mask v x (i ∷ is) = rw (byte-after mask v x i, word-bytes mask v x is)
-
-pub word-small : (mask v x : ℕ) → isWord (wordAfter mask v x) ≡ true
-unfolding wordAfter
-word-small mask v x =
-    let bs = map (byteAfter mask v x) (0 ∷ 1 ∷ 2 ∷ 3 ∷ 4 ∷ 5 ∷ 6 ∷ 7 ∷ []) in
-    lt-ltb (numOf bs) 18446744073709551616 (num-small bs (word-bytes mask v x (0 ∷ 1 ∷ 2 ∷ 3 ∷ 4 ∷ 5 ∷ 6 ∷ 7 ∷ [])))
-
-pub line-set : (x : List ℕ) (w v : ℕ) → ltb v 18446744073709551616 ≡ true → isLine x ≡ true → isLine (set x w v) ≡ true
-line-set x w v h e =
-    let z = and-true (eqb (length x) 8) (all isWord x) e in
-    rw (length-set x w v, z .0) (all-set isWord x w v (z .1) h)

@@ -70,9 +70,13 @@ isSet i mask = eqb (mask / 2 ^ i % 2) 1
 abbrev pub byteAfter : ℕ → ℕ → ℕ → ℕ → ℕ
 byteAfter mask v x i = cond (isSet i mask) (byteOf i v) (byteOf i x)
 
+-- the bytes of a word
+abbrev pub wordPlaces : List ℕ
+wordPlaces = 0 ∷ 1 ∷ 2 ∷ 3 ∷ 4 ∷ 5 ∷ 6 ∷ 7 ∷ []
+
 -- the word after it
 unfoldable pub wordAfter : ℕ → ℕ → ℕ → ℕ
-wordAfter mask v x = numOf (map (byteAfter mask v x) (0 ∷ 1 ∷ 2 ∷ 3 ∷ 4 ∷ 5 ∷ 6 ∷ 7 ∷ []))
+wordAfter mask v x = numOf (map (byteAfter mask v x) wordPlaces)
 
 -- what a write changes in its line
 abbrev pub storedIn : ℕ → ℕ → ℕ → List ℕ → List ℕ

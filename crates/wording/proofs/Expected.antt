@@ -37,7 +37,7 @@ use Rattle.wording.proofs.Words.{expected-found, image-log}
 use Rattle.wording.specs.Claim.{WordsExpected}
 use Rattle.wording.specs.Text.{cutText, finish, flatTo, imageBuffer, imageLine, lineText, memoryText, recovered, recoveredText}
 use Rattle.undo.proofs.Laws.{and-true, test}
-use Rattle.laws.proofs.Lines.{expected-lines}
+use Rattle.laws.proofs.Stored.{expected-lines}
 
 -- ---- lines with the same bytes are the same
 

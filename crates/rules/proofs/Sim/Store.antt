@@ -17,7 +17,8 @@ use Rattle.rules.proofs.Sim.State.{GoodRegion, Logs, Memories, Shape, S
 use Rattle.rules.proofs.Sim.Access.{open-undone, uses-access}
 use Rattle.rules.proofs.Sim.Parts.{logs-kept, once-at, owner-stored, part-stored, shape-stored, told-kept}
 use Rattle.rules.proofs.SlotLaws.{counted-view}
-use Rattle.rules.proofs.SlotWrites.{distinct-written, length-written, line-set, state-written, state-written-other, word-small}
+use Rattle.rules.proofs.SlotWrites.{distinct-written, length-written, state-written, state-written-other}
+use Rattle.rules.proofs.Words.{line-set, word-small}
 use Rattle.rules.proofs.Views.{carryOf, newest, stateOf}
 use Rattle.rules.specs.Access.{changeLine, stored, storedIn, wordAfter}
 use Rattle.rules.specs.History.{Account, Stores, depthIn, endsIn, lastWriter, linesIn, openedIn, regionIn, usesIn, writesIn}
