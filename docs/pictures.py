@@ -196,6 +196,11 @@ def column(event):
     return LEFT + COLUMN * (event - 1) + COLUMN // 2
 
 
+def event_text(words):
+    """An event as it stands in the readable file; of a setup T and L alone, since P1 has zeros behind them."""
+    return ' '.join(words[:3] if words[0] == 'setup' else words)
+
+
 def answer_text(answer):
     kind, refusal, value = answer
     if refusal:
@@ -209,7 +214,7 @@ def draw_events(picture, run, y, thread):
         of = int(words[1]) if words[0] in ('begin', 'end', 'read', 'write', 'fence') else None
         if of == thread:
             said, colour = answer_text(answer)
-            picture.on_lines(column(number), y + 14, ' '.join(words), font_weight='bold')
+            picture.on_lines(column(number), y + 14, event_text(words), font_weight='bold')
             picture.on_lines(column(number), y + 29, said, fill=colour)
 
 

@@ -4,14 +4,15 @@
 #include <inttypes.h>
 #include <stdlib.h>
 
-enum { KINDS = 11, SETUP = 0, MOST_THREADS = 8 };
+enum { KINDS = 11, SETUP = 0, MOST_THREADS = 8, LISTED = 32 };
 
-/* By kind: the word of the readable form, how many numbers of one byte the body begins with, and the width of the number behind them. Number 9 is no
-   kind's and has no word. */
-static const struct { const char *word; uint8_t bytes, last; } forms[KINDS] = {
-    {"setup", 1, 2}, {"begin", 1, 0}, {"end", 1, 0}, {"read", 3, 0}, {"write", 3, 8}, {"log-ack", 1, 0}, {"data-ack", 1, 0}, {"fence", 1, 0}, {"cut", 0, 0},
-    [10] = {"write-bytes", 4, 8},
+/* By kind: the word of the readable form, and the width of each number of the body, a digit for each. Number 9 is no kind's and has no word. */
+static const struct { const char *word, *widths; } forms[KINDS] = {
+    {"setup", "121111111111"}, {"begin", "1"}, {"end", "1"}, {"read", "111"}, {"write", "1118"}, {"log-ack", "1"}, {"data-ack", "1"}, {"fence", "1"},
+    {"cut", ""}, [10] = {"write-bytes", "11118"},
 };
+
+static size_t width_of(char digit) { return (size_t)(digit - '0'); }
 
 uint64_t number_at(const uint8_t *bytes, size_t width) {
     uint64_t value = 0;
@@ -42,7 +43,8 @@ uint8_t *read_file(const char *name, size_t *length) {
 
 size_t record_length(const uint8_t *bytes, size_t length) {
     if (length == 0 || bytes[0] >= KINDS || forms[bytes[0]].word == NULL) return 0;
-    size_t whole = (size_t)1 + forms[bytes[0]].bytes + forms[bytes[0]].last;
+    size_t whole = 1;
+    for (const char *w = forms[bytes[0]].widths; *w != 0; w++) whole += width_of(*w);
     return length < whole ? 0 : whole;
 }
 
@@ -52,21 +54,30 @@ size_t event_count(const uint8_t *file, size_t length) {
     return at < length ? count + 1 : count;
 }
 
+/* Whether a setup has T and L in range, no party but 0 and 1, none but 0 for a thread not below T, and reserves of at most 32 together. */
+static int can_stand(const uint8_t *record, size_t lines) {
+    const uint8_t threads = record[1], *party = record + 4, *reserve = party + MOST_THREADS;
+    for (size_t t = 0; t < MOST_THREADS; t++)
+        if (party[t] > (t < threads)) return 0;
+    return threads >= 1 && threads <= MOST_THREADS && lines >= 1 && lines <= MOST_LINES && reserve[0] + reserve[1] <= LISTED;
+}
+
 size_t memory_length(const uint8_t *file, size_t length) {
     for (size_t at = 0, next; (next = record_length(file + at, length - at)) > 0; at += next) {
         const uint8_t *record = file + at;
         if (record[0] != SETUP) continue;
         size_t lines = (size_t)number_at(record + 2, 2);
-        if (record[1] >= 1 && record[1] <= MOST_THREADS && lines >= 1 && lines <= MOST_LINES) return lines * LINE_BYTES;
+        if (can_stand(record, lines)) return lines * LINE_BYTES;
     }
     return 0;
 }
 
 void print_event(FILE *out, const uint8_t *bytes, size_t length) {
-    int whole = record_length(bytes, length) > 0;
-    const uint8_t *body = whole ? bytes + 1 : bytes;
-    size_t count = whole ? forms[bytes[0]].bytes : length;
-    fputs(whole ? forms[bytes[0]].word : "bytes", out);
-    for (size_t i = 0; i < count; i++) fprintf(out, " %u", body[i]);
-    if (whole && forms[bytes[0]].last > 0) fprintf(out, " %" PRIu64, number_at(body + count, forms[bytes[0]].last));
+    size_t whole = record_length(bytes, length), end = whole > 0 ? whole : length, width;
+    const char *widths = whole > 0 ? forms[bytes[0]].widths : NULL;
+    fputs(whole > 0 ? forms[bytes[0]].word : "bytes", out);
+    for (size_t at = whole > 0; at < end; at += width) {
+        width = whole > 0 ? width_of(*widths++) : 1;
+        fprintf(out, " %" PRIu64, number_at(bytes + at, width));
+    }
 }

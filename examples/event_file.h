@@ -20,7 +20,7 @@ size_t record_length(const uint8_t *bytes, size_t length);
 /* Number of events: the whole records, and one for the record that ends the file early. The engine gives as many answers. */
 size_t event_count(const uint8_t *file, size_t length);
 
-/* Bytes of starting memory, 64 * L of the setup that can be accepted: the first one with T and L in range. 0 if there is none. */
+/* Bytes of starting memory, 64 * L of the setup that can be accepted: the first one with T, L, parties and reserves in range. 0 if there is none. */
 size_t memory_length(const uint8_t *file, size_t length);
 
 /* The record that stands first in the readable form, as totext prints it, without the newline. */

@@ -1,5 +1,6 @@
 /* compare SEED LISTS: the proved engine against the plain one, on random event files, valid and damaged: answers, images, images after
-   every recovery step, places, refusals of short buffers and of damaged images; and on every mask. The last line is 'N passed, M failed'. */
+   every recovery step, places, refusals of short buffers and of damaged images; and on every mask, every party and reserve of a setup, and all pairs of
+   reserves that setup accepts. The last line is 'N passed, M failed'. */
 #include <stdio.h>
 #include <stdlib.h>
 #include <string.h>
@@ -116,8 +117,15 @@ static void compare_file(unsigned long long seed) {
     if (compare_image(length, memory_len, sizeof image[0], seed) == image_len) compare_recovery(image_len, &source, seed);
 }
 
+/* The start call, also with fewer and more than ten bytes of parties and reserves. */
+static void compare_start(uint64_t threads, uint64_t lines, const uint8_t *shares, size_t shares_len, size_t memory_len) {
+    board_answer a = board_start(threads, lines, shares, shares_len, memory, memory_len);
+    check(agree(a, plain_start(threads, lines, shares, shares_len, memory, memory_len)), "start", shares_len);
+}
+
 /* Every record of one byte, the empty file, setups in and out of range, places of other lengths. */
 static void compare_small(void) {
+    static const uint8_t shares[PLAIN_SHARES + 2] = {0, 1};
     uint8_t place[9] = {0};
     for (unsigned b = 0; b < 256; b++) {
         file[0] = (uint8_t)b;
@@ -126,7 +134,7 @@ static void compare_small(void) {
     }
     for (uint64_t t = 0; t < 11; t++)
         for (uint64_t l = 0; l < 300; l += 7)
-            check(agree(board_start(t, l, memory, (size_t)(64 * l) % sizeof memory), plain_start(t, l, memory, (size_t)(64 * l) % sizeof memory)), "start", t);
+            for (size_t n = 0; n <= sizeof shares; n++) compare_start(t, l, shares, n, (size_t)(64 * l) % sizeof memory);
     for (size_t n = 0; n < 10; n++)
         check(agree(board_recovery_step(image[0], 3, place, n), plain_recovery_step(image[1], 3, place, n)), "place of another length", n);
 }
@@ -134,8 +142,8 @@ static void compare_small(void) {
 /* A write of bytes with every mask, each of thread, line and word in range or just above it; before setup, outside a region, inside one, after a cut.
    The word is read behind it. */
 static void compare_masks(void) {
-    static const uint8_t front[] = {EVENT_SETUP, 1, 1, 0, EVENT_BEGIN, 0, EVENT_CUT};
-    static const size_t lengths[] = {0, 4, 6, 7};
+    static const uint8_t front[] = {EVENT_SETUP, 1, 1, [PLAIN_RECORD_BYTES] = EVENT_BEGIN, 0, EVENT_CUT};
+    static const size_t lengths[] = {0, PLAIN_RECORD_BYTES, PLAIN_RECORD_BYTES + 2, PLAIN_RECORD_BYTES + 3};
     for (size_t i = 0; i < PLAIN_LINE_BYTES; i++) memory[i] = (uint8_t)(16 + i);
     for (unsigned mask = 0; mask < 256; mask++)
         for (unsigned above = 0; above < 8; above++)
@@ -148,10 +156,72 @@ static void compare_masks(void) {
             }
 }
 
+/* A setup and a begin of each thread, at that place of the file; gives the place behind them. */
+static size_t put_board(size_t at, uint8_t threads, const uint8_t shares[PLAIN_SHARES]) {
+    put_setup(file + at, threads, 1, shares);
+    at += PLAIN_RECORD_BYTES;
+    for (uint8_t t = 0; t < PLAIN_THREADS; t++) file[at++] = EVENT_BEGIN, file[at++] = t;
+    return at;
+}
+
+/* A setup with these parties and reserves, at every T and as a start call. Behind it stands one that is accepted if the first was not, in which party 0 may
+   hold one entry; then the first again, which is refused. */
+static void compare_setup(const uint8_t shares[PLAIN_SHARES]) {
+    static const uint8_t accepted[PLAIN_SHARES] = {[PLAIN_THREADS + 1] = PLAIN_LISTED - 1};
+    for (uint8_t threads = 0; threads < 10; threads++) {
+        size_t length = put_board(put_board(put_board(0, threads, shares), PLAIN_THREADS, accepted), threads, shares);
+        compare_answers(length, PLAIN_LINE_BYTES, sizeof answers[0], threads);
+        compare_start(threads, 1, shares, PLAIN_SHARES, PLAIN_LINE_BYTES);
+    }
+}
+
+/* Each of the ten bytes of a setup behind L with every value, the others as they stand in two that are accepted at T 8. */
+static void compare_setups(void) {
+    static const uint8_t accepted[][PLAIN_SHARES] = {{0}, {0, 1, 0, 1, 0, 1, 0, 1, 5, 27}};
+    for (size_t i = 0; i < sizeof accepted / sizeof accepted[0]; i++)
+        for (unsigned v = 0; v < 256 * PLAIN_SHARES; v++) {
+            uint8_t shares[PLAIN_SHARES];
+            memcpy(shares, accepted[i], sizeof shares);
+            shares[v / 256] = (uint8_t)(v % 256);
+            compare_setup(shares);
+        }
+}
+
+/* Begins of two parties in an order of eight, bit 0 first, again and again, until no more entry is had. All regions of a thread stay uncommitted while its
+   first one waits for its line; at the end those of thread 0 commit, and both threads begin. */
+static void compare_begins(const uint8_t shares[PLAIN_SHARES], uint8_t order) {
+    static const uint8_t first[] = {EVENT_BEGIN, 0, EVENT_WRITE, 0, 0, 0, 7, [14] = EVENT_END, 0, EVENT_BEGIN, 1, EVENT_WRITE, 1, 1, 0, 7, [30] = EVENT_END, 1};
+    static const uint8_t last[] = {EVENT_LOG_ACK, 0, EVENT_DATA_ACK, 0, EVENT_BEGIN, 0, EVENT_BEGIN, 1, EVENT_CUT};
+    size_t length = PLAIN_RECORD_BYTES + sizeof first;
+    put_setup(file, 2, 2, shares);
+    memcpy(file + PLAIN_RECORD_BYTES, first, sizeof first);
+    for (int i = 0; i < 132; i++) {
+        uint8_t t = order >> i % 8 & 1;
+        const uint8_t next[] = {EVENT_BEGIN, t, EVENT_END, t};
+        memcpy(file + length, next, sizeof next);
+        length += sizeof next;
+    }
+    memcpy(file + length, last, sizeof last);
+    compare_answers(length + sizeof last, 2 * PLAIN_LINE_BYTES, sizeof answers[0], order);
+}
+
+/* All pairs of reserves that setup accepts, each with begins in several orders: one party alone, both in turn, one more often than the other. */
+static void compare_reserves(void) {
+    static const uint8_t orders[] = {0, 255, 0xAA, 0x01, 0xF7, 0x3C};
+    for (uint8_t first = 0; first <= PLAIN_LISTED; first++)
+        for (uint8_t second = 0; first + second <= PLAIN_LISTED; second++)
+            for (size_t i = 0; i < sizeof orders; i++) {
+                const uint8_t shares[PLAIN_SHARES] = {0, 1, [PLAIN_THREADS] = first, second};
+                compare_begins(shares, orders[i]);
+            }
+}
+
 int main(int argc, char **argv) {
     unsigned long long seed = argc > 1 ? strtoull(argv[1], NULL, 10) : 1, lists = argc > 2 ? strtoull(argv[2], NULL, 10) : 500;
     compare_small();
     compare_masks();
+    compare_setups();
+    compare_reserves();
     for (unsigned long long i = 0; i < lists; i++) compare_file(seed + i);
     printf("%llu passed, %llu failed\n", passed, failed);
     return failed != 0;

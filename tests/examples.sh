@@ -76,14 +76,23 @@ done
 check 'the values of the fences' '1 1 0 0 0 1 1 0' "$("$bin/trace" < ../samples/fence.events | grep '^7' | cut -d ' ' -f 3 | paste -sd ' ')"
 check 'writes of bytes, what is read, and what recovery finds' '10 0 0, 10 27 0, 10 17 0, 10 0 0, 3 0 78644200, 10 0 0, 3 0 4294902760, M 0 0 1000' \
     "$("$bin/trace" < ../samples/bytes.events | grep -E '^(10|3|M) ' | paste -sd , | sed 's/,/, /g')"
+check 'begins under a reserve, and what recovery finds' '1 0, 1 0, 1 16, 1 0, 1 16, 1 0, 1 16, 1 0, 1 0, 1 16, M 0 0 7' \
+    "$("$bin/trace" < ../samples/reserves.events | grep -E '^(1|M) ' | sed 's/^\(1 .*\) 0$/\1/' | paste -sd , | sed 's/,/, /g')"
 
-# files that end early, and one whose first setup is refused
-for end in 'bytes 4 0 1' 'bytes 9 0 255 1' 'bytes 10 1 2 0 3 1 2 0 0 0 0 0' 'bytes 11 1 2 0 3 1 2 0 0 0 0 0 0' 'bytes 200'; do
-    printf '%s\n' 'setup 9 1' 'setup 2 3' 'begin 1' 'write 1 2 7 18446744073709551615' 'write 1 2 0 1311768467463790320' 'read 1 2 0' 'fence 0' "$end" |
-        "$bin/tobytes" > "$scratch/damaged"
+# files that end early, and whose first setups are refused
+for end in 'bytes 4 0 1' 'bytes 9 0 255 1' 'bytes 10 1 2 0 3 1 2 0 0 0 0 0' 'bytes 11 1 2 0 3 1 2 0 0 0 0 0 0' 'bytes 0 2 3 0 0 0 0 0 0 0 0 0 0' \
+    'bytes 200'; do
+    printf '%s\n' 'setup 9 1 0 0 0 0 0 0 0 0 0 0' 'setup 2 3 0 0 1 0 0 0 0 0 0 0' 'setup 2 3 0 1 0 0 0 0 0 0 200 100' 'setup 2 3 0 1 0 0 0 0 0 0 0 32' \
+        'begin 0' 'begin 1' 'write 1 2 7 18446744073709551615' 'write 1 2 0 1311768467463790320' 'read 1 2 0' 'fence 0' "$end" | "$bin/tobytes" > "$scratch/damaged"
     replay_file "$scratch/damaged"
 done
 check 'an empty file' '0 answers agree'$'\n''exit 0' "$(replayed /dev/null /dev/null)"
+
+# the starting memory is that of the first setup that can be accepted
+printf '%s\n' 'setup 2 1 0 0 1 0 0 0 0 0 0 0' 'setup 2 1 2 0 0 0 0 0 0 0 0 0' 'setup 2 1 0 0 0 0 0 0 0 0 33 0' 'setup 2 3 0 1 0 0 0 0 0 0 0 32' \
+    'begin 0' 'begin 1' | "$bin/tobytes" > "$scratch/refused"
+"$build/replay" -w "$scratch/refused" "$scratch/answers"
+check 'setups with other lines, refused' '6 6 6 0 16 0' "$(od -An -v -w9 -tu1 "$scratch/answers" | awk '{ print $1 }' | paste -sd ' ')"
 
 # power lost after any number of recovery steps: the same memory is found
 check 'the whole output of the bench' "$(cat recovery.expected)" "$("$build/bench" ../samples/recovery.events)"
@@ -100,8 +109,8 @@ in_parts() {
     done
 }
 
-# a file read through a pipe in parts gives what it gives at once: two samples byte by byte, and one above 200 KB, whose parts end inside records
-for name in p1 bytes; do
+# a file read through a pipe in parts gives what it gives at once: three samples byte by byte, and one above 200 KB, whose parts end inside records
+for name in p1 bytes reserves; do
     for size in 1 2 5 13; do
         file=../samples/$name.events
         check "$name in parts of $size" "$("$bin/trace" < "$file")" "$(in_parts "$file" "$size" | "$bin/trace")"
@@ -109,7 +118,7 @@ for name in p1 bytes; do
     done
 done
 {
-    echo 'setup 2 9'
+    echo 'setup 2 9 0 0 0 0 0 0 0 0 0 0'
     for n in $(seq 1 6000); do
         l=$((n % 9))
         printf 'begin 1\nwrite 1 %d 3 %d\nwrite-bytes 1 %d 3 128 %d\nlog-ack %d\nread 1 %d 3\nend 1\ndata-ack %d\nwrite 0 1 1 1\n' $l "$n" $l $((n + 1)) $l $l $l
@@ -127,8 +136,11 @@ for size in 4093 65537; do
 done
 
 # a line that is not in the form: all lines before it are written, and nothing after
-printf 'setup 2 2\nbegin 0\nwrite 0 0 x\ncut\n' > "$scratch/bad.txt"
-check 'a bad line' ' 00 02 02 00 01 00' "$("$bin/tobytes" < "$scratch/bad.txt" 2> "$scratch/said" | od -An -tx1)"
+printf 'setup 2 2 0 1 0 0 0 0 0 0 3 4\nbegin 0\nwrite 0 0 x\ncut\n' > "$scratch/bad.txt"
+check 'a bad line' ' 00 02 02 00 00 01 00 00 00 00 00 00 03 04 01 00' "$("$bin/tobytes" < "$scratch/bad.txt" 2> "$scratch/said" | od -An -tx1)"
 check 'a bad line is named' 'line 3 is not in the form' "$(cat "$scratch/said")"
+for numbers in '2 2' '2 2 0 1 0 0 0 0 0 0 3' '2 2 0 1 0 0 0 0 0 0 3 4 5' '2 2 0 256 0 0 0 0 0 0 3 4' '2 2 0 1 0 0 0 0 0 0 3 256'; do
+    check "setup $numbers" 'line 1 is not in the form' "$(echo "setup $numbers" | "$bin/tobytes" 2>&1)"
+done
 echo "examples: $passed passed, $failed failed"
 [ "$failed" = 0 ]

@@ -1,6 +1,6 @@
 /* short [FILES]: every call with buffers of every short length, from 0 to a little beyond what is needed, each a heap block of exactly that length, so that
-   valgrind sees any access outside. Answers and bytes must be those of the plain engine; an output that is too short, or a place not of eight bytes, must
-   give 6 with nothing written. The last line is 'N passed, M failed'. */
+   valgrind sees any access outside. Answers and bytes must be those of the plain engine; an output that is too short, a place not of eight bytes, or parties
+   and reserves not of ten, must give 6 with nothing written. The last line is 'N passed, M failed'. */
 #include <stdio.h>
 #include <stdlib.h>
 #include <string.h>
@@ -80,14 +80,22 @@ static void try_step(size_t i, size_t p) {
     free(untouched_place);
 }
 
-static void try_start(void) {
-    for (uint64_t t = 0; t < 10; t++)
-        for (size_t n = 0; n <= memory_len + BEYOND; n++) {
-            uint8_t *lent = block(memory, memory_len, n);
-            uint64_t lines = memory_len / PLAIN_LINE_BYTES;
-            check(agree(board_start(t, lines, lent, n), plain_start(t, lines, lent, n)), "start", n);
-            free(lent);
-        }
+/* One start call, with parties and reserves (those of the file's setup) and a memory of these lengths. */
+static void try_start(uint64_t threads, size_t s, size_t m) {
+    uint8_t *shares = block(file + 4, PLAIN_SHARES, s), *lent = block(memory, memory_len, m);
+    uint64_t lines = memory_len / PLAIN_LINE_BYTES;
+    board_answer a = board_start(threads, lines, shares, s, lent, m);
+    check(agree(a, plain_start(threads, lines, shares, s, lent, m)), "start", m);
+    if (s != PLAIN_SHARES) check(is_six(a), "parties and reserves of another length", s);
+    free(shares);
+    free(lent);
+}
+
+static void try_starts(void) {
+    for (uint64_t t = 0; t < 10; t++) {
+        for (size_t n = 0; n <= memory_len + BEYOND; n++) try_start(t, PLAIN_SHARES, n);
+        for (size_t n = 0; n <= PLAIN_SHARES + BEYOND; n++) try_start(t, n, memory_len);
+    }
 }
 
 /* A file of a few threads and lines, and the four calls on it. */
@@ -99,7 +107,7 @@ static void try_seed(uint64_t seed) {
     file_len = random_file(seed, RANDOM_MIXED, (uint8_t)(1 + seed % PLAIN_THREADS), lines, EVENTS, file);
     answers_len = EVENTS * PLAIN_ANSWER_BYTES;
     image_len = (size_t)plain_image(file, file_len, memory, memory_len, image, sizeof image).value;
-    try_start();
+    try_starts();
     try_lengths(board_events, plain_events, "events", answers_len);
     try_lengths(board_image, plain_image, "image", image_len);
     for (size_t n = 0; n <= image_len + BEYOND; n++) try_step(n, 8);

@@ -11,13 +11,13 @@
 
 enum { STACK_BYTES = 8 << 20, PAINT = 0xC7, EVENTS = 20000 };
 
-static const uint8_t memory[PLAIN_LINES * PLAIN_LINE_BYTES];
+static const uint8_t memory[PLAIN_LINES * PLAIN_LINE_BYTES], shares[PLAIN_SHARES] = {0, 1, 0, 1, 0, 1, 0, 1, 16, 16};
 static uint8_t file[(EVENTS + 1) * PLAIN_RECORD_BYTES], answers[EVENTS * PLAIN_ANSWER_BYTES], image[PLAIN_IMAGE_BYTES];
 static size_t file_len, image_len;
 static volatile uint64_t answered; /* so that no call is left out */
 
 static void no_call(void) {}
-static void start_call(void) { answered += board_start(PLAIN_THREADS, PLAIN_LINES, memory, sizeof memory).refusal; }
+static void start_call(void) { answered += board_start(PLAIN_THREADS, PLAIN_LINES, shares, sizeof shares, memory, sizeof memory).refusal; }
 static void events_call(void) { answered += board_events(file, file_len, memory, sizeof memory, answers, sizeof answers).value; }
 static void image_call(void) { answered += board_image(file, file_len, memory, sizeof memory, image, sizeof image).value; }
 

@@ -55,7 +55,7 @@ static void put_answer(uint64_t *number, board_answer a) {
 /* All four calls on one file: recovery with a cut after its third step, until it has finished. */
 static void run_calls(const input *in, result *r) {
     memset(r, 0, sizeof *r);
-    put_answer(r->number, board_start(in->threads, in->memory_len / PLAIN_LINE_BYTES, in->memory, in->memory_len));
+    put_answer(r->number, board_start(in->threads, in->memory_len / PLAIN_LINE_BYTES, in->file + 4, PLAIN_SHARES, in->memory, in->memory_len));
     put_answer(r->number + 2, board_events(in->file, in->file_len, in->memory, in->memory_len, r->answers, sizeof r->answers));
     board_answer saved = board_image(in->file, in->file_len, in->memory, in->memory_len, r->saved, sizeof r->saved);
     put_answer(r->number + 4, saved);

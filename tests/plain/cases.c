@@ -1,5 +1,5 @@
-/* The cases P1 to P11 of document 01, the 33rd logged line, counting, fences inside a region, writes of bytes, spent numbers, and the calls' own
-   refusals. */
+/* The cases P1 to P11 of document 01, the 33rd logged line, counting, fences inside a region, writes of bytes, spent numbers, parties and reserves, and
+   the calls' own refusals. */
 #include <stdio.h>
 #include <string.h>
 
@@ -33,11 +33,25 @@ static void put(uint8_t refusal, uint64_t value, size_t length, const uint8_t *r
     wanted[events++] = (plain_answer){refusal, value};
 }
 
-static void setup(const char *title, uint8_t threads, uint16_t lines) {
+static void start_case(const char *title, uint16_t lines) {
     name = title;
     file_len = events = 0;
     board_lines = lines;
-    put(0, 0, 4, (uint8_t[]){EVENT_SETUP, threads, (uint8_t)lines, (uint8_t)(lines >> 8)});
+}
+
+/* A setup with the parties of thread 0 and up and the two reserves; the refusal that is due. */
+static void setup_shares(uint8_t threads, uint16_t lines, uint64_t parties, uint8_t first, uint8_t second, uint8_t r) {
+    uint8_t record[PLAIN_RECORD_BYTES], shares[PLAIN_SHARES];
+    put64(shares, parties);
+    shares[PLAIN_THREADS] = first;
+    shares[PLAIN_THREADS + 1] = second;
+    put_setup(record, threads, lines, shares);
+    put(r, 0, sizeof record, record);
+}
+
+static void setup(const char *title, uint8_t threads, uint16_t lines) {
+    start_case(title, lines);
+    setup_shares(threads, lines, 0, 0, 0, 0);
 }
 
 /* Each takes its fields, then the refusal and value that are due. */
@@ -56,7 +70,7 @@ static void write_word(uint8_t t, uint8_t l, uint8_t w, uint64_t stored, uint8_t
 }
 
 static void write_bytes(uint8_t t, uint8_t l, uint8_t w, uint8_t mask, uint64_t stored, uint8_t r) {
-    uint8_t record[PLAIN_RECORD_BYTES] = {EVENT_WRITE_BYTES, t, l, w, mask};
+    uint8_t record[PLAIN_BYTES_RECORD] = {EVENT_WRITE_BYTES, t, l, w, mask};
     put64(record + 5, stored);
     put(r, 0, sizeof record, record);
 }
@@ -371,35 +385,236 @@ static void no_mask(void) {
     run();
 }
 
+/* All entries but one are kept for a party without threads, so that at the last begin 16 fits as well; 14 comes first. */
 static void numbers_spent(void) {
     static plain_engine e;
     plain_init(&e);
-    plain_event(&e, (uint8_t[]){EVENT_SETUP, 1, 1, 0}, 4);
+    plain_event(&e, (uint8_t[PLAIN_RECORD_BYTES]){EVENT_SETUP, 2, 1, [13] = 31}, PLAIN_RECORD_BYTES);
     for (int i = 0; i < PLAIN_NUMBERS; i++) {
         plain_answer opened = plain_event(&e, (uint8_t[]){EVENT_BEGIN, 0}, 2);
         plain_answer ended = plain_event(&e, (uint8_t[]){EVENT_END, 0}, 2);
         if (opened.refusal != 0 || ended.value != 1) check(0, "numbers spent", "region", (unsigned)i);
     }
     check(plain_event(&e, (uint8_t[]){EVENT_BEGIN, 0}, 2).refusal == 14, "numbers spent", "next begin", 14);
+    check(plain_event(&e, (uint8_t[]){EVENT_BEGIN, 1}, 2).refusal == 0, "numbers spent", "another thread's begin", 0);
+    check(plain_event(&e, (uint8_t[]){EVENT_BEGIN, 0}, 2).refusal == 14, "numbers spent", "before 16", 14);
 }
 
-/* Records that end a file: of unknown kind, and one of the longest kind cut short; whole, it is before setup. */
+/* A record of this kind whose body is zeros, cut short at every length; whole, it is a setup with T 0 or stands before setup. */
+static void cut_short(uint8_t kind, size_t whole) {
+    uint8_t answers[PLAIN_ANSWER_BYTES], record[PLAIN_RECORD_BYTES] = {kind};
+    for (size_t length = 1; length <= whole; length++) {
+        plain_answer a = plain_events(record, length, memory, 64, answers, sizeof answers);
+        check(a.value == 1 && answers[0] == (length < whole ? 1 : 6), "ends", "one of the longest records, length", length);
+    }
+}
+
+/* Records that end a file: of unknown kind, and the two longest cut short. */
 static void ends(void) {
-    static const uint8_t unknown[] = {9, 11, 255}, longest[PLAIN_RECORD_BYTES] = {EVENT_WRITE_BYTES};
+    static const uint8_t unknown[] = {9, 11, 255};
     uint8_t answers[PLAIN_ANSWER_BYTES];
     for (size_t i = 0; i < sizeof unknown; i++) {
         plain_answer a = plain_events((uint8_t[]){unknown[i], 0}, 2, memory, 64, answers, sizeof answers);
         check(a.value == 1 && answers[0] == 2, "ends", "unknown kind", unknown[i]);
     }
-    for (size_t length = 1; length <= sizeof longest; length++) {
-        plain_answer a = plain_events(longest, length, memory, 64, answers, sizeof answers);
-        check(a.value == 1 && answers[0] == (length < sizeof longest ? 1 : 6), "ends", "write of bytes, length", length);
+    cut_short(EVENT_WRITE_BYTES, 13);
+    cut_short(EVENT_SETUP, 14);
+}
+
+/* ---- Parties and reserves ---- */
+
+/* The parties of all threads: 0, but that of thread t. */
+static uint64_t only(int t, uint8_t party) { return (uint64_t)party << 8 * t; }
+
+/* One region of the thread that waits for its line's log acknowledgement, then so many that wait for it: all stay uncommitted. */
+static void hold(uint8_t t, uint8_t line, int regions) {
+    begin(t, 0, 0);
+    write_word(t, line, 0, 7, 0);
+    end(t, 0, 0);
+    for (int i = 1; i < regions; i++) {
+        begin(t, 0, 0);
+        end(t, 0, 0);
     }
+}
+
+/* Each cause of 24 at its edge, where no other refusal fits; a refused setup does not stand, leaves no share, and the next is judged afresh. */
+static void wrong_shares(void) {
+    static const uint8_t above[][2] = {{33, 0}, {0, 33}, {17, 16}, {1, 32}, {255, 1}, {128, 128}, {200, 100}, {255, 255}};
+    start_case("24", 2);
+    for (int t = 0; t < PLAIN_THREADS; t++) {
+        setup_shares(3, 2, only(t, 2), 0, 0, 24);
+        setup_shares(3, 2, only(t, 128), 0, 0, 24);
+        if (t >= 3) setup_shares(3, 2, only(t, 1), 0, 0, 24);
+    }
+    for (size_t i = 0; i < sizeof above / sizeof above[0]; i++) setup_shares(3, 2, 1, above[i][0], above[i][1], 24);
+    begin(0, 6, 0);
+    setup_shares(3, 2, only(2, 1), 0, 32, 0);
+    setup_shares(3, 2, only(0, 1), 0, 0, 6);
+    begin(0, 16, 0);
+    begin(1, 16, 0);
+    begin(2, 0, 0);
+    setup_shares(3, 2, only(3, 1), 16, 17, 6);
+    cut(0, 1);
+    setup_shares(3, 2, 2, 0, 0, 6);
+    run();
+}
+
+/* Every cause of 6 comes before 24; the start call tries the memory's length. */
+static void six_before_24(void) {
+    start_case("6 before 24", 1);
+    setup_shares(0, 1, only(0, 1), 0, 0, 6);
+    setup_shares(9, 1, only(7, 2), 0, 0, 6);
+    setup_shares(1, 0, 2, 0, 0, 6);
+    setup_shares(1, 257, 0, 33, 0, 6);
+    setup_shares(1, 1, 0, 33, 0, 24);
+    setup_shares(1, 1, 0, 0, 0, 0);
+    setup_shares(1, 1, 0, 33, 0, 6);
+    run();
+}
+
+/* Parties and reserves that are accepted: of each thread, of all, and 32 entries kept. */
+static void right_shares(void) {
+    for (int t = 0; t < PLAIN_THREADS; t++) {
+        start_case("party 1 of the last thread", 1);
+        setup_shares((uint8_t)(t + 1), 1, only(t, 1), 32, 0, 0);
+        run();
+    }
+    start_case("party 1 of all", 1);
+    setup_shares(8, 1, UINT64_C(0x0101010101010101), 0, 32, 0);
+    run();
+}
+
+/* Thread 0 is of party 0 and thread 1 of party 1, for which 30 entries are kept: thread 0 gets two, and thread 1 all of its own. */
+static void kept_entries(void) {
+    start_case("kept entries", 2);
+    setup_shares(2, 2, only(1, 1), 0, 30, 0);
+    hold(0, 0, 2);
+    begin(0, 16, 0);
+    hold(1, 1, 1);
+    begin(0, 16, 0); /* one entry fewer is free, and one fewer is lacking */
+    for (int i = 1; i < 30; i++) {
+        begin(1, 0, 0);
+        begin(0, 16, 0);
+        end(1, 0, 0);
+    }
+    begin(1, 16, 0);
+    begin(0, 16, 0);
+    log_ack(0, 0, 0);
+    data_ack(0, 0, 2);
+    begin(0, 0, 0); /* the commit of thread 0's two freed both entries, and none is lacking */
+    end(0, 0, 1);
+    hold(0, 0, 2);
+    begin(1, 16, 0);
+    cut(0, 32);
+    run();
+}
+
+/* Two threads of each party, and three entries kept for party 0, which may hold more: then nothing is lacking, and the list is full at 32. */
+static void used_up(void) {
+    start_case("a reserve used up", 4);
+    setup_shares(4, 4, only(0, 1) | only(2, 1), 3, 0, 0);
+    begin(1, 0, 0);
+    write_word(1, 1, 0, 7, 0);
+    hold(0, 0, 20);
+    hold(2, 2, 9);
+    begin(0, 16, 0); /* 30 are held, and two of three are lacking: an open region counts */
+    begin(2, 16, 0);
+    end(1, 0, 0);
+    hold(3, 3, 2);
+    begin(1, 16, 0); /* full */
+    begin(0, 16, 0);
+    log_ack(0, 0, 0);
+    data_ack(0, 0, 20);
+    for (int i = 0; i < 3; i++) { /* beyond the reserve, as long as entries are free */
+        begin(1, 0, 0);
+        end(1, 0, 0);
+    }
+    hold(0, 0, 17);
+    begin(0, 16, 0); /* 32 are held: 26 of party 1 and six of party 0 */
+    begin(3, 16, 0);
+    run();
+}
+
+/* With both reserves 0 the list is full at 32, whatever the parties are; a nested begin needs no entry. */
+static void full_list(uint64_t parties) {
+    start_case("full list", 8);
+    setup_shares(8, 8, parties, 0, 0, 0);
+    for (uint8_t t = 0; t < PLAIN_THREADS; t++) hold(t, t, t < 7 ? 4 : 3);
+    begin(7, 0, 0);
+    for (uint8_t t = 0; t < PLAIN_THREADS; t++) begin(t, t < 7 ? 16 : 0, 0);
+    end(7, 0, 0);
+    end(7, 0, 0);
+    begin(7, 16, 0);
+    log_ack(4, 0, 0);
+    data_ack(4, 0, 4);
+    begin(7, 0, 0);
+    run();
+}
+
+/* All 32 entries kept for a party without threads: no region ever begins. */
+static void nobody(void) {
+    start_case("kept for nobody", 1);
+    setup_shares(1, 1, 0, 0, 32, 0);
+    for (int i = 0; i < 3; i++) {
+        begin(0, 16, 0);
+        end(0, 12, 0);
+        fence(0, 0, 1);
+    }
+    cut(0, 0);
+    begin(0, 11, 0);
+    run();
+    save(70);
+    recover(0, 0, 0, 0);
+    start_case("kept for nobody, all but one", 1);
+    setup_shares(1, 1, 0, 0, 31, 0);
+    begin(0, 0, 0);
+    begin(0, 0, 0); /* nested */
+    end(0, 0, 0);
+    end(0, 0, 1);
+    begin(0, 0, 0);
+    run();
+}
+
+/* A thread with four regions in its modified list meets 15 before 16. */
+static void fifteen_first(void) {
+    start_case("15 before 16", 5);
+    setup_shares(2, 5, only(1, 1), 0, 28, 0);
+    for (uint8_t l = 0; l < 4; l++) hold(0, l, 1);
+    begin(0, 15, 0);
+    hold(1, 4, 1);
+    log_ack(3, 0, 0);
+    data_ack(3, 0, 0); /* done, and its entry stays */
+    begin(0, 16, 0);
+    run();
+}
+
+/* Regions of both parties, of which recovery takes back what had not committed; the image has nothing of parties and reserves. */
+static void both_recovered(void) {
+    start_case("both parties recovered", 2);
+    setup_shares(2, 2, only(1, 1), 1, 31, 0);
+    hold(0, 0, 1);
+    begin(0, 16, 0);
+    log_ack(0, 0, 0);
+    data_ack(0, 0, 1);
+    begin(1, 0, 0);
+    write_word(1, 0, 0, 9, 0);
+    log_ack(0, 0, 0);
+    end(1, 0, 0);
+    begin(0, 0, 0);
+    read_word(0, 0, 0, 0, 9);
+    write_word(0, 1, 1, 8, 0);
+    log_ack(1, 0, 0);
+    end(0, 0, 0);
+    data_ack(1, 0, 0);
+    cut(0, 2);
+    run();
+    save(4 + 65 * 2 + 17 * 2 + 69 * 2 + 1);
+    recover(2, 0, 0, 7);
 }
 
 /* Refusals of the calls themselves, and how a file ends. */
 static void calls(void) {
-    static const uint8_t cut_short[] = {EVENT_CUT, EVENT_SETUP, 1, 1, 0, EVENT_SETUP, 1, 1, 0, EVENT_CUT, EVENT_BEGIN, 0, EVENT_READ, 0};
+    static const uint8_t cut_short[] = {EVENT_CUT, EVENT_SETUP, 1, 1, [15] = EVENT_SETUP, 1, 1, [29] = EVENT_CUT, EVENT_BEGIN, 0, EVENT_READ, 0};
     static const uint8_t due[] = {6, 0, 6, 0, 11, 1};
     uint8_t answers[64];
     memset(answers, 0xee, sizeof answers);
@@ -412,12 +627,31 @@ static void calls(void) {
     for (size_t i = 0; i < 5; i++) check(answers[9 * i] == 6, "calls", "memory that does not fit, event", i);
     check(plain_events(cut_short, 0, memory, 64, answers, 0).value == 0, "calls", "empty file", 0);
     check(plain_image(cut_short, sizeof cut_short, memory, 64, image, sizeof image).value == 70, "calls", "image", 70);
-    check(plain_image(cut_short, 5, memory, 64, image, sizeof image).refusal == 6, "calls", "image without cut", 6);
-    check(plain_start(8, 256, memory, sizeof memory).refusal == 0, "calls", "start", 0);
-    check(plain_start(9, 256, memory, sizeof memory).refusal == 6, "calls", "start", 1);
-    check(plain_start(UINT64_C(1) << 32 | 1, 1, memory, 64).refusal == 6, "calls", "start", 2);
-    check(plain_start(1, 257, memory, 64).refusal == 6 && plain_start(1, 0, memory, 0).refusal == 6, "calls", "start", 3);
-    check(plain_start(1, 1, memory, 63).refusal == 6, "calls", "start", 4);
+    check(plain_image(cut_short, 15, memory, 64, image, sizeof image).refusal == 6, "calls", "image without cut", 6);
+}
+
+/* The answer of the start call with this memory's length and so many bytes of the shares. */
+static void start(uint64_t threads, uint64_t lines, const uint8_t *shares, size_t shares_len, size_t memory_len, uint8_t due) {
+    plain_answer a = plain_start(threads, lines, shares, shares_len, memory, memory_len);
+    check(a.refusal == due && a.value == 0, "start", "refusal", a.refusal);
+}
+
+static void starts(void) {
+    static const uint8_t none[PLAIN_SHARES + 1], right[PLAIN_SHARES + 1] = {0, 1, [8] = 16, 16, 7}, wrong[PLAIN_SHARES + 1] = {0, 0, 1};
+    start(8, 256, none, 10, sizeof memory, 0);
+    start(9, 256, none, 10, sizeof memory, 6);
+    start(UINT64_C(1) << 32 | 1, 1, none, 10, 64, 6);
+    start(1, 257, none, 10, 64, 6);
+    start(1, 0, none, 10, 0, 6);
+    start(1, 1, none, 10, 63, 6);
+    start(2, 1, right, 10, 64, 0);
+    start(1, 1, right, 10, 64, 24);
+    start(2, 1, wrong, 10, 64, 24);
+    start(3, 1, wrong, 10, 64, 0);
+    start(2, 1, wrong, 10, 63, 6);
+    start(UINT64_MAX, 1, wrong, 10, 64, 6);
+    for (size_t length = 0; length <= sizeof right; length++) start(2, 1, right, length, 64, length == 10 ? 0 : 6);
+    for (size_t length = 0; length <= sizeof wrong; length++) start(2, 1, wrong, length, 64, length == 10 ? 24 : 6);
 }
 
 int main(void) {
@@ -437,7 +671,18 @@ int main(void) {
     no_mask();
     numbers_spent();
     ends();
+    wrong_shares();
+    six_before_24();
+    right_shares();
+    kept_entries();
+    used_up();
+    full_list(0);
+    full_list(UINT64_C(0x0100010100000100));
+    nobody();
+    fifteen_first();
+    both_recovered();
     calls();
+    starts();
     printf("%u passed, %u failed\n", passed, failed);
     return failed > 0;
 }

@@ -1,6 +1,8 @@
-/* Regions compared; little-endian numbers and whole lines in byte buffers. */
+/* Regions compared; little-endian numbers, whole lines and setup records in byte buffers. */
 #ifndef PLAIN_COMMON_H
 #define PLAIN_COMMON_H
+
+#include <string.h>
 
 #include "plain.h"
 
@@ -36,6 +38,13 @@ static inline plain_line get_line(const uint8_t *bytes) {
 
 static inline void put_line(uint8_t *bytes, plain_line line) {
     for (int w = 0; w < PLAIN_WORDS; w++) put64(bytes + 8 * w, line.word[w]);
+}
+
+static inline void put_setup(uint8_t *record, uint8_t threads, uint16_t lines, const uint8_t *shares) {
+    record[0] = EVENT_SETUP;
+    record[1] = threads;
+    put16(record + 2, lines);
+    memcpy(record + 4, shares, PLAIN_SHARES);
 }
 
 #endif

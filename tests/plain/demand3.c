@@ -1,5 +1,6 @@
 /* Demand 3 tried on the plain engine: seeded event lists, a cut after any event, recovery steps with cuts between.
-   What must be found is worked out of the list of accepted events and the set of committed regions. */
+   What must be found is worked out of the list of accepted events and the set of committed regions. So is what a party holds: below its reserve it never
+   meets 16. */
 #include <stdio.h>
 #include <stdlib.h>
 #include <string.h>
@@ -28,6 +29,7 @@ static struct {
     int depth[PLAIN_THREADS];
     int newest[PLAIN_THREADS];     /* each thread's newest region, -1 before the first */
     int last_writer[PLAIN_LINES];  /* -1 before the first write */
+    uint8_t shares[PLAIN_SHARES];  /* of the setup that stands */
     history_region region[MOST_EVENTS];
     history_write write[MOST_EVENTS];
     history_dependence dependence[2 * MOST_EVENTS];
@@ -68,6 +70,7 @@ static void note_access(const uint8_t *record) {
 
 static void note_event(const uint8_t *record) {
     switch (record[0]) {
+    case EVENT_SETUP: memcpy(history.shares, record + 4, sizeof history.shares); break;
     case EVENT_BEGIN: note_begin(record[1]); break;
     case EVENT_END:
         if (--history.depth[record[1]] == 0) history.region[history.newest[record[1]]].ended = 1;
@@ -108,6 +111,29 @@ static int others_committed(uint8_t thread) {
     for (int i = 0; i < history.regions; i++)
         if (i != open && history.region[i].region.thread == thread && !history.region[i].committed) return 0;
     return 1;
+}
+
+/* ---- Reserves ---- */
+
+/* The regions of the party's threads that were opened and have not committed. */
+static int held_by(uint8_t party) {
+    int held = 0;
+    for (int i = 0; i < history.regions; i++) held += !history.region[i].committed && history.shares[history.region[i].region.thread] == party;
+    return held;
+}
+
+static int larger(int a, int b) { return a > b ? a : b; }
+
+/* Below its reserve a party never meets 16; the entries held or kept for one party and the other have room in the list. */
+static void check_reserves(const plain_engine *e) {
+    const uint8_t *reserve = history.shares + PLAIN_THREADS;
+    int held[PLAIN_PARTIES] = {held_by(0), held_by(1)};
+    require(larger(held[0], reserve[0]) + larger(held[1], reserve[1]) <= PLAIN_LISTED, "the entries held and kept");
+    for (uint8_t t = 0; t < e->threads; t++) {
+        uint8_t party = history.shares[t];
+        if (history.depth[t] == 0 && held[party] < reserve[party])
+            require(plain_refusal(e, (uint8_t[]){EVENT_BEGIN, t}, 2) != 16, "16 below the reserve");
+    }
 }
 
 /* ---- The tables after each event, rule by rule ---- */
@@ -229,6 +255,7 @@ static void try_event(plain_engine *e, const uint8_t *record, size_t length) {
     note_commits(e, record, answer);
     if (record[0] == EVENT_FENCE) require(answer.value == (uint64_t)others_committed(record[1]), "value of the fence");
     check_tables(e);
+    check_reserves(e);
 }
 
 /* A record that follows the engine, or one with any fields near the board's; now and then cut short or unknown. */
@@ -268,13 +295,15 @@ static void try_list(void) {
     uint8_t threads = (uint8_t)(1 + random_below(source, seed % 16 == 0 ? 8 : 3));
     uint16_t lines = (uint16_t)(1 + random_below(source, seed % 8 == 0 ? 40 : 4));
     uint64_t count = 4 + random_below(source, MOST_EVENTS - 4);
-    size_t lent = PLAIN_LINE_BYTES * (size_t)lines, length = 4;
+    size_t lent = PLAIN_LINE_BYTES * (size_t)lines, length = PLAIN_RECORD_BYTES;
     int wild = random_chance(source, 4);
+    uint8_t shares[PLAIN_SHARES];
     for (size_t i = 0; i < lent; i++) start_memory[i] = (uint8_t)random_next(source);
-    memcpy(file, (uint8_t[]){EVENT_SETUP, threads, (uint8_t)lines, 0}, 4);
+    random_shares(source, threads, shares);
+    put_setup(file, threads, lines, shares);
     history_clear();
     plain_init_lent(&e, start_memory, lent);
-    try_event(&e, file, 4);
+    try_event(&e, file, length);
     for (uint64_t i = 0; i < count; i++) {
         uint8_t record[PLAIN_RECORD_BYTES] = {0};
         size_t next = next_record(&events, &e, wild, record), whole = plain_record_length(record, next);

@@ -6,15 +6,15 @@
 #include "random.h"
 
 static int mode_of(const char *name) {
-    static const char *const names[] = {"mixed", "deep", "damaged", "mixed-words", "deep-words"};
-    for (int i = 0; i < 5; i++)
+    static const char *const names[] = {"mixed", "deep", "damaged", "mixed-words", "deep-words", "mixed-bytes", "reserves"};
+    for (int i = 0; i < 7; i++)
         if (strcmp(name, names[i]) == 0) return i;
     return -1;
 }
 
 int main(int argc, char **argv) {
     if (argc != 6 || mode_of(argv[2]) < 0) {
-        fprintf(stderr, "usage: generate SEED mixed|deep|damaged|mixed-words|deep-words THREADS LINES EVENTS\n");
+        fprintf(stderr, "usage: generate SEED mixed|deep|damaged|mixed-words|deep-words|mixed-bytes|reserves THREADS LINES EVENTS\n");
         return 2;
     }
     unsigned long threads = strtoul(argv[3], NULL, 10), lines = strtoul(argv[4], NULL, 10);

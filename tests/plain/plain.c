@@ -6,7 +6,7 @@
 #include "common.h"
 
 /* By kind; 0 for a number that is no kind's. */
-static const size_t record_length[] = {4, 2, 2, 4, PLAIN_WRITE_RECORD, 2, 2, 2, 1, 0, PLAIN_RECORD_BYTES};
+static const size_t record_length[] = {PLAIN_RECORD_BYTES, 2, 2, 4, PLAIN_WRITE_RECORD, 2, 2, 2, 1, 0, PLAIN_BYTES_RECORD};
 
 /* A write stores the bits of its value that are set in `stored`. */
 typedef struct { uint8_t kind, thread, line, word; uint64_t stored, value; } event;
@@ -75,10 +75,18 @@ static plain_modified *modified_of(plain_engine *e, plain_region r) {
 
 /* ---- Refusals ---- */
 
-static uint8_t setup_refusal(const plain_engine *e, uint64_t threads, uint64_t lines) {
+/* A party that there is not, also of a thread that there is not, or more entries kept than the list has. */
+static int shares_wrong(uint64_t threads, const uint8_t *shares) {
+    for (uint64_t t = 0; t < PLAIN_THREADS; t++)
+        if (shares[t] >= (t < threads ? PLAIN_PARTIES : 1)) return 1;
+    return PLAIN_LISTED - shares[PLAIN_THREADS] - shares[PLAIN_THREADS + 1] < 0;
+}
+
+static uint8_t setup_refusal(const plain_engine *e, uint64_t threads, uint64_t lines, const uint8_t *shares) {
     if (threads < 1 || threads > PLAIN_THREADS || lines < 1 || lines > PLAIN_LINES) return 6;
     if (e->is_lent && e->lent_len != PLAIN_LINE_BYTES * lines) return 6;
-    return e->threads != 0 ? 6 : 0;
+    if (e->threads != 0) return 6;
+    return shares_wrong(threads, shares) ? 24 : 0;
 }
 
 /* The bits of a word that lie in the bytes of a mask. */
@@ -124,12 +132,20 @@ static uint8_t input_refusal(const plain_engine *e, const event *ev) {
     return ev->kind == EVENT_WRITE && ev->stored == 0 ? 27 : 0;
 }
 
+/* The entries of the dependence list that stay free behind one more of the party, less what the other party may still claim; below 0 there is no room.
+   Each entry of the other party takes one from its claim, until nothing of its reserve is left. */
+static int room_behind(const plain_engine *e, uint8_t party) {
+    int left = PLAIN_LISTED - 1 - (int)e->listed_len, claim = e->reserve[!party];
+    for (uint32_t i = 0; i < e->listed_len && claim > 0; i++) claim -= e->party[e->listed[i].region.thread] != party;
+    return left - claim;
+}
+
 static uint8_t begin_refusal(const plain_engine *e, uint8_t thread) {
     if (e->depth[thread] == PLAIN_DEPTH) return 13;
     if (e->depth[thread] > 0) return 0;
     if (e->last[thread] == PLAIN_NUMBERS) return 14;
     if (find_modified(e, thread, 0) < 0) return 15;
-    return e->listed_len == PLAIN_LISTED ? 16 : 0;
+    return room_behind(e, e->party[thread]) < 0 ? 16 : 0;
 }
 
 /* Refusals of a read or a write. */
@@ -321,9 +337,11 @@ static uint64_t apply(plain_engine *e, const event *ev) {
     return e->listed_len;
 }
 
-static void apply_setup(plain_engine *e, uint8_t threads, uint16_t lines) {
+static void apply_setup(plain_engine *e, uint8_t threads, uint16_t lines, const uint8_t *shares) {
     e->threads = threads;
     e->lines = lines;
+    memcpy(e->party, shares, sizeof e->party);
+    memcpy(e->reserve, shares + sizeof e->party, sizeof e->reserve);
     for (size_t l = 0; e->is_lent && l < lines; l++) e->current[l] = get_line(e->lent + PLAIN_LINE_BYTES * l);
     memcpy(e->medium, e->current, sizeof e->medium);
 }
@@ -355,7 +373,7 @@ static uint8_t record_refusal(const uint8_t *record, size_t len) {
 uint8_t plain_refusal(const plain_engine *e, const uint8_t *record, size_t len) {
     uint8_t refusal = record_refusal(record, len);
     if (refusal != 0) return refusal;
-    if (record[0] == EVENT_SETUP) return setup_refusal(e, record[1], get16(record + 2));
+    if (record[0] == EVENT_SETUP) return setup_refusal(e, record[1], get16(record + 2), record + 4);
     event ev = decode(record);
     refusal = input_refusal(e, &ev);
     return refusal != 0 ? refusal : state_refusal(e, &ev);
@@ -365,7 +383,7 @@ plain_answer plain_event(plain_engine *e, const uint8_t *record, size_t len) {
     uint8_t refusal = plain_refusal(e, record, len);
     if (refusal != 0) return (plain_answer){refusal, 0};
     if (record[0] == EVENT_SETUP) {
-        apply_setup(e, record[1], get16(record + 2));
+        apply_setup(e, record[1], get16(record + 2), record + 4);
         return (plain_answer){0, 0};
     }
     event ev = decode(record);
@@ -374,10 +392,11 @@ plain_answer plain_event(plain_engine *e, const uint8_t *record, size_t len) {
 
 /* ---- Calls over a file ---- */
 
-plain_answer plain_start(uint64_t threads, uint64_t lines, const uint8_t *memory, size_t memory_len) {
+plain_answer plain_start(uint64_t threads, uint64_t lines, const uint8_t *shares, size_t shares_len, const uint8_t *memory, size_t memory_len) {
     plain_engine e;
+    if (shares_len != PLAIN_SHARES) return (plain_answer){6, 0};
     plain_init_lent(&e, memory, memory_len);
-    return (plain_answer){setup_refusal(&e, threads, lines), 0};
+    return (plain_answer){setup_refusal(&e, threads, lines, shares), 0};
 }
 
 /* Runs a file; writes the answers if they are asked for. */

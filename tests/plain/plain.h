@@ -19,9 +19,12 @@ enum {
     PLAIN_DEPTH = 15,      /* nesting depth */
     PLAIN_NUMBERS = 65535, /* region numbers of a thread */
     PLAIN_COUNT = 4,       /* count at which a waiting slot may fly */
+    PLAIN_PARTIES = 2,     /* parties that share the dependence list */
+    PLAIN_SHARES = PLAIN_THREADS + PLAIN_PARTIES, /* bytes of a setup behind L: the party of each thread, the reserve of each party */
     PLAIN_ANSWER_BYTES = 9,
     PLAIN_WRITE_RECORD = 12, /* the record of a write of a word */
-    PLAIN_RECORD_BYTES = 13, /* the longest event record, of a write of bytes */
+    PLAIN_BYTES_RECORD = 13, /* that of a write of bytes */
+    PLAIN_RECORD_BYTES = 4 + PLAIN_SHARES, /* the longest event record, of a setup */
     PLAIN_LOGGED = PLAIN_THREADS * PLAIN_LOG,
     PLAIN_IMAGE_BYTES = 4 + 65 * PLAIN_LINES + 17 * PLAIN_LISTED + 69 * PLAIN_LOGGED + 1
 };
@@ -57,6 +60,7 @@ typedef struct { uint16_t number; uint8_t line, persistent; plain_line old; } pl
 typedef struct {
     uint8_t threads; /* 0 before setup */
     uint16_t lines;
+    uint8_t party[PLAIN_THREADS], reserve[PLAIN_PARTIES];
     uint8_t cut;
     uint8_t is_lent;
     const uint8_t *lent;
@@ -110,7 +114,7 @@ uint8_t plain_read_image(const uint8_t *image, size_t image_len, plain_contents 
 void plain_walk(const plain_contents *contents, uint32_t order[PLAIN_LOGGED]);
 
 /* The calls of the benches; no engine state passes between them. */
-plain_answer plain_start(uint64_t threads, uint64_t lines, const uint8_t *memory, size_t memory_len);
+plain_answer plain_start(uint64_t threads, uint64_t lines, const uint8_t *shares, size_t shares_len, const uint8_t *memory, size_t memory_len);
 plain_answer plain_events(const uint8_t *file, size_t file_len, const uint8_t *memory, size_t memory_len,
                           uint8_t *answers, size_t answers_len);
 plain_answer plain_image(const uint8_t *file, size_t file_len, const uint8_t *memory, size_t memory_len,

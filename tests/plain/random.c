@@ -36,6 +36,35 @@ uint8_t random_mask(random_source *source) {
     return (uint8_t)random_next(source);
 }
 
+/* Reserves of at most 32 together: in half of the draws one party has most of the list, in a quarter they are at an edge. */
+static void random_reserves(random_source *source, uint8_t reserve[PLAIN_PARTIES]) {
+    static const uint8_t edges[][PLAIN_PARTIES] = {{32, 0}, {0, 32}, {16, 16}, {31, 1}, {0, 1}, {31, 0}};
+    uint64_t kind = random_below(source, 4), first = random_below(source, 2);
+    uint64_t larger = kind < 2 ? PLAIN_LISTED - random_below(source, 9) : random_below(source, PLAIN_LISTED + 1);
+    reserve[first] = (uint8_t)larger;
+    reserve[!first] = (uint8_t)random_below(source, PLAIN_LISTED - larger + 1);
+    if (kind == 2) memcpy(reserve, edges[random_below(source, sizeof edges / sizeof edges[0])], PLAIN_PARTIES);
+}
+
+void random_shares(random_source *source, uint8_t threads, uint8_t shares[PLAIN_SHARES]) {
+    uint64_t parties = random_next(source);
+    memset(shares, 0, PLAIN_SHARES);
+    if (random_chance(source, 3)) return;
+    if (random_chance(source, 8)) parties = random_chance(source, 2) ? 255 : 0; /* all threads in one party */
+    for (uint8_t t = 0; t < threads; t++) shares[t] = parties >> t & 1;
+    random_reserves(source, shares + PLAIN_THREADS);
+}
+
+void random_wrong_shares(random_source *source, uint8_t threads, uint8_t shares[PLAIN_SHARES]) {
+    static const uint8_t above[][PLAIN_PARTIES] = {{33, 0}, {0, 33}, {17, 16}, {1, 32}, {200, 100}, {128, 128}, {255, 255}, {255, 2}};
+    random_shares(source, threads, shares);
+    switch (random_below(source, threads < PLAIN_THREADS ? 3 : 2)) {
+    case 0: shares[random_below(source, PLAIN_THREADS)] = (uint8_t)(random_chance(source, 2) ? 2 : 2 + random_below(source, 254)); break;
+    case 1: memcpy(shares + PLAIN_THREADS, above[random_below(source, sizeof above / sizeof above[0])], PLAIN_PARTIES); break;
+    default: shares[threads + random_below(source, (uint64_t)PLAIN_THREADS - threads)] = 1;
+    }
+}
+
 void random_start(random_events *events, uint64_t seed, random_mode mode) {
     memset(events, 0, sizeof *events);
     events->source.state = seed;
@@ -48,12 +77,17 @@ static const uint8_t mixed_weight[] = {6, 9, 6, 20, 16, 14, 1};
 static const uint8_t filling_weight[] = {20, 24, 14, 36, 30, 2, 1};
 static const uint8_t draining_weight[] = {4, 8, 3, 8, 16, 12, 1};
 static const uint8_t nesting_weight[] = {24, 1, 10, 40, 40, 40, 1};
+static const uint8_t reserves_weight[] = {30, 90, 4, 12, 5, 3, 1};
+
+static const uint8_t *weights_of(const random_events *events) {
+    static const uint8_t *const phase_weight[] = {filling_weight, draining_weight, nesting_weight};
+    if (events->mode == RANDOM_DEEP || events->mode == RANDOM_DEEP_WORDS) return phase_weight[events->phase];
+    return events->mode == RANDOM_RESERVES ? reserves_weight : mixed_weight;
+}
 
 static uint8_t random_kind(random_events *events) {
-    static const uint8_t *const phase_weight[] = {filling_weight, draining_weight, nesting_weight};
-    int deep = events->mode == RANDOM_DEEP || events->mode == RANDOM_DEEP_WORDS;
-    int words = events->mode == RANDOM_MIXED_WORDS || events->mode == RANDOM_DEEP_WORDS;
-    const uint8_t *weight = deep ? phase_weight[events->phase] : mixed_weight;
+    int words = events->mode == RANDOM_MIXED_WORDS || events->mode == RANDOM_DEEP_WORDS || events->mode == RANDOM_RESERVES;
+    const uint8_t *weight = weights_of(events);
     uint64_t sum = 0;
     for (int i = 0; i < 7; i++) sum += weight[i];
     uint64_t pick = random_below(&events->source, sum);
@@ -92,6 +126,14 @@ static void fill_bytes(random_source *source, const plain_engine *e, uint8_t *re
     put64(record + 5, random_chance(source, 8) ? e->current[record[2]].word[record[3]] : random_next(source));
 }
 
+/* A setup with the T that stands in the record and any L, half of them with parties or reserves that are wrong. */
+static void fill_setup(random_source *source, uint8_t *record) {
+    uint8_t shares[PLAIN_SHARES];
+    if (random_chance(source, 2)) random_shares(source, record[1], shares);
+    else random_wrong_shares(source, record[1], shares);
+    put_setup(record, record[1], (uint16_t)(1 + random_below(source, PLAIN_LINES)), shares);
+}
+
 /* A record of the kind, its fields in range. */
 static void fill_record(random_source *source, const plain_engine *e, uint8_t kind, uint8_t *record) {
     record[0] = kind;
@@ -101,7 +143,7 @@ static void fill_record(random_source *source, const plain_engine *e, uint8_t ki
     if (kind == EVENT_WRITE_BYTES) fill_bytes(source, e, record);
     else put64(record + 4, random_next(source));
     if (kind == EVENT_LOG_ACK || kind == EVENT_DATA_ACK) record[1] = random_awaiting(source, e, kind);
-    if (kind == EVENT_SETUP) put16(record + 2, (uint16_t)(1 + random_below(source, PLAIN_LINES)));
+    if (kind == EVENT_SETUP) fill_setup(source, record);
 }
 
 /* A record of any content: one byte of a good record changed, or a kind that does not fit here. */
@@ -143,24 +185,47 @@ static size_t damage_file(random_source *source, uint8_t *file, size_t length) {
     case 0: return random_below(source, length + 1);
     case 1: file[length] = random_unknown_kind(source); return length + 1;
     case 2:
-        file[length] = random_chance(source, 2) ? EVENT_WRITE : EVENT_WRITE_BYTES;
+        file[length] = (const uint8_t[]){EVENT_SETUP, EVENT_WRITE, EVENT_WRITE_BYTES}[random_below(source, 3)];
         memset(file + length + 1, 0, PLAIN_RECORD_BYTES - 1);
         return length + 1 + random_below(source, plain_record_length(file + length, PLAIN_RECORD_BYTES) - 1);
     }
     return length;
 }
 
+/* The parties and reserves of a file's setup, by its mode. */
+static void shares_of_mode(random_events *events, uint8_t threads, uint8_t shares[PLAIN_SHARES]) {
+    memset(shares, 0, PLAIN_SHARES);
+    if (events->mode <= RANDOM_DAMAGED) random_shares(&events->source, threads, shares);
+    if (events->mode != RANDOM_RESERVES) return;
+    for (uint8_t t = 0; t < threads; t++) shares[t] = t % PLAIN_PARTIES;
+    shares[PLAIN_THREADS] = shares[PLAIN_THREADS + 1] = PLAIN_LISTED / PLAIN_PARTIES;
+}
+
+/* Setups that are refused, in front of a damaged file: none to three. Gives how many. */
+static uint64_t refused_setups(random_source *source, uint8_t threads, uint16_t lines, uint64_t most, uint8_t *file) {
+    uint8_t shares[PLAIN_SHARES];
+    uint64_t count = random_below(source, 4);
+    if (count > most) count = most;
+    for (uint64_t i = 0; i < count; i++) {
+        random_wrong_shares(source, threads, shares);
+        put_setup(file + PLAIN_RECORD_BYTES * i, threads, lines, shares);
+    }
+    return count;
+}
+
 size_t random_file(uint64_t seed, random_mode mode, uint8_t threads, uint16_t lines, uint64_t count, uint8_t *file) {
     plain_engine e;
     random_events events;
-    size_t length = 4;
+    uint8_t shares[PLAIN_SHARES];
     random_start(&events, seed, mode);
     plain_init(&e);
-    file[0] = EVENT_SETUP;
-    file[1] = threads;
-    put16(file + 2, lines);
-    plain_event(&e, file, length);
-    for (uint64_t i = 2; i < count; i++) {
+    shares_of_mode(&events, threads, shares);
+    uint64_t refused = mode == RANDOM_DAMAGED ? refused_setups(&events.source, threads, lines, count - 2, file) : 0;
+    size_t length = PLAIN_RECORD_BYTES * refused;
+    put_setup(file + length, threads, lines, shares);
+    plain_event(&e, file + length, PLAIN_RECORD_BYTES);
+    length += PLAIN_RECORD_BYTES;
+    for (uint64_t i = 2 + refused; i < count; i++) {
         size_t next = random_record(&events, &e, file + length);
         plain_event(&e, file + length, next);
         length += next;
@@ -171,7 +236,7 @@ size_t random_file(uint64_t seed, random_mode mode, uint8_t threads, uint16_t li
 
 size_t largest_file(uint8_t file[LARGEST_FILE_BYTES]) {
     size_t n = 0;
-    const uint8_t setup[] = {EVENT_SETUP, PLAIN_THREADS, 0, 1};
+    const uint8_t setup[PLAIN_RECORD_BYTES] = {EVENT_SETUP, PLAIN_THREADS, 0, 1};
     memcpy(file, setup, sizeof setup);
     n += sizeof setup;
     for (int r = 0; r < PLAIN_MODIFIED; r++)

@@ -19,11 +19,14 @@ fn answer(refusal: u8) -> Answer
     }
 }
 
-// The answer that setup with these numbers gets over the lent memory.
+// The answer that setup with these numbers gets over the lent memory; `shares` are its ten bytes of parties and reserves.
 #[no_mangle]
-pub extern "C" fn board_start(threads: u64, lines: u64, memory: &[u8]) -> Answer
-    ensures { λ r. ⌜ r ≡ startCall threads lines (was memory) ⌝ }
+pub extern "C" fn board_start(threads: u64, lines: u64, shares: &[u8], memory: &[u8]) -> Answer
+    ensures { λ r. ⌜ r ≡ startCall threads lines (was shares) (was memory) ⌝ }
 {
+    if shares.len() != 10 {
+        return answer(6);
+    }
     if (MOST_THREADS as u64) < threads {
         return answer(6);
     }
@@ -32,7 +35,8 @@ pub extern "C" fn board_start(threads: u64, lines: u64, memory: &[u8]) -> Answer
     }
     let h = starting::fresh_head(false, memory.len() as u64);
     let z = h.size;
-    answer(refusals::setup_refusal(z, threads as u8, lines as u16))
+    let s = events::shares_at(shares);
+    answer(refusals::setup_refusal(z, threads as u8, lines as u16, s))
 }
 
 // Runs an event file over lent starting memory and writes nine bytes for each answer; the value is the number of answers.

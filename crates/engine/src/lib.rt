@@ -11,6 +11,7 @@ use rules::Answer;
 use rules::Event;
 use rules::Reading;
 use rules::Region;
+use rules::Shares;
 ghost use Prim.Native.Nat.{_<_};
 ghost use mathlib.Core.Path.{_≡_};
 ghost use mathlib.Core.Bool.{true};
@@ -148,13 +149,14 @@ fn data_acked(
     commits::settle(threads, regions)
 }
 
-// T and L stand.
-fn set_up(h: Head, n: u8, l: u16) -> Effect
-    ensures { λ r. ⌜ OnNumbers (did (r .value)) (λ b. apply b (Setup n l)) (r .head) h ⌝ }
+// T and L stand, the parties and reserves too.
+fn set_up(h: Head, n: u8, l: u16, s: Shares) -> Effect
+    ensures { λ r. ⌜ OnNumbers (did (r .value)) (λ b. apply b (Setup n l s)) (r .head) h ⌝ }
 {
     let mut size = h.size;
     size.threads = n;
     size.lines = l;
+    size.shares = s;
     let mut head = h;
     head.size = size;
     Effect {
@@ -200,7 +202,7 @@ fn apply(
     ensures { λ r. ⌜ OnBoard (did (r .value)) (λ b. apply b e) (r .head) h threads regions owner lock cur med old car ⌝ }
 {
     match e {
-        Event::Setup(n, l) => set_up(h, n, l),
+        Event::Setup(n, l, s) => set_up(h, n, l, s),
         Event::Begin(t) => {
             begin(threads, regions, t);
             Effect { head: h, value: 0 }

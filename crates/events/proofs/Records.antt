@@ -4,12 +4,13 @@ use mathlib.Core.Path.{_∙_, _≡_, ap, refl}
 use mathlib.Core.Bool.{false, false≢true, true}
 use mathlib.Core.List.{List, [], _++_, _∷_, map}
 use lib.Dec.{ltb}
-use lib.ListN.{drop, getD, length, length-append, length-drop, take}
+use lib.ListN.{drop, getD, length, length-append, length-drop}
 use native.Mathlib.Omega.{arith}
 use borrow.Author.Tests.{le-ltb, lt-ltb, ltb-false, ltb-true}
-use lib.Seq.{drop-append-le, drop-drop, take-append-le}
+use lib.Seq.{drop-append-le, drop-drop}
 use native.Mathlib.Nat.{suc-add, zero-add}
 use Rattle.events.specs.Whole.{recordLength, wholeFrom, wholeLength}
+use Rattle.rules.proofs.Laws.{part-front, shares-front}
 use Rattle.rules.specs.Kinds.{isKind, kindAt}
 use Rattle.rules.specs.Record.{bodyLength, eventOf, isWhole, readRecord, recordsFrom, recordsOf}
 use Rattle.rules.specs.declared.Reading.the-variants.{Whole}
@@ -147,14 +148,11 @@ getD-front [] ys i h = absurd (omega arith)
 getD-front (x ∷ xs) ys zero h = refl
 getD-front (x ∷ xs) ys (suc i) h = getD-front xs ys i (omega arith)
 
-part-front : (a w : ℕ) (xs ys : List ℕ) → a + w ≤ length xs → take w (drop a (xs ++ ys)) ≡ take w (drop a xs)
-part-front a w xs ys h =
-    let l : w ≤ length (drop a xs) = rw length-drop (omega arith) in
-    rw (drop-append-le a xs ys (omega arith), take-append-le w (drop a xs) ys l)
-
 event-front : (k : ℕ) (body f : List ℕ) → isKind k ≡ true → bodyLength k ≤ length body → eventOf k (body ++ f) ≡ eventOf k body
 unfolding eventOf kindAt
-event-front zero body f u h = rw (getD-front body f 0 (omega arith), part-front 1 2 body f (omega arith))
+event-front zero body f u h =
+    let l : 10 ≤ length (drop 3 body) = rw length-drop (omega arith) in
+    rw (getD-front body f 0 (omega arith), part-front 1 2 body f (omega arith), drop-append-le 3 body f (omega arith), shares-front (drop 3 body) f l)
 event-front (suc zero) body f u h = rw (getD-front body f 0 (omega arith))
 event-front (suc (suc zero)) body f u h = rw (getD-front body f 0 (omega arith))
 event-front (suc (suc (suc zero))) body f u h = rw (getD-front body f 0 (omega arith), getD-front body f 1 (omega arith), getD-front body f 2 (omega arith))

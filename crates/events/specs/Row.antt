@@ -18,7 +18,7 @@ abbrev pub mostLetters : ℕ
 mostLetters = 11
 
 abbrev pub mostFields : ℕ
-mostFields = 5
+mostFields = 12
 
 abbrev pub rowOf : Kind → KindRow
 rowOf k = record { word = padded 32 mostLetters (k .word); letters = length (k .word); widths = padded 0 mostFields (k .widths) }

@@ -1,28 +1,32 @@
 // The event record, one byte of kind, then a body whose length the kind fixes: its kinds, its reader, and whether one stands whole at the front of a file.
 ghost use Prim.Native.Nat.{_≤_};
 ghost use mathlib.Core.Path.{_≡_};
+ghost use mathlib.Core.Bool.{cond};
+ghost use lib.Dec.{leb};
 ghost use lib.ListN.{getD, length};
 ghost use Rattle.rules.specs.Kinds.{isKind, kindAt, widthsOf};
-ghost use Rattle.rules.specs.Record.{bodyLength, eventOf, readRecord};
+ghost use Rattle.rules.specs.Record.{bodyLength, eventOf, readRecord, sharesAt};
+ghost use Rattle.rules.specs.Tables.{noShares};
 ghost use Rattle.events.specs.Number.{refusalOf};
 ghost use Rattle.events.specs.Row.{rowOf};
 ghost use Rattle.events.specs.Whole.{recordLength};
 use measures::WHOLE_WORD;
 use rules::Event;
 use rules::Reading;
+use rules::Shares;
 
 // A kind of event: its word in the readable form, filled up with spaces, how many letters it has, and the widths of the numbers in its body, filled up with
 // zeros.
 pub struct KindRow {
     pub word: [u8; LETTERS],
     pub letters: usize,
-    pub widths: [usize; FIELDS],
+    pub widths: [u8; FIELDS],
 }
 
 // The longest word, and the most numbers in a body.
 pub const LETTERS: usize = 11;
 
-pub const FIELDS: usize = 5;
+pub const FIELDS: usize = 12;
 
 // The highest kind.
 pub const LAST_KIND: u8 = 10;
@@ -32,57 +36,57 @@ const KINDS: [KindRow; LAST_KIND as usize + 1] = [
     KindRow {
         word: *b"setup      ",
         letters: 5,
-        widths: [1, 2, 0, 0, 0],
+        widths: [1, 2, 1, 1, 1, 1, 1, 1, 1, 1, 1, 1],
     },
     KindRow {
         word: *b"begin      ",
         letters: 5,
-        widths: [1, 0, 0, 0, 0],
+        widths: [1, 0, 0, 0, 0, 0, 0, 0, 0, 0, 0, 0],
     },
     KindRow {
         word: *b"end        ",
         letters: 3,
-        widths: [1, 0, 0, 0, 0],
+        widths: [1, 0, 0, 0, 0, 0, 0, 0, 0, 0, 0, 0],
     },
     KindRow {
         word: *b"read       ",
         letters: 4,
-        widths: [1, 1, 1, 0, 0],
+        widths: [1, 1, 1, 0, 0, 0, 0, 0, 0, 0, 0, 0],
     },
     KindRow {
         word: *b"write      ",
         letters: 5,
-        widths: [1, 1, 1, 8, 0],
+        widths: [1, 1, 1, 8, 0, 0, 0, 0, 0, 0, 0, 0],
     },
     KindRow {
         word: *b"log-ack    ",
         letters: 7,
-        widths: [1, 0, 0, 0, 0],
+        widths: [1, 0, 0, 0, 0, 0, 0, 0, 0, 0, 0, 0],
     },
     KindRow {
         word: *b"data-ack   ",
         letters: 8,
-        widths: [1, 0, 0, 0, 0],
+        widths: [1, 0, 0, 0, 0, 0, 0, 0, 0, 0, 0, 0],
     },
     KindRow {
         word: *b"fence      ",
         letters: 5,
-        widths: [1, 0, 0, 0, 0],
+        widths: [1, 0, 0, 0, 0, 0, 0, 0, 0, 0, 0, 0],
     },
     KindRow {
         word: *b"cut        ",
         letters: 3,
-        widths: [0, 0, 0, 0, 0],
+        widths: [0, 0, 0, 0, 0, 0, 0, 0, 0, 0, 0, 0],
     },
     KindRow {
         word: *b"           ",
         letters: 0,
-        widths: [0, 0, 0, 0, 0],
+        widths: [0, 0, 0, 0, 0, 0, 0, 0, 0, 0, 0, 0],
     },
     KindRow {
         word: *b"write-bytes",
         letters: 11,
-        widths: [1, 1, 1, 1, 8],
+        widths: [1, 1, 1, 1, 8, 0, 0, 0, 0, 0, 0, 0],
     },
 ];
 
@@ -118,7 +122,7 @@ pub fn width_at(kind: u8, f: usize) -> usize
     let row = kind_row(kind);
     let widths = row.widths;
     if f < FIELDS {
-        return widths[f];
+        return widths[f] as usize;
     }
     0
 }
@@ -127,7 +131,7 @@ pub fn width_at(kind: u8, f: usize) -> usize
 pub fn body_length(kind: u8) -> usize
     ensures { λ r. ⌜ r ≡ bodyLength kind ⌝ }
 {
-    let bodies: [u8; LAST_KIND as usize + 1] = [3, 1, 1, 3, 11, 1, 1, 1, 0, 0, 12];
+    let bodies: [u8; LAST_KIND as usize + 1] = [13, 1, 1, 3, 11, 1, 1, 1, 0, 0, 12];
     let k = kind as usize;
     if kind <= LAST_KIND {
         return bodies[k] as usize;
@@ -135,11 +139,31 @@ pub fn body_length(kind: u8) -> usize
     0
 }
 
+// The parties and reserves that the first ten bytes hold; of fewer bytes, none.
+pub fn shares_at(bytes: &[u8]) -> Shares
+    ensures { λ r. ⌜ r ≡ cond (leb 10 (length (now (bytes .entry)))) (sharesAt (now (bytes .entry))) noShares ⌝ }
+{
+    if bytes.len() < 10 {
+        return Shares {
+            parties: 0,
+            reserves: 0,
+        };
+    }
+    Shares {
+        parties: lines::take_word(bytes, 0),
+        reserves: lines::join8(bytes[8], bytes[9]),
+    }
+}
+
 fn setup_of(body: &[u8]) -> Event
-    requires { ⌜ 3 ≤ length (now body) ⌝ }
+    requires { ⌜ 13 ≤ length (now body) ⌝ }
     ensures { λ r. ⌜ r ≡ eventOf 0 (now (body .entry)) ⌝ }
 {
-    Event::Setup(body[0], lines::join8(body[1], body[2]))
+    Event::Setup(
+        body[0],
+        lines::join8(body[1], body[2]),
+        shares_at(&body[3..]),
+    )
 }
 
 fn write_of(body: &[u8]) -> Event

@@ -22,7 +22,7 @@ use Rattle.rules.specs.declared.Reading.the-variants.{Refused, Whole}
 
 -- a refusal tells no commit
 told-nothing : (e : Event) → toldOf e 0 ≡ 0
-told-nothing (Setup n l) = refl
+told-nothing (Setup n l s) = refl
 told-nothing (Begin t) = refl
 told-nothing (End t) = refl
 told-nothing (Read t l w) = refl

@@ -38,7 +38,7 @@ one-of false false false n k j e f = omega arith
 
 module _ {A : Type 0} where
   -- a test that two others share out
-  count-parts : (p q w : A → Bool) (xs : List A) → ((x : A) → bit (p x) ≡ bit (q x) + bit (w x)) → count p xs ≡ count q xs + count w xs
+  pub count-parts : (p q w : A → Bool) (xs : List A) → ((x : A) → bit (p x) ≡ bit (q x) + bit (w x)) → count p xs ≡ count q xs + count w xs
   unfolding count
   count-parts p q w [] h = refl
   count-parts p q w (x ∷ xs) h = one-of (p x) (q x) (w x) (count p xs) (count q xs) (count w xs) (h x) (count-parts p q w xs h)
@@ -58,7 +58,7 @@ module _ {A : Type 0} where
   count-never p [] h = refl
   count-never p (x ∷ xs) h = rw (h x) (count-never p xs h)
 
-  count-at : (p q : A → Bool) (xs : List A) (d : A) → ((i : ℕ) → i < length xs → p (getD xs i d) ≡ q (getD xs i d)) → count p xs ≡ count q xs
+  pub count-at : (p q : A → Bool) (xs : List A) (d : A) → ((i : ℕ) → i < length xs → p (getD xs i d) ≡ q (getD xs i d)) → count p xs ≡ count q xs
   unfolding count
   count-at p q [] d h = refl
   count-at p q (x ∷ xs) d h =
@@ -99,7 +99,7 @@ module _ (rs : List Region) (un : Unique rs) where
       ∙ count-only (isKey y) rs noRegion (λ i k e. let q : getD rs i noRegion .key ≡ y = eqb-true (getD rs i noRegion .key) y e in
       rw (← q) (un i (λ w. eqb-false y 0 z (sym q ∙ w))))))
 
-  listed-in : {ys : List ℕ} → Once ys → count (λ k. listed k rs) ys ≡ count (λ r. isHeld r && isIn (r .key) ys) rs
+  pub listed-in : {ys : List ℕ} → Once ys → count (λ k. listed k rs) ys ≡ count (λ r. isHeld r && isIn (r .key) ys) rs
   unfolding count
   listed-in nothing = sym (count-never (λ r. isHeld r && false) rs (λ r. test (isHeld r) (λ h. rw h) (λ h. rw h)))
   listed-in (more {x} {xs} n o) =

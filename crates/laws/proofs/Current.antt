@@ -29,7 +29,7 @@ Told m b es = b .cur ≡ allApplied (writesIn es) m
 
 told-after : (m : List (List ℕ)) (b : Board) (es : List Account) (e : Event) → Told m b es → Told m (apply b e .board) (accountOf e ∷ es)
 unfolding apply settledBoard endRegion logAck dataAck flown stored logged write writesIn allApplied
-told-after m b es (Setup n l) h = h
+told-after m b es (Setup n l s) h = h
 told-after m b es (Begin t) h = h
 told-after m b es (End t) h = test (eqb (depthOf t (b .tables)) 1) (λ d. rw d h) (λ d. rw d h)
 told-after m b es (Read t l w) h = h

@@ -8,6 +8,8 @@ pub mod Masks
 pub mod Opened
 pub mod Counts
 pub mod Values
+pub mod Shares
+pub mod Reserves
 pub mod Answers
 pub mod Circles
 pub mod Whole

@@ -87,7 +87,7 @@ begin-more t j es = rw (opened-begin t j es) (test (eqb (depthIn t es) 0 && eqb 
 pub opens : (es : List Account) → ((t : ℕ) → openedIn t es ≤ 65535) → OpensOnce es
 unfolding opensIn openedIn
 opens [] h = (λ k. sym (not-above (numberOf k)), nothing)
-opens (Sets l ∷ es) h = opens es h
+opens (Sets l s ∷ es) h = opens es h
 opens (Opens t ∷ es) h = opens-begin t es h (opens es (λ j. le-trans (begin-more t j es) (h j)))
 opens (Closes t ∷ es) h = opens es h
 opens (Uses t l ∷ es) h = opens es h

@@ -47,7 +47,7 @@ Fits es ws = (writesIn es ≡ map asChange ws) × (all isMasked ws ≡ true)
 
 fits-of : (ts : Tables) (e : Event) (es : List Account) (ws : List Written) → refusal ts e ≡ 0 → Fits es ws → Fits (accountOf e ∷ es) (writtenOf e es ws)
 unfolding writesIn testsOf
-fits-of ts (Setup n l) es ws r f = f
+fits-of ts (Setup n l s) es ws r f = f
 fits-of ts (Begin t) es ws r f = f
 fits-of ts (End t) es ws r f = f
 fits-of ts (Read t l w) es ws r f = f

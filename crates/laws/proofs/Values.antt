@@ -8,7 +8,7 @@ use mathlib.Core.List.{List, [], _∷_}
 use lib.Dec.{eqb}
 use lib.ListN.{getD, length, replicate}
 use native.Mathlib.Omega.{arith}
-use borrow.Author.Tests.{eqb-false, eqb-true, leb-false, ne-eqb, not-false, not-true}
+use borrow.Author.Tests.{eqb-false, eqb-true, ne-eqb, not-false, not-true}
 use Rattle.laws.proofs.Along.{along}
 use Rattle.laws.proofs.Counts.{count-in, count-not, held-count, settled-held}
 use Rattle.laws.proofs.Current.{value-is}
@@ -22,7 +22,7 @@ use Rattle.rules.proofs.Places.{key-at, listed-at, listed-key, place-listed}
 use Rattle.rules.proofs.Sim.State.{Kept, Sim, Simulated, by}
 use Rattle.rules.proofs.Sim.Ack.{log-ack}
 use Rattle.rules.proofs.Sim.All.{every}
-use Rattle.rules.proofs.Tests.{passed}
+use Rattle.rules.proofs.Tests.{begin-room}
 use Rattle.rules.proofs.Sim.Commit.{unique-regions}
 use Rattle.rules.proofs.Sim.Data.{lands}
 use Rattle.rules.proofs.Sim.End.{ends-region}
@@ -81,7 +81,7 @@ balance-begin t m b es n r k p = go (k .simulated)
     go (by s h rc i) =
         rw (← i .told .depth t)
         (test (eqb (depthOf t (b .tables)) 0)
-        (λ d. let full : held b < 32 = leb-false 32 (held b) (rw d at (passed (b .tables) (Begin t) r 16)) in
+        (λ d. let full : held b < 32 = begin-room (b .tables) t r d in
         let z = open-held t b (rw (i .shape .regions .count) full) in
         rw (d, z) (omega arith))
         (λ d. rw d (omega arith)))
@@ -89,7 +89,7 @@ balance-begin t m b es n r k p = go (k .simulated)
 balance : (m : Memory) (b : Board) (es : List Account) (n : ℕ) (e : Event) → refusal (b .tables) e ≡ 0 → Kept m b es → Balance b es n
     → Balance (apply b e .board) (accountOf e ∷ es) (n + toldOf e (apply b e .value))
 unfolding apply opensIn setup read
-balance m b es n (Setup c l) r k p = omega arith
+balance m b es n (Setup c l s) r k p = omega arith
 balance m b es n (Begin t) r k p = balance-begin t m b es n r k p
 balance m b es n (End t) r k p =
     test (eqb (depthOf t (b .tables)) 1)
@@ -143,14 +143,14 @@ module _ (m : Memory) (rs : List (List ℕ)) (told : CommitsTold m rs) {s : u.St
   was-opened : (k : ℕ) → isIn k (opensIn (acceptedIn m rs)) ≡ s .born k
   was-opened k = opens (acceptedIn m rs) (i .told .numbers) .0 k ∙ sym (i .told .born k)
 
-  in-list : (k : ℕ) → listed k (boardAfter m rs .tables .regions) ≡ true → isIn k (opensIn (acceptedIn m rs)) ≡ true
+  pub in-list : (k : ℕ) → listed k (boardAfter m rs .tables .regions) ≡ true → isIn k (opensIn (acceptedIn m rs)) ≡ true
   in-list k e = was-opened k ∙ and-true (s .born k) (not (s .done k)) (sym (i .live k) ∙ e) .0
 
   -- an opened region is listed until it commits
-  uncommitted : (k : ℕ) → isIn k (opensIn (acceptedIn m rs)) ≡ true → not (committed m rs k) ≡ listed k (boardAfter m rs .tables .regions)
+  pub uncommitted : (k : ℕ) → isIn k (opensIn (acceptedIn m rs)) ≡ true → not (committed m rs k) ≡ listed k (boardAfter m rs .tables .regions)
   uncommitted k e = let bo : s .born k ≡ true = sym (was-opened k) ∙ e in rw (committed-done m rs told rc i k, i .live k, bo)
 
-  held-uncommitted : held (boardAfter m rs) ≡ count (λ k. not (committed m rs k)) (opensIn (acceptedIn m rs))
+  pub held-uncommitted : held (boardAfter m rs) ≡ count (λ k. not (committed m rs k)) (opensIn (acceptedIn m rs))
   held-uncommitted =
       held-count (boardAfter m rs .tables .regions) (i .shape .regions .unique) (opens (acceptedIn m rs) (i .told .numbers) .1) in-list
       ∙ sym (count-in (λ k. not (committed m rs k)) (λ k. listed k (boardAfter m rs .tables .regions)) (opensIn (acceptedIn m rs)) uncommitted)

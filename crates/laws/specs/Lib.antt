@@ -1,6 +1,7 @@
 pub mod Words
 pub mod Laws
 pub mod Stores
+pub mod Reserves
 pub mod Images
 pub mod Causes
 pub mod Bench

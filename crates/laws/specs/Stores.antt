@@ -66,7 +66,7 @@ pub record Written : Type 0 where
 
 -- the writes with that of an accepted event, where es were accepted before it
 abbrev pub writtenOf : Event → List Account → List Written → List Written
-writtenOf (Setup n l) es ws = ws
+writtenOf (Setup n l s) es ws = ws
 writtenOf (Begin t) es ws = ws
 writtenOf (End t) es ws = ws
 writtenOf (Read t l w) es ws = ws

@@ -23,7 +23,7 @@ allApplied (w ∷ ws) m = changeLine (w .line) (w .change) (allApplied ws m)
 -- ---- "Each begin accepted at depth 0 opens a region"
 
 abbrev pub openOf : Account → List Account → List ℕ → List ℕ
-openOf (Sets l) es ks = ks
+openOf (Sets l s) es ks = ks
 openOf (Opens t) es ks = cond (eqb (depthIn t es) 0) (keyOf t (openedIn t es + 1) ∷ ks) ks
 openOf (Closes t) es ks = ks
 openOf (Uses t l) es ks = ks
@@ -52,7 +52,7 @@ othersOf t es = keep (isOtherIn t es) (opensIn es)
 
 -- the commits that an answer tells; a refusal's value is 0
 abbrev pub toldOf : Event → ℕ → ℕ
-toldOf (Setup n l) v = 0
+toldOf (Setup n l s) v = 0
 toldOf (Begin t) v = v
 toldOf (End t) v = v
 toldOf (Read t l w) v = 0

@@ -4,6 +4,7 @@ ghost use Rattle.laws.specs.Bench.{BenchRecovers};
 ghost use Rattle.laws.specs.Causes.{CausesMatter};
 ghost use Rattle.laws.specs.Images.{FinishedLast, RecoveryAnswers, WalkWhole};
 ghost use Rattle.laws.specs.Laws.{CommitsAddUp, CommittedEnded, CutCounts, FenceOutside, FenceTells, NothingLeft, OneFlight, ReadGives};
+ghost use Rattle.laws.specs.Reserves.{NoReserves, Reserved, SetupRead, SharesTested};
 ghost use Rattle.laws.specs.Stores.{MaskTested, StoresBytes, WholeWord, WritesRead};
 
 // Between two events nothing is left over: no slot that could fly waits, every ended region without slots is done, no done region without dependences is listed.
@@ -59,6 +60,26 @@ pub fn bytes_are_stored()
 // With all bits set a word is stored whole.
 pub fn whole_word_is_stored()
     ensures { λ r. ⌜ WholeWord ⌝ }
+{}
+
+// A setup has 13 bytes of body; behind L stand the party of each thread and the reserve of each party, in their order.
+pub fn setup_is_read()
+    ensures { λ r. ⌜ SetupRead ⌝ }
+{}
+
+// A setup is refused with 24, after 6, exactly for parties and reserves that it may not carry.
+pub fn shares_are_tested()
+    ensures { λ r. ⌜ SharesTested ⌝ }
+{}
+
+// With reserves 0 a begin has the tests of document 01; the tests of other events and the image do not look at parties and reserves that stand.
+pub fn no_reserves_change_nothing()
+    ensures { λ r. ⌜ NoReserves ⌝ }
+{}
+
+// A party below its reserve never meets 16, whatever the other did; 16 comes exactly where an entry would be taken that is kept for the other party.
+pub fn reserves_hold()
+    ensures { λ r. ⌜ Reserved ⌝ }
 {}
 
 // The committed regions are the ended ones that are listed no more.

@@ -13,7 +13,7 @@ use borrow.Author.Tests.{eqb-false, eqb-true, ltb-false, ltb-true}
 use Rattle.rules.specs.Access.{byteAfter, isSet, storedIn, wordAfter, wordPlaces}
 use Rattle.rules.specs.Bytes.{byteOf, bytesOf, numOf, wordsBytes}
 use Rattle.rules.proofs.Codec.Bytes.{bytes-num, length-bytes}
-use Rattle.rules.proofs.Words.{word-bytes}
+use Rattle.rules.proofs.Words.{eight, word-bytes}
 use Rattle.undo.proofs.Laws.{test}
 use Rattle.lines.specs.Stores.{Stores, bitsOf, isStored}
 
@@ -70,17 +70,6 @@ module _ (mask v x : ℕ) where
 pub alone : (b : ℕ) → b ≡ numOf (b ∷ [])
 unfolding numOf
 alone b = omega arith
-
-eight : (f : ℕ → ℕ) (i : ℕ) → i < 8 → getD (map f wordPlaces) i 0 ≡ f i
-eight f zero h = refl
-eight f (suc zero) h = refl
-eight f (suc (suc zero)) h = refl
-eight f (suc (suc (suc zero))) h = refl
-eight f (suc (suc (suc (suc zero)))) h = refl
-eight f (suc (suc (suc (suc (suc zero))))) h = refl
-eight f (suc (suc (suc (suc (suc (suc zero)))))) h = refl
-eight f (suc (suc (suc (suc (suc (suc (suc zero))))))) h = refl
-eight f (suc (suc (suc (suc (suc (suc (suc (suc i)))))))) h = absurd (omega arith)
 
 pub word-byte : (mask v x i : ℕ) → i < 8 → byteOf i (wordAfter mask v x) ≡ byteAfter mask v x i
 unfolding wordAfter

@@ -1,3 +1,4 @@
 pub mod Search
 pub mod Bounds
+pub mod Bytes
 pub mod Map

@@ -2,9 +2,11 @@
 // finds nothing, its place is the length of the list. The bounds that callers need are laws about these terms, in proofs/.
 use measures::MOST_DEPS;
 use measures::MOST_LINES;
+use measures::MOST_REGIONS;
 use measures::MOST_SLOTS;
 use measures::MOST_THREADS;
 use rules::Found;
+use rules::Shares;
 use rules::Slot;
 use rules::SlotState;
 ghost use mathlib.Core.Path.{_≡_};
@@ -12,8 +14,10 @@ ghost use lib.Dec.{eqb};
 ghost use Rattle.rules.specs.Lists.{place};
 ghost use Rattle.rules.specs.Tables.{noSlot, withLine, withState};
 ghost use Rattle.rules.specs.Slots.{carries, isEmpty, names, orAt, slotFor};
-ghost use Rattle.rules.specs.Access.{isHad, joined};
-ghost use Rattle.rules.specs.Refusal.{inRange};
+ghost use Rattle.rules.specs.Access.{isHad, joined, wordPlaces};
+ghost use Rattle.rules.specs.Bytes.{byteOf};
+ghost use Rattle.rules.specs.Refusal.{inRange, isNoParty, isUnfit, partyOf, reserveOf};
+ghost use Rattle.undo.specs.Table.{any};
 
 // ---- the numbers of a setup
 
@@ -31,6 +35,65 @@ pub fn in_range(n: u8, l: u16) -> bool
         return false;
     }
     l as usize <= MOST_LINES
+}
+
+// Byte i of a word, byte 0 the low one.
+fn byte_of(x: u64, i: usize) -> u8
+    ensures { λ r. ⌜ r ≡ byteOf i x ⌝ }
+{
+    if 8 <= i {
+        return 0;
+    }
+    ((x >> (8 * i)) % 256) as u8
+}
+
+// The party of thread t; 0 for one above 7.
+pub fn party_of(s: Shares, t: u32) -> u8
+    ensures { λ r. ⌜ r ≡ partyOf t s ⌝ }
+{
+    byte_of(s.parties, t as usize)
+}
+
+// The reserve of party p; 0 for one above 1.
+pub fn reserve_of(s: Shares, p: u8) -> u8
+    ensures { λ r. ⌜ r ≡ reserveOf p s ⌝ }
+{
+    byte_of(s.reserves as u64, p as usize)
+}
+
+// The party of thread t is above 1, or not 0 where t is not below T.
+fn is_no_party(n: u8, s: Shares, t: u8) -> bool
+    ensures { λ r. ⌜ r ≡ isNoParty n s t ⌝ }
+{
+    let p = party_of(s, t as u32);
+    if 1 < p {
+        return true;
+    }
+    if t < n { false } else { p != 0 }
+}
+
+// Some thread has such a party.
+fn has_no_party(n: u8, s: Shares) -> bool
+    ensures { λ r. ⌜ r ≡ any (isNoParty n s) wordPlaces ⌝ }
+{
+    let mut t: u8 = 0;
+    while (t as usize) < MOST_THREADS {
+        if is_no_party(n, s, t) {
+            return true;
+        }
+        t += 1;
+    }
+    false
+}
+
+// Parties and reserves that a setup of n threads cannot have.
+pub fn is_unfit(n: u8, s: Shares) -> bool
+    ensures { λ r. ⌜ r ≡ isUnfit n s ⌝ }
+{
+    if has_no_party(n, s) {
+        return true;
+    }
+    MOST_REGIONS < (reserve_of(s, 0) as usize) + (reserve_of(s, 1) as usize)
 }
 
 // ---- dependences

@@ -1,12 +1,12 @@
--- The tests of an access on the line's last writer.
-use Prim.Native.Nat.{_<_, suc, zero, ℕ}
+-- The tests of an access on the line's last writer, and of a begin on what is kept for the other party.
+use Prim.Native.Nat.{_+_, _-_, _<_, _≤_, suc, zero, ℕ}
 use mathlib.Core.Bool.{Bool, _&&_, _||_, cond, false, not, true}
 use mathlib.Core.List.{List, [], _∷_}
-use mathlib.Core.Path.{_∙_, _≡_, refl}
-use lib.Dec.{eqb}
+use mathlib.Core.Path.{_∙_, _≡_, refl, sym}
+use lib.Dec.{eqb, ltb}
 use lib.ListN.{getD}
 use native.Mathlib.Omega.{arith}
-use borrow.Author.Tests.{eq-eqb, eqb-true}
+use borrow.Author.Tests.{eq-eqb, eqb-true, le-ltb}
 use Rattle.undo.proofs.Laws.{test}
 use Rattle.undo.specs.Table.{any}
 use Rattle.rules.specs.Access.{dependence, needsLog}
@@ -87,3 +87,7 @@ module _ (o k : ℕ) (rs : List Region) where
   pub writer-other : eqb o 0 ≡ false → eqb o k ≡ false → any (isKey o) rs ≡ true → _≡_ {A = Writer} (record { key = o; ended = regionAt o rs .ended }) (writerOf o k rs)
   unfolding writerOf
   writer-other z n a = simp (z, a, n)
+
+-- what a reserve lacks is at most the reserve
+pub kept-small : (held reserve n : ℕ) → held + 1 + reserve ≤ 32 → false ≡ ltb 32 (held + 1 + (reserve - n))
+kept-small held reserve n h = sym (le-ltb 32 (held + 1 + (reserve - n)) (omega arith))

@@ -18,15 +18,16 @@ use measures::Threads;
 use measures::WHOLE_WORD;
 use rows::Head;
 use rules::Event;
+use rules::Shares;
 use rules::Size;
-ghost use Prim.Native.Nat.{_/_, ℕ};
+ghost use Prim.Native.Nat.{_-_, _/_, ℕ};
 ghost use mathlib.Core.Path.{_≡_};
 ghost use mathlib.Core.Bool.{_&&_, not};
 ghost use lib.Dec.{eqb, leb};
 ghost use Rattle.measures.specs.Loan.{was};
 ghost use Rattle.undo.specs.Table.{any};
 ghost use Rattle.rules.specs.Access.{isOf};
-ghost use Rattle.rules.specs.Refusal.{firstBad, fits, inRange, refusal, testsOf};
+ghost use Rattle.rules.specs.Refusal.{firstBad, fits, inRange, noRoomFor, otherParty, refusal, testsOf};
 ghost use Rattle.rules.specs.declared.Tables.{Tables};
 ghost use Rattle.rules.specs.declared.Event.the-variants.{Begin, Cut, DataAck, End, LogAck, Read, Setup, Write};
 ghost use Rattle.rows.specs.Row.{regionsOf, threadOf};
@@ -106,6 +107,34 @@ fn is_foreign(x: Writer, t: u8) -> bool
 {
     let other = x.key / NUMBERS != t as u32;
     if x.ended { false } else { other }
+}
+
+fn other_party(p: u8) -> u8
+    ensures { λ r. ⌜ r ≡ otherParty p ⌝ }
+{
+    if p == 0 { 1 } else { 0 }
+}
+
+// What is left of a reserve when `held` entries are taken from it.
+fn lack_of(reserve: u8, held: u8) -> u8
+    ensures { λ r. ⌜ r ≡ reserve - held ⌝ }
+{
+    if held < reserve { reserve - held } else { 0 }
+}
+
+// A region of thread t would leave fewer free entries than the other party's reserve still lacks, which is at most that reserve.
+fn no_room_for(h: Head, regions: &Regions, t: u8) -> bool
+    ensures { λ r. ⌜ ByRegions (noRoomFor t) h regions r ⌝ }
+{
+    let z = h.size;
+    let other = other_party(lookup::party_of(z.shares, t as u32));
+    let reserve = lookup::reserve_of(z.shares, other);
+    let taken = tables::count_held(regions) as usize + 1;
+    if taken + reserve as usize <= MOST_REGIONS {
+        return false;
+    }
+    let held = tables::count_party(regions, z.shares, other);
+    MOST_REGIONS < taken + lack_of(reserve, held) as usize
 }
 
 // A write that needs a log entry, on a line still locked.
@@ -196,8 +225,8 @@ fn access_refusal(h: Head, threads: &Threads, t: u8, l: u8, w: u8, mask: u8) -> 
 // ---- the tests of each event
 
 // z: the numbers before the setup.
-pub fn setup_refusal(z: Size, n: u8, l: u16) -> u8
-    ensures { λ r. ⌜ ((ts : Tables) → ts .size ≡ z → r ≡ refusal ts (Setup n l)) ⌝ }
+pub fn setup_refusal(z: Size, n: u8, l: u16, s: Shares) -> u8
+    ensures { λ r. ⌜ ((ts : Tables) → ts .size ≡ z → r ≡ refusal ts (Setup n l s)) ⌝ }
 {
     if !lookup::in_range(n, l) {
         return 6;
@@ -206,10 +235,9 @@ pub fn setup_refusal(z: Size, n: u8, l: u16) -> u8
         return 6;
     }
     if lookup::in_range(z.threads, z.lines) {
-        6
-    } else {
-        0
+        return 6;
     }
+    if lookup::is_unfit(n, s) { 24 } else { 0 }
 }
 
 fn begin_refusal(h: Head, threads: &Threads, regions: &Regions, t: u8) -> u8
@@ -229,12 +257,10 @@ fn begin_refusal(h: Head, threads: &Threads, regions: &Regions, t: u8) -> u8
     if MOST_NUMBER <= tables::last_of(threads, t) {
         return 14;
     }
-    let modified = tables::count_modified(regions, t);
-    let held = tables::count_held(regions);
-    if MOST_MODIFIED <= modified {
+    if MOST_MODIFIED <= tables::count_modified(regions, t) {
         return 15;
     }
-    if MOST_REGIONS <= held as usize { 16 } else { 0 }
+    if no_room_for(h, regions, t) { 16 } else { 0 }
 }
 
 fn end_refusal(h: Head, threads: &Threads, t: u8) -> u8
@@ -359,9 +385,9 @@ pub fn refusal(
     ensures { λ r. ⌜ r ≡ refusal (tablesOf h (was threads) (was regions) (was owner) (was lock)) e ⌝ }
 {
     match e {
-        Event::Setup(n, l) => {
+        Event::Setup(n, l, s) => {
             let z = h.size;
-            setup_refusal(z, n, l)
+            setup_refusal(z, n, l, s)
         }
         Event::Begin(t) => begin_refusal(h, threads, regions, t),
         Event::End(t) => end_refusal(h, threads, t),

@@ -28,8 +28,9 @@ use Rattle.rules.specs.Walk.{entriesFrom, entriesOf, nextPlace, walk, wa
 
 -- ---- records
 
+-- request 1: "Document 01's cases have zeros there"
 abbrev setup′ : ℕ → ℕ → List ℕ
-setup′ n l = 0 ∷ n ∷ bytesOf 2 l
+setup′ n l = 0 ∷ n ∷ bytesOf 2 l ++ replicate 10 0
 
 abbrev begin′ : ℕ → List ℕ
 begin′ t = 1 ∷ t ∷ []

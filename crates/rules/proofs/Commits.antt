@@ -39,7 +39,7 @@ use Rattle.rules.specs.declared.Region.{Region}
 use Rattle.rules.specs.declared.Tables.{Tables}
 use Rattle.undo.proofs.Laws.{and-true, never, or-true, test}
 use Rattle.undo.specs.Table.{isIn}
-use Rattle.rules.proofs.Tests.{passed}
+use Rattle.rules.proofs.Tests.{begin-room, passed}
 use Rattle.rules.proofs.Keys.{boardKeys, data-keys, end-keys, listed-keys, log-keys, read-keys, write-keys}
 
 is-in-both : (k : ℕ) (xs ys : List ℕ) → isIn k (xs ++ ys) ≡ (isIn k xs || isIn k ys)
@@ -119,7 +119,7 @@ gone-begin t m b es ks r kept p k = go (kept .simulated)
         test (eqb (depthOf t (b .tables)) 0)
         (λ d. let d0 : depthIn t es ≡ 0 = sym (i .told .depth t) ∙ eqb-true (depthOf t (b .tables)) 0 d in
         let few : openedIn t es < 65535 = rw (i .told .last t) at (leb-false 65535 (threadAt t (b .tables) .last) (rw d at (passed (b .tables) (Begin t) r 14))) in
-        let room : count isHeld (b .tables .regions) < 32 = leb-false 32 (count isHeld (b .tables .regions)) (rw d at (passed (b .tables) (Begin t) r 16)) in
+        let room : count isHeld (b .tables .regions) < 32 = begin-room (b .tables) t r d in
         rw (d, listed-begun rc i t lt d0 few room k, ← born-begun rc i t lt d0 few room k)
         (test (eqb k (newKey t (b .tables)))
         (λ e. let un : isOpened es k ≡ false = sym (i .told .born k) ∙ rw (eqb-true k (newKey t (b .tables)) e) (unborn rc i t lt d0 few room) in
@@ -133,7 +133,7 @@ gone-begin t m b es ks r kept p k = go (kept .simulated)
 gone-after : (m : Memory) (b : Board) (es : List Account) (ks : List ℕ) (e : Event) → refusal (b .tables) e ≡ 0 → Kept m b es → Gone b es ks
     → Gone (apply b e .board) (accountOf e ∷ es) (commitsOf e b ++ ks)
 unfolding apply setup openedIn
-gone-after m b es ks (Setup n l) r kept p = p
+gone-after m b es ks (Setup n l s) r kept p = p
 gone-after m b es ks (Begin t) r kept p = gone-begin t m b es ks r kept p
 gone-after m b es ks (End t) r kept p =
     test (eqb (depthOf t (b .tables)) 1)

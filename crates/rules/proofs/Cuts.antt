@@ -1,4 +1,4 @@
--- The board is cut exactly if a cut is among the accepted events.
+-- The board is cut exactly if a cut is among the accepted events; the commits of a step leave that, and the numbers of the setup.
 use Prim.Native.Nat.{suc, zero, ℕ}
 use mathlib.Core.Path.{_∙_, _≡_, refl}
 use mathlib.Core.Bool.{Bool, false, true}
@@ -25,26 +25,31 @@ use Rattle.rules.specs.declared.Reading.the-variants.{Refused, Whole}
 use Rattle.rules.specs.declared.Tables.{Tables}
 use Rattle.undo.proofs.Laws.{test}
 
-settle-cut : (n : ℕ) (ts : Tables) → settle n ts .tables .cut ≡ ts .cut
-unfolding settle commit
-settle-cut zero ts = refl
-settle-cut (suc n) ts = go (commits (earliest (ts .regions))) (settle-cut n (commit (earliest (ts .regions) .key) ts))
+-- what a commit keeps of the tables is kept by all commits of a step
+settle-keeps : {A : Type 0} (f : Tables → A) → ((k : ℕ) (ts : Tables) → f (commit k ts) ≡ f ts) → (n : ℕ) (ts : Tables) → f (settle n ts .tables) ≡ f ts
+unfolding settle
+settle-keeps f h zero ts = refl
+settle-keeps f h (suc n) ts = go (commits (earliest (ts .regions))) (settle-keeps f h n (commit (earliest (ts .regions) .key) ts))
   where
-    go : (x : Bool) → settle n (commit (earliest (ts .regions) .key) ts) .tables .cut ≡ ts .cut
-        → (elim x as (λ y. Settled) [
+    go : (x : Bool) → f (settle n (commit (earliest (ts .regions) .key) ts) .tables) ≡ f (commit (earliest (ts .regions) .key) ts)
+        → f ((elim x as (λ y. Settled) [
           | false ↦ record { tables = ts; keys = [] }
           | true ↦ before (earliest (ts .regions) .key) (settle n (commit (earliest (ts .regions) .key) ts))
-        ]) .tables .cut ≡ ts .cut
+        ]) .tables) ≡ f ts
     go false e = refl
-    go true e = e
+    go true e = e ∙ h (earliest (ts .regions) .key) ts
 
 settled-cut : (b : Board) → settledBoard b .board .tables .cut ≡ b .tables .cut
-unfolding settledBoard settled
-settled-cut b = settle-cut (length (b .tables .regions)) (withRegions (map doneRegion (b .tables .regions)) (b .tables))
+unfolding settledBoard settled commit
+settled-cut b = settle-keeps (λ ts. ts .cut) (λ k ts. refl) (length (b .tables .regions)) (withRegions (map doneRegion (b .tables .regions)) (b .tables))
+
+pub settled-size : (b : Board) → settledBoard b .board .tables .size ≡ b .tables .size
+unfolding settledBoard settled commit
+settled-size b = settle-keeps (λ ts. ts .size) (λ k ts. refl) (length (b .tables .regions)) (withRegions (map doneRegion (b .tables .regions)) (b .tables))
 
 apply-cut : (b : Board) (e : Event) (es : List Account) → b .tables .cut ≡ hasCut es → apply b e .board .tables .cut ≡ hasCut (accountOf e ∷ es)
 unfolding apply setup begin opened read write stored logged flown logAck unlocked dataAck endRegion closed
-apply-cut b (Setup n l) es h = h
+apply-cut b (Setup n l s) es h = h
 apply-cut b (Begin t) es h = test (eqb (depthOf t (b .tables)) 0) (λ d. rw d h) (λ d. rw d h)
 apply-cut b (End t) es h = test (eqb (depthOf t (b .tables)) 1) (λ d. rw d (settled-cut (endRegion t b) ∙ h)) (λ d. rw d h)
 apply-cut b (Read t l w) es h = h

@@ -166,7 +166,7 @@ opened-keys t ts =
 
 pub keys-after : (b : Board) (e : Event) → Keys b e (boardKeys (apply b e .board))
 unfolding apply setup begin
-keys-after b (Setup n l) = same refl
+keys-after b (Setup n l s) = same refl
 keys-after b (Begin t) =
     test (eqb (depthOf t (b .tables)) 0)
     (λ d. rw d (more t refl (eqb-true (depthOf t (b .tables)) 0 d) (opened-keys t (b .tables))))

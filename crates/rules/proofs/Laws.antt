@@ -1,19 +1,20 @@
 -- Laws of the definitions: a refusal changes nothing, answers lie in the list of document 01, what commits in a step does not depend on the order of choice,
--- and a record holds bytes of its file.
-use Prim.Native.Nat.{suc, zero, ℕ}
+-- a record holds bytes of its file, and a part of it is the same whatever stands behind it.
+use Prim.Native.Nat.{_+_, _≤_, suc, zero, ℕ}
 use mathlib.Core.Bool.{Bool, _&&_, _||_, not, true}
-use mathlib.Core.List.{List, [], _∷_}
+use mathlib.Core.List.{List, [], _++_, _∷_}
 use mathlib.Core.Logic.{_≢_}
 use mathlib.Core.Path.{_≡_, refl}
 use lib.Dec.{eqb, leb, ltb}
-use lib.ListN.{length}
+use lib.ListN.{drop, length, length-drop, take}
+use lib.Seq.{drop-append-le, take-append-le}
 use native.Mathlib.Omega.{arith}
 use borrow.Author.Tests.{lt-leb, ne-eqb}
 use Rattle.undo.proofs.Laws.{and-true, test}
 use Rattle.rules.specs.Claim.{isByte}
 use Rattle.rules.specs.Kinds.{isKind, kindAt}
 use Rattle.rules.specs.Lists.{all}
-use Rattle.rules.specs.Record.{bodyLength, eventOf, isWhole, readRecord, recordsFrom}
+use Rattle.rules.specs.Record.{bodyLength, eventOf, isWhole, readRecord, recordsFrom, sharesAt}
 use Rattle.rules.specs.Refusal.{Test, firstBad, refusal, testsOf}
 use Rattle.rules.specs.Step.{step, stepBy, stepEvent, stepRead}
 use Rattle.rules.specs.Tables.{Board}
@@ -39,10 +40,10 @@ pub refusal-leaves : (b : Board) (bs : List ℕ) → step b bs .answer .refusal 
 unfolding step
 refusal-leaves b bs n = read-leaves b (readRecord bs) n
 
--- ---- "Refused because of the input" gives an event 1 to 6 or 27, "Refused because of the state" 11 to 22
+-- ---- "Refused because of the input" gives an event 1 to 6, 24 or 27, "Refused because of the state" 11 to 22
 
 abbrev pub isAnswer : ℕ → Bool
-isAnswer n = leb n 6 || ((leb 11 n && leb n 22) || eqb n 27)
+isAnswer n = leb n 6 || ((leb 11 n && leb n 22) || (eqb n 24 || eqb n 27))
 
 first-answer : (ts : List Test) → all (λ t. isAnswer (t .code)) ts ≡ true → isAnswer (firstBad ts) ≡ true
 first-answer [] e = refl
@@ -52,7 +53,7 @@ first-answer (t ∷ ts) e =
 
 codes-answer : (ts : Tables) (e : Event) → all (λ t. isAnswer (t .code)) (testsOf ts e) ≡ true
 unfolding testsOf
-codes-answer ts (Setup n l) = refl
+codes-answer ts (Setup n l s) = refl
 codes-answer ts (Begin t) = refl
 codes-answer ts (End t) = refl
 codes-answer ts (Read t l w) = refl
@@ -107,3 +108,13 @@ records-bytes (suc k) (b ∷ bs) h = records-bytes k bs (and-true (isByte b) (al
 records-bytes zero (b ∷ bs) h =
     let r = records-bytes (bodyLength b) bs (and-true (isByte b) (all isByte bs) h .1) in
     test (isWhole (readRecord (b ∷ bs))) (λ w. rw (w, h) r) (λ w. rw (w, h) refl)
+
+-- ---- a part of a list is read in the same way whatever stands behind it
+
+pub part-front : (a w : ℕ) (xs ys : List ℕ) → a + w ≤ length xs → take w (drop a (xs ++ ys)) ≡ take w (drop a xs)
+part-front a w xs ys h =
+    let l : w ≤ length (drop a xs) = rw length-drop (omega arith) in
+    rw (drop-append-le a xs ys (omega arith), take-append-le w (drop a xs) ys l)
+
+pub shares-front : (xs f : List ℕ) → 10 ≤ length xs → sharesAt (xs ++ f) ≡ sharesAt xs
+shares-front xs f h = rw (take-append-le 8 xs f (omega arith), part-front 8 2 xs f h)

@@ -1,15 +1,17 @@
 -- An accepted event has passed each of its tests: a proof asks for a test by its number.
-use Prim.Native.Nat.{ℕ}
+use Prim.Native.Nat.{_+_, _<_, ℕ}
 use mathlib.Core.Path.{_≡_, refl}
 use mathlib.Core.Bool.{Bool, cond, false, not, true}
 use mathlib.Core.List.{List, [], _∷_}
-use lib.Dec.{eqb}
+use lib.Dec.{eqb, ltb}
 use native.Mathlib.Omega.{arith}
-use borrow.Author.Tests.{eq-eqb}
-use Rattle.rules.specs.Lists.{all}
-use Rattle.rules.specs.Refusal.{Test, firstBad, fits, inRange, isSetUp, refusal, testsOf}
+use borrow.Author.Tests.{eq-eqb, ltb-false}
+use Rattle.rules.specs.Lists.{all, count}
+use Rattle.rules.specs.Refusal.{Test, depthOf, firstBad, fits, inRange, isSetUp, refusal, testsOf}
+use Rattle.rules.specs.Tables.{isHeld}
 use Rattle.rules.specs.declared.Event.{Event}
 use Rattle.rules.specs.declared.Event.the-variants.{Begin, Cut, DataAck, End, Fence, LogAck, Read, Setup, Write}
+use Rattle.rules.specs.declared.Shares.{Shares}
 use Rattle.rules.specs.declared.Tables.{Tables}
 use Rattle.undo.proofs.Laws.{and-true, never, test}
 
@@ -35,7 +37,7 @@ passes n (x ∷ xs) h z =
 
 tests-numbered : (ts : Tables) (e : Event) → numbered (testsOf ts e) ≡ true
 unfolding testsOf
-tests-numbered ts (Setup n l) = refl
+tests-numbered ts (Setup n l s) = refl
 tests-numbered ts (Begin t) = refl
 tests-numbered ts (End t) = refl
 tests-numbered ts (Read t l w) = refl
@@ -51,11 +53,19 @@ unfolding refusal
 passed ts e r n = passes n (testsOf ts e) (tests-numbered ts e) r
 
 -- a setup has three tests of number 6
-pub setup-passed : (ts : Tables) (n l : ℕ) → refusal ts (Setup n l) ≡ 0 → (inRange n l ≡ true) × (isSetUp ts ≡ false)
+pub setup-passed : (ts : Tables) (n l : ℕ) (s : Shares) → refusal ts (Setup n l s) ≡ 0 → (inRange n l ≡ true) × (isSetUp ts ≡ false)
 unfolding refusal testsOf
-setup-passed ts n l r =
+setup-passed ts n l s r =
     test (inRange n l)
     (λ a. test (fits l (ts .size))
     (λ f. test (isSetUp ts) (λ u. let z : _≡_ {A = ℕ} 6 0 = rw (a, f, u) at r in absurd (omega arith)) (λ u. (a, u)))
     (λ f. let z : _≡_ {A = ℕ} 6 0 = rw (a, f) at r in absurd (omega arith)))
     (λ a. let z : _≡_ {A = ℕ} 6 0 = rw a at r in absurd (omega arith))
+
+-- a begin that opens a region has a free place for it, whatever is kept for the other party
+one-free : (held kept : ℕ) → ltb 32 (held + 1 + kept) ≡ false → held < 32
+one-free held kept e = let z = ltb-false 32 (held + 1 + kept) e in omega arith
+
+pub begin-room : (ts : Tables) (t : ℕ) → refusal ts (Begin t) ≡ 0 → eqb (depthOf t ts) 0 ≡ true → count isHeld (ts .regions) < 32
+unfolding testsOf
+begin-room ts t r d = one-free (count isHeld (ts .regions)) _ (rw d at (passed ts (Begin t) r 16))

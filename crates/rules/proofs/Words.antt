@@ -1,10 +1,10 @@
 -- A stored word is one of 64 bits, so that a line keeps its form.
-use Prim.Native.Nat.{_/_, _^_, ℕ}
+use Prim.Native.Nat.{_/_, _<_, _^_, suc, zero, ℕ}
 use mathlib.Core.Path.{_≡_, refl}
 use mathlib.Core.Bool.{true}
 use mathlib.Core.List.{List, [], _∷_, map}
 use lib.Dec.{eqb}
-use lib.ListN.{length, length-set, set}
+use lib.ListN.{getD, length, length-set, set}
 use native.Mathlib.Omega.{arith}
 use native.Mathlib.Nat.{mod-lt}
 use borrow.Author.Tests.{lt-ltb}
@@ -17,6 +17,18 @@ use Rattle.undo.proofs.Laws.{and-true, test}
 
 byte-small : (i n : ℕ) → isByte (byteOf i n) ≡ true
 byte-small i n = lt-ltb (byteOf i n) 256 (mod-lt (n / 256 ^ i) (omega arith))
+
+-- the eight places of the bytes of a word
+pub eight : (f : ℕ → ℕ) (i : ℕ) → i < 8 → getD (map f wordPlaces) i 0 ≡ f i
+eight f zero h = refl
+eight f (suc zero) h = refl
+eight f (suc (suc zero)) h = refl
+eight f (suc (suc (suc zero))) h = refl
+eight f (suc (suc (suc (suc zero)))) h = refl
+eight f (suc (suc (suc (suc (suc zero))))) h = refl
+eight f (suc (suc (suc (suc (suc (suc zero)))))) h = refl
+eight f (suc (suc (suc (suc (suc (suc (suc zero))))))) h = refl
+eight f (suc (suc (suc (suc (suc (suc (suc (suc i)))))))) h = absurd (omega arith)
 
 -- each byte of a stored word is one of the value or of the word before
 byte-after : (mask v x i : ℕ) → isByte (byteAfter mask v x i) ≡ true

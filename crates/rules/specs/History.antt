@@ -19,13 +19,14 @@ use Rattle.rules.specs.declared.Event.{Event}
 use Rattle.rules.specs.declared.Event.the-variants.{Begin, Cut, DataAck, End, Fence, LogAck, Read, Setup, Write}
 use Rattle.rules.specs.declared.Reading.{Reading}
 use Rattle.rules.specs.declared.Reading.the-variants.{Refused, Whole}
+use Rattle.rules.specs.declared.Shares.{Shares}
 use Rattle.undo.specs.Table.{any, isIn}
 
 -- ---- what an event is to the history: its account
 
 pub data Account : Type 0 where
-  -- a setup, with its L
-  Sets : ℕ → Account
+  -- a setup, with its L, parties and reserves
+  Sets : ℕ → Shares → Account
   -- a begin and an end of a thread, at any depth
   Opens : ℕ → Account
   Closes : ℕ → Account
@@ -37,7 +38,7 @@ pub data Account : Type 0 where
   Nothing : Account
 
 abbrev pub accountOf : Event → Account
-accountOf (Setup n l) = Sets l
+accountOf (Setup n l s) = Sets l s
 accountOf (Begin t) = Opens t
 accountOf (End t) = Closes t
 accountOf (Read t l w) = Uses t l
@@ -65,7 +66,7 @@ acceptedIn m rs = acceptedFrom (fresh m) rs []
 
 -- a cut is among the accepted events
 abbrev pub isCut : Account → Bool
-isCut (Sets l) = false
+isCut (Sets l s) = false
 isCut (Opens t) = false
 isCut (Closes t) = false
 isCut (Uses t l) = false
@@ -79,7 +80,7 @@ hasCut es = any isCut es
 -- ---- "a thread's depth is its accepted begins less its accepted ends"
 
 abbrev pub deepened : ℕ → Account → ℕ → ℕ
-deepened t (Sets l) d = d
+deepened t (Sets l s) d = d
 deepened t (Opens u) d = cond (eqb u t) (d + 1) d
 deepened t (Closes u) d = cond (eqb u t) (d - 1) d
 deepened t (Uses u l) d = d
@@ -94,7 +95,7 @@ depthIn t (e ∷ es) = deepened t e (depthIn t es)
 -- ---- "Each begin accepted at depth 0 opens a region; its predecessor is the thread's one before": the thread's regions are numbered from 1
 
 abbrev pub oneMore : ℕ → Account → ℕ → ℕ → ℕ
-oneMore t (Sets l) d n = n
+oneMore t (Sets l s) d n = n
 oneMore t (Opens u) d n = cond (eqb u t && eqb d 0) (n + 1) n
 oneMore t (Closes u) d n = n
 oneMore t (Uses u l) d n = n
@@ -119,7 +120,7 @@ pub record Change : Type 0 where
   pub change : List ℕ → List ℕ
 
 abbrev pub changeOf : Account → List Account → List Change → List Change
-changeOf (Sets l) es ws = ws
+changeOf (Sets l s) es ws = ws
 changeOf (Opens u) es ws = ws
 changeOf (Closes u) es ws = ws
 changeOf (Uses u l) es ws = ws
@@ -133,7 +134,7 @@ writesIn [] = []
 writesIn (e ∷ es) = changeOf e es (writesIn es)
 
 abbrev pub endOf : Account → List Account → List ℕ → List ℕ
-endOf (Sets l) es ks = ks
+endOf (Sets l s) es ks = ks
 endOf (Opens u) es ks = ks
 endOf (Closes u) es ks = cond (eqb (depthIn u es) 1) (regionIn u es ∷ ks) ks
 endOf (Uses u l) es ks = ks
@@ -158,7 +159,7 @@ pub record Use : Type 0 where
   pub on : ℕ
 
 abbrev pub usesOf : Account → List Account → List Use → List Use
-usesOf (Sets l) es us = us
+usesOf (Sets l s) es us = us
 usesOf (Opens t) es us =
     cond (eqb (depthIn t es) 0 && ltb 0 (openedIn t es)) (record { of = keyOf t (openedIn t es + 1); on = regionIn t es } ∷ us) us
 usesOf (Closes t) es us = us
@@ -178,7 +179,7 @@ drawsOn k q us = any (λ u. eqb (u .of) k && eqb (u .on) q) us
 
 -- the regions that commit in an accepted event, as its rule tells
 abbrev pub commitsOf : Event → Board → List ℕ
-commitsOf (Setup n l) b = []
+commitsOf (Setup n l s) b = []
 commitsOf (Begin t) b = []
 commitsOf (End t) b = cond (eqb (depthOf t (b .tables)) 1) (settled (endRegion t b .tables) .keys) []
 commitsOf (Read t l w) b = []
@@ -227,7 +228,7 @@ memoryFound bs = foundFrom 0 (numOf (take 2 (drop 2 bs))) bs
 
 -- L, of the accepted setup
 abbrev pub linesOf : Account → ℕ → ℕ
-linesOf (Sets l) k = l
+linesOf (Sets l s) k = l
 linesOf (Opens t) k = k
 linesOf (Closes t) k = k
 linesOf (Uses t l) k = k

@@ -1,6 +1,7 @@
 -- "Event records. One byte of kind, then a body whose length the kind fixes; numbers are little-endian. 0 setup: T (1 byte), L (2). 1 begin: thread (1).
 -- 2 end: thread. 3 read: thread, line, word (1 each). 4 write: thread, line, word, value (8). 5 log acknowledgement: line. 6 data acknowledgement: line.
 -- 7 fence: thread. 8 cut: empty." Request 9: "Kind 10 is a write with thread, line, word, a mask byte and 8 value bytes"
+-- Request 1: "After L, setup then carries eight bytes, the party (0 or 1) of each thread, and two bytes, the reserve of each party"
 -- The one table of kinds: everything about the form of an event record is read from it.
 use Prim.Native.Nat.{_+_, suc, ℕ}
 use mathlib.Core.Bool.{Bool, cond}
@@ -19,7 +20,7 @@ noKind = record { word = []; widths = [] }
 -- in the order of their numbers: setup, begin, end, read, write, log-ack, data-ack, fence, cut; none for 9; write-bytes
 abbrev pub kinds : List Kind
 kinds =
-    record { word = 115 ∷ 101 ∷ 116 ∷ 117 ∷ 112 ∷ []; widths = 1 ∷ 2 ∷ [] }
+    record { word = 115 ∷ 101 ∷ 116 ∷ 117 ∷ 112 ∷ []; widths = 1 ∷ 2 ∷ 1 ∷ 1 ∷ 1 ∷ 1 ∷ 1 ∷ 1 ∷ 1 ∷ 1 ∷ 1 ∷ 1 ∷ [] }
     ∷ record { word = 98 ∷ 101 ∷ 103 ∷ 105 ∷ 110 ∷ []; widths = 1 ∷ [] }
     ∷ record { word = 101 ∷ 110 ∷ 100 ∷ []; widths = 1 ∷ [] }
     ∷ record { word = 114 ∷ 101 ∷ 97 ∷ 100 ∷ []; widths = 1 ∷ 1 ∷ 1 ∷ [] }

@@ -11,16 +11,21 @@ use Rattle.rules.specs.declared.Event.{Event}
 use Rattle.rules.specs.declared.Event.the-variants.{Begin, Cut, DataAck, End, Fence, LogAck, Read, Setup, Write}
 use Rattle.rules.specs.declared.Reading.{Reading}
 use Rattle.rules.specs.declared.Reading.the-variants.{Refused, Whole}
+use Rattle.rules.specs.declared.Shares.{Shares}
 
 -- the bytes of the body of a kind
 abbrev pub bodyLength : ℕ → ℕ
 bodyLength k = getD bodyLengths k 0
 
+-- request 1: "After L, setup then carries eight bytes, the party (0 or 1) of each thread, and two bytes, the reserve of each party"
+abbrev pub sharesAt : List ℕ → Shares
+sharesAt bs = record { parties = numOf (take 8 bs); reserves = numOf (take 2 (drop 8 bs)) }
+
 -- the event of a kind with its body; every other kind is read as a cut, and only 8 gets here
 -- request 9: "Kind 4 becomes the same with all bits set"
 unfoldable pub eventOf : ℕ → List ℕ → Event
 eventOf k body =
-    cond (eqb k 0) (Setup (getD body 0 0) (numOf (take 2 (drop 1 body))))
+    cond (eqb k 0) (Setup (getD body 0 0) (numOf (take 2 (drop 1 body))) (sharesAt (drop 3 body)))
     (cond (eqb k 1) (Begin (getD body 0 0))
     (cond (eqb k 2) (End (getD body 0 0))
     (cond (eqb k 3) (Read (getD body 0 0) (getD body 1 0) (getD body 2 0))

@@ -1,10 +1,11 @@
--- "Refused because of the input" (6, 3, 4, 5, 27) and "Refused because of the state" (11 to 22): for each event its tests, in the order of document 01.
--- Request 3: "Refusal 23 no longer occurs." Request 9: "27, mask 0, after 5."
-use Prim.Native.Nat.{_*_, ℕ}
+-- "Refused because of the input" (6, 24, 3, 4, 5, 27) and "Refused because of the state" (11 to 22): for each event its tests, in the order of document 01.
+-- Request 3: "Refusal 23 no longer occurs." Request 9: "27, mask 0, after 5." Request 1: "24 .. at setup after 6."
+use Prim.Native.Nat.{_*_, _+_, _-_, ℕ}
 use mathlib.Core.Bool.{Bool, _&&_, _||_, cond, not}
 use mathlib.Core.List.{List, [], _∷_}
 use lib.Dec.{eqb, leb, ltb}
-use Rattle.rules.specs.Access.{dependence, isHad, isOf, needsLog}
+use Rattle.rules.specs.Access.{dependence, isHad, isOf, needsLog, wordPlaces}
+use Rattle.rules.specs.Bytes.{byteOf}
 use Rattle.rules.specs.Lists.{count}
 use Rattle.rules.specs.Measures.{mostDepth, mostLines, mostModified, mostNumber, mostRegions, mostThreads}
 use Rattle.rules.specs.Slots.{carries, isFull, slotFor}
@@ -12,6 +13,7 @@ use Rattle.rules.specs.Tables.{current, isHeld, locked, ownerOf, regionA
 use Rattle.rules.specs.declared.Event.{Event}
 use Rattle.rules.specs.declared.Event.the-variants.{Begin, Cut, DataAck, End, Fence, LogAck, Read, Setup, Write}
 use Rattle.rules.specs.declared.Region.{Region}
+use Rattle.rules.specs.declared.Shares.{Shares}
 use Rattle.rules.specs.declared.Size.{Size}
 use Rattle.rules.specs.declared.Tables.{Tables}
 use Rattle.undo.specs.Table.{any}
@@ -41,6 +43,21 @@ isSetUp ts = inRange (ts .size .threads) (ts .size .lines)
 abbrev pub fits : ℕ → Size → Bool
 fits l z = z .zero || eqb (z .lent) (64 * l)
 
+-- request 1: "eight bytes, the party (0 or 1) of each thread, and two bytes, the reserve of each party"
+abbrev pub partyOf : ℕ → Shares → ℕ
+partyOf t s = byteOf t (s .parties)
+
+abbrev pub reserveOf : ℕ → Shares → ℕ
+reserveOf p s = byteOf p (s .reserves)
+
+-- thread t of n threads has a party that it cannot have
+abbrev pub isNoParty : ℕ → Shares → ℕ → Bool
+isNoParty n s t = ltb 1 (partyOf t s) || (leb n t && not (eqb (partyOf t s) 0))
+
+-- "24, a party above 1 or not 0 for a thread not below T, or reserves summing above 32"
+abbrev pub isUnfit : ℕ → Shares → Bool
+isUnfit n s = any (isNoParty n s) wordPlaces || ltb mostRegions (reserveOf 0 s + reserveOf 1 s)
+
 abbrev pub depthOf : ℕ → Tables → ℕ
 depthOf t ts = threadAt t ts .depth
 
@@ -50,6 +67,21 @@ isOfThread t r = isHeld r && eqb (threadOf (r .key)) t
 -- a region of the thread that is in the modified list
 abbrev pub isModified : ℕ → Region → Bool
 isModified t r = isOfThread t r && not (r .done)
+
+abbrev pub otherParty : ℕ → ℕ
+otherParty p = cond (eqb p 0) 1 0
+
+-- a region of a thread of the party
+abbrev pub isOfParty : Shares → ℕ → Region → Bool
+isOfParty s p r = isHeld r && eqb (partyOf (threadOf (r .key)) s) p
+
+-- what the party's reserve still lacks: nothing, where the party holds that many entries or more
+abbrev pub lack : ℕ → Tables → ℕ
+lack p ts = reserveOf p (ts .size .shares) - count (isOfParty (ts .size .shares) p) (ts .regions)
+
+-- request 1: "A begin is refused with 16 when the entry would leave fewer free entries than the other party's reserve still lacks"
+abbrev pub noRoomFor : ℕ → Tables → Bool
+noRoomFor t ts = ltb mostRegions (count isHeld (ts .regions) + 1 + lack (otherParty (partyOf t (ts .size .shares))) ts)
 
 -- "17 owner is another thread's open region"
 abbrev pub isForeignOpen : ℕ → ℕ → Tables → Bool
@@ -66,7 +98,12 @@ inFlight l ts = any (λ r. any (carries l) (r .slots)) (ts .regions)
 -- ---- the tests of each event
 
 unfoldable pub testsOf : Tables → Event → List Test
-testsOf ts (Setup n l) = refuse 6 (not (inRange n l)) ∷ refuse 6 (not (fits l (ts .size))) ∷ refuse 6 (isSetUp ts) ∷ []
+testsOf ts (Setup n l s) =
+    refuse 6 (not (inRange n l))
+    ∷ refuse 6 (not (fits l (ts .size)))
+    ∷ refuse 6 (isSetUp ts)
+    ∷ refuse 24 (isUnfit n s)
+    ∷ []
 testsOf ts (Begin t) =
     refuse 6 (not (isSetUp ts))
     ∷ refuse 3 (leb (ts .size .threads) t)
@@ -74,7 +111,7 @@ testsOf ts (Begin t) =
     ∷ refuse 13 (leb mostDepth (depthOf t ts))
     ∷ refuse 14 (eqb (depthOf t ts) 0 && leb mostNumber (threadAt t ts .last))
     ∷ refuse 15 (eqb (depthOf t ts) 0 && leb mostModified (count (isModified t) (ts .regions)))
-    ∷ refuse 16 (eqb (depthOf t ts) 0 && leb mostRegions (count isHeld (ts .regions)))
+    ∷ refuse 16 (eqb (depthOf t ts) 0 && noRoomFor t ts)
     ∷ []
 testsOf ts (End t) =
     refuse 6 (not (isSetUp ts))

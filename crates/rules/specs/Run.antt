@@ -2,11 +2,11 @@
 use Prim.Native.Nat.{ℕ}
 use mathlib.Core.Bool.{cond}
 use mathlib.Core.List.{List, [], _∷_}
-use lib.Dec.{leb}
+use lib.Dec.{eqb, leb}
 use lib.ListN.{length}
 use Rattle.rules.specs.Bytes.{bytesOf, paste}
 use Rattle.rules.specs.Lists.{flat}
-use Rattle.rules.specs.Record.{recordsOf}
+use Rattle.rules.specs.Record.{recordsOf, sharesAt}
 use Rattle.rules.specs.Step.{step, stepEvent}
 use Rattle.rules.specs.Tables.{Board, Lent, Memory, fresh}
 use Rattle.rules.specs.declared.Answer.{Answer}
@@ -50,6 +50,8 @@ unfoldable pub eventsCall : List ℕ → List ℕ → List ℕ → Wrote
 eventsCall file memory d =
     wroteInto (answersBytes (runFile (Lent memory) file .answers)) (length (runFile (Lent memory) file .answers)) d
 
--- the call that sets up alone: the answer that setup gets over the lent memory
-unfoldable pub startCall : ℕ → ℕ → List ℕ → Answer
-startCall n l memory = stepEvent (fresh (Lent memory)) (Setup n l) .answer
+-- the call that sets up alone: the answer that setup gets over the lent memory, with the parties and reserves as the record has them; like a place not of
+-- eight bytes, shares not of ten bytes give 6 before any other check
+unfoldable pub startCall : ℕ → ℕ → List ℕ → List ℕ → Answer
+startCall n l shares memory =
+    cond (eqb (length shares) 10) (stepEvent (fresh (Lent memory)) (Setup n l (sharesAt shares)) .answer) (record { refusal = 6; value = 0 })

@@ -19,6 +19,7 @@ use Rattle.rules.specs.declared.Event.the-variants.{Begin, Cut, DataAck,
 use Rattle.rules.specs.declared.Reading.{Reading}
 use Rattle.rules.specs.declared.Reading.the-variants.{Refused, Whole}
 use Rattle.rules.specs.declared.Region.{Region}
+use Rattle.rules.specs.declared.Shares.{Shares}
 use Rattle.rules.specs.declared.Tables.{Tables}
 use Rattle.undo.specs.Table.{any}
 
@@ -34,9 +35,9 @@ did v b = record { board = b; value = v }
 unfoldable pub settledBoard : Board → Did
 settledBoard b = did (length (settled (b .tables) .keys)) (withTables (settled (b .tables) .tables) b)
 
--- "0 setup": T and L stand
-unfoldable pub setup : ℕ → ℕ → Tables → Tables
-setup n l ts = withSize (withNumbers n l (ts .size)) ts
+-- "0 setup": T and L stand, with request 1 the parties and reserves too
+unfoldable pub setup : ℕ → ℕ → Shares → Tables → Tables
+setup n l s ts = withSize (withNumbers n l s (ts .size)) ts
 
 -- the key of the thread's open region; 0 at depth 0
 abbrev pub openRegion : ℕ → Tables → ℕ
@@ -53,7 +54,7 @@ fence t ts = cond (any (isOther t (openRegion t ts)) (ts .regions)) 0 1
 
 -- what an accepted event does; after a cut nothing but an image can be had. A begin, a read and a write make no region done and commit none
 unfoldable pub apply : Board → Event → Did
-apply b (Setup n l) = did 0 (withTables (setup n l (b .tables)) b)
+apply b (Setup n l s) = did 0 (withTables (setup n l s (b .tables)) b)
 apply b (Begin t) = did 0 (withTables (begin t (b .tables)) b)
 apply b (End t) = cond (eqb (depthOf t (b .tables)) 1) (settledBoard (endRegion t b)) (did 0 (withTables (shallower t (b .tables)) b))
 apply b (Read t l w) = did (getD (lineOf l (b .cur)) w 0) (withTables (read (current t (b .tables)) l (b .tables)) b)

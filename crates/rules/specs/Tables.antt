@@ -9,6 +9,7 @@ use Rattle.rules.specs.Lists.{place}
 use Rattle.rules.specs.Measures.{lineWords, mostDeps, mostEntries, mostLines, mostLogged, mostRegions, mostSlots, mostThreads}
 use Rattle.rules.specs.declared.Entry.{Entry}
 use Rattle.rules.specs.declared.Region.{Region}
+use Rattle.rules.specs.declared.Shares.{Shares}
 use Rattle.rules.specs.declared.Size.{Size}
 use Rattle.rules.specs.declared.Slot.{Slot}
 use Rattle.rules.specs.declared.SlotState.{SlotState}
@@ -43,9 +44,12 @@ noEntry = record { key = 0; line = 0; rank = 0; persistent = false }
 abbrev pub noThread : Thread
 noThread = record { depth = 0; last = 0; log = replicate mostEntries noEntry }
 
--- no numbers T and L before setup
+abbrev pub noShares : Shares
+noShares = record { parties = 0; reserves = 0 }
+
+-- no numbers before setup
 abbrev pub noSize : Bool → ℕ → Size
-noSize zeroed n = record { threads = 0; lines = 0; zero = zeroed; lent = n }
+noSize zeroed n = record { threads = 0; lines = 0; shares = noShares; zero = zeroed; lent = n }
 
 -- ---- the starting memory: "a program starts with zero memory, a library caller lends the starting memory"
 
@@ -165,8 +169,8 @@ withOwners os ts = record { size = ts .size; cut = ts .cut; clock = ts .clock; t
 abbrev pub withLocks : List Bool → Tables → Tables
 withLocks ls ts = record { size = ts .size; cut = ts .cut; clock = ts .clock; threads = ts .threads; regions = ts .regions; owner = ts .owner; lock = ls }
 
-abbrev pub withNumbers : ℕ → ℕ → Size → Size
-withNumbers n l z = record { threads = n; lines = l; zero = z .zero; lent = z .lent }
+abbrev pub withNumbers : ℕ → ℕ → Shares → Size → Size
+withNumbers n l s z = record { threads = n; lines = l; shares = s; zero = z .zero; lent = z .lent }
 
 abbrev pub withKey : ℕ → Region → Region
 withKey k r = record { key = k; ended = r .ended; done = r .done; stamp = r .stamp; deps = r .deps; slots = r .slots }

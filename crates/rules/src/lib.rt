@@ -43,10 +43,18 @@ pub struct Thread {
     pub log: [Entry; measures::MOST_ENTRIES],
 }
 
-// The numbers T and L of the setup, 0 before it; and the starting memory, which is zero or lent with a length in bytes.
+// How the threads share the dependence list. `parties` are eight bytes, the party of each thread, and `reserves` two, the reserve of each party; the
+// low byte is that of thread 0 and of party 0.
+pub struct Shares {
+    pub parties: u64,
+    pub reserves: u16,
+}
+
+// The numbers of the setup, 0 before it: T, L, the parties and reserves; and the starting memory, which is zero or lent with a length in bytes.
 pub struct Size {
     pub threads: u8,
     pub lines: u16,
+    pub shares: Shares,
     pub zero: bool,
     pub lent: u64,
 }
@@ -64,7 +72,7 @@ pub struct Tables {
 
 // An event: thread, line, word, mask and value as far as its kind has them, in the order of its record. A write of a whole word has the mask 255.
 pub enum Event {
-    Setup(u8, u16),
+    Setup(u8, u16, Shares),
     Begin(u8),
     End(u8),
     Read(u8, u8, u8),

@@ -8,15 +8,21 @@ use measures::LINE_WORDS;
 use measures::Lines;
 use measures::MOST_LINES;
 use rows::Head;
+use rules::Shares;
 use rules::Size;
 
 // The numbers beside the lists. Rows of zeros are empty lists, no owner and no lock.
 pub fn fresh_head(zero: bool, lent: u64) -> Head
     ensures { λ r. ⌜ zeroTables r ≡ freshTables zero lent ⌝ }
 {
+    let shares = Shares {
+        parties: 0,
+        reserves: 0,
+    };
     let size = Size {
         threads: 0,
         lines: 0,
+        shares: shares,
         zero: zero,
         lent: lent,
     };

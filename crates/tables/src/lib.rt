@@ -7,6 +7,7 @@ use measures::NUMBERS;
 use measures::Regions;
 use measures::Threads;
 use rules::Region;
+use rules::Shares;
 ghost use Prim.Native.Nat.{_/_};
 ghost use mathlib.Core.Path.{_≡_};
 ghost use mathlib.Core.Bool.{cond};
@@ -17,7 +18,7 @@ ghost use Rattle.rules.specs.Lists.{count};
 ghost use Rattle.rules.specs.Tables.{isHeld, keyOf, listed, placeOf};
 ghost use Rattle.rules.specs.Slots.{carries, isFull, slotFor};
 ghost use Rattle.rules.specs.Acknowledge.{flightPlace, kept, landed};
-ghost use Rattle.rules.specs.Refusal.{isModified, isOfThread, noRoomForDep};
+ghost use Rattle.rules.specs.Refusal.{isModified, isOfParty, isOfThread, noRoomForDep};
 ghost use Rattle.rules.specs.Step.{isOther};
 ghost use Rattle.measures.specs.Loan.{left, was};
 ghost use Rattle.rows.specs.Row.{regionsOf, threadsOf};
@@ -208,6 +209,31 @@ pub fn count_modified(regions: &Regions, t: u8) -> u8
     let mut i: usize = 0;
     while i < MOST_REGIONS {
         c += rows::one(is_modified(regions, i, t));
+        i += 1;
+    }
+    c
+}
+
+// Whether the place holds a region of a thread of party p.
+fn is_of_party(regions: &Regions, i: usize, s: Shares, p: u8) -> bool
+    ensures { λ b. ⌜ b ≡ isOfParty s p (regionHeld (was regions) i) ⌝ }
+{
+    let key = key_at(regions, i);
+    if key == 0 {
+        return false;
+    }
+    lookup::party_of(s, key / NUMBERS) == p
+}
+
+// How many regions the threads of party p have in the dependence list.
+pub fn count_party(regions: &Regions, s: Shares, p: u8) -> u8
+    ensures { λ r. ⌜ r ≡ count (isOfParty s p) (regionsOf (was regions)) ⌝ }
+{
+    rows::regions_length(regions);
+    let mut c: u8 = 0;
+    let mut i: usize = 0;
+    while i < MOST_REGIONS {
+        c += rows::one(is_of_party(regions, i, s, p));
         i += 1;
     }
     c

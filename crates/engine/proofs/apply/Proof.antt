@@ -65,8 +65,8 @@ cut-requires c κs = search needs
 count-held-requires : tie.Need-count-held-requires
 count-held-requires c κs = search needs
 
-cast-t66 : tie.Need-cast-t66
-cast-t66 c = search needs
+cast-t67 : tie.Need-cast-t67
+cast-t67 c = search needs
 
 returns : tie.Need-returns
 returns c = let s = c .before .before .before .before .args in rw (c .before .before .e .given .1) (c .set-up .ensures (s .threads .now) (s .regions .now) (s .owner .now) (s .lock .now) (s .cur .now) (s .med .now) (s .old .now) (s .car .now))
@@ -119,7 +119,7 @@ apply-spec =
     enum-told
     cut-requires
     count-held-requires
-    cast-t66
+    cast-t67
     returns
     returns-2
     returns-3

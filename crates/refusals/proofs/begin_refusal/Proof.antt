@@ -24,7 +24,7 @@ abbrev to-14 : tie.Else4 → tie.Else3
 to-14 c = c .before .before
 
 abbrev to-15 : tie.Else5 → tie.Else4
-to-15 c = c .before .before .before
+to-15 c = c .before .before
 
 module _ (owner : List ℕ) (lock : List Bool) where
   abbrev tables : tie.Start → Tables
@@ -51,7 +51,7 @@ module _ (owner : List ℕ) (lock : List Bool) where
 
   passed-16 : (c : tie.Else5) → Passed 16 (tests (start (to-13 (to-14 (to-15 c) .before))))
   unfolding testsOf
-  passed-16 c = passed-15 (to-15 c) ∙ rw (outside (to-14 (to-15 c)), ← c .before .before .count-modified .ensures, lt-leb 4 _ (c .if5 .left))
+  passed-16 c = passed-15 (to-15 c) ∙ rw (outside (to-14 (to-15 c)), ← c .before .count-modified .ensures, lt-leb 4 _ (c .if5 .left))
 
 thread-refusal-requires : tie.Need-thread-refusal-requires
 thread-refusal-requires c κs = search needs
@@ -81,23 +81,20 @@ returns-4 c = λ owner lock. let e = c .before .before in sym (passed-14 owner l
 count-modified-requires : tie.Need-count-modified-requires
 count-modified-requires c κs = search needs
 
-count-held-requires : tie.Need-count-held-requires
-count-held-requires c κs = search needs
-
 returns-5 : tie.Need-returns-5
 unfolding refusal testsOf
-returns-5 c = λ owner lock. let e = c .before .before .before in sym (passed-15 owner lock e ∙ rw (outside owner lock (to-14 e), ← c .before .before .count-modified .ensures, le-leb 4 _ (c .if5 .taken)))
+returns-5 c = λ owner lock. let e = c .before .before in sym (passed-15 owner lock e ∙ rw (outside owner lock (to-14 e), ← c .before .count-modified .ensures, le-leb 4 _ (c .if5 .taken)))
 
-cast-if6 : tie.Need-cast-if6
-cast-if6 c = search needs
+no-room-for-requires : tie.Need-no-room-for-requires
+no-room-for-requires c κs = search needs
 
 returns-6 : tie.Need-returns-6
 unfolding refusal testsOf
-returns-6 c = λ owner lock. let e = c .before in sym (passed-16 owner lock e ∙ rw (outside owner lock (to-14 (to-15 e)), ← e .before .count-held .ensures, le-leb 32 _ (c .if6 .taken)))
+returns-6 c = λ owner lock. let e = c .before .before in let s = start (to-13 (to-14 (to-15 e) .before)) .args in sym (passed-16 owner lock e ∙ rw (outside owner lock (to-14 (to-15 e)), ← c .before .no-room-for .ensures (s .threads .now) owner lock, c .if6 .taken))
 
 returns-7 : tie.Need-returns-7
 unfolding refusal testsOf
-returns-7 c = λ owner lock. let e = c .before in sym (passed-16 owner lock e ∙ rw (outside owner lock (to-14 (to-15 e)), ← e .before .count-held .ensures, lt-leb 32 _ (c .if6 .left)))
+returns-7 c = λ owner lock. let e = c .before .before in let s = start (to-13 (to-14 (to-15 e) .before)) .args in sym (passed-16 owner lock e ∙ rw (outside owner lock (to-14 (to-15 e)), ← c .before .no-room-for .ensures (s .threads .now) owner lock, c .if6 .left))
 
 pub begin-refusal-spec : {M : Type 1} → statement M
 begin-refusal-spec =
@@ -111,8 +108,7 @@ begin-refusal-spec =
     last-of-requires
     returns-4
     count-modified-requires
-    count-held-requires
     returns-5
-    cast-if6
+    no-room-for-requires
     returns-6
     returns-7)

@@ -24,9 +24,16 @@ returns-3 : tie.Need-returns-3
 unfolding refusal testsOf
 returns-3 c = let b = c .before .before in let a = b .before .before in λ ts z. rw (z, ← a .before .in-range .ensures, a .if1 .left, ← b .before .memory-fits .ensures, b .if2 .left, ← c .before .in-range2 .ensures, c .if3 .taken)
 
+is-unfit-requires : tie.Need-is-unfit-requires
+is-unfit-requires c κs = search needs
+
 returns-4 : tie.Need-returns-4
 unfolding refusal testsOf
-returns-4 c = let b = c .before .before in let a = b .before .before in λ ts z. rw (z, ← a .before .in-range .ensures, a .if1 .left, ← b .before .memory-fits .ensures, b .if2 .left, ← c .before .in-range2 .ensures, c .if3 .left)
+returns-4 c = let d = c .before .before in let b = d .before .before in let a = b .before .before in λ ts z. rw (z, ← a .before .in-range .ensures, a .if1 .left, ← b .before .memory-fits .ensures, b .if2 .left, ← d .before .in-range2 .ensures, d .if3 .left, ← c .before .is-unfit .ensures, c .if4 .taken)
+
+returns-5 : tie.Need-returns-5
+unfolding refusal testsOf
+returns-5 c = let d = c .before .before in let b = d .before .before in let a = b .before .before in λ ts z. rw (z, ← a .before .in-range .ensures, a .if1 .left, ← b .before .memory-fits .ensures, b .if2 .left, ← d .before .in-range2 .ensures, d .if3 .left, ← c .before .is-unfit .ensures, c .if4 .left)
 
 pub setup-refusal-spec : {M : Type 1} → statement M
 setup-refusal-spec =
@@ -38,4 +45,6 @@ setup-refusal-spec =
     returns-2
     in-range-requires-2
     returns-3
-    returns-4)
+    is-unfit-requires
+    returns-4
+    returns-5)

@@ -31,7 +31,7 @@ more-draws k q u us e = or-right (eqb (u .of) k && eqb (u .on) q) e
 pub drew : (t n : ℕ) (es : List Account) → n ≢ 0 → suc n ≤ openedIn t es → drawsOn (keyOf t (suc n)) (keyOf t n) (usesIn es) ≡ true
 unfolding openedIn usesIn
 drew t n [] z h = absurd (omega arith)
-drew t n (Sets l ∷ es) z h = drew t n es z h
+drew t n (Sets l s ∷ es) z h = drew t n es z h
 drew t n (Opens u ∷ es) z h = go (drew t n es z)
   where
     kept : drawsOn (keyOf t (suc n)) (keyOf t n) (usesIn es) ≡ true → drawsOn (keyOf t (suc n)) (keyOf t n) (usesIn (Opens u ∷ es)) ≡ true

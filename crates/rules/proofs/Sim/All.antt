@@ -43,7 +43,7 @@ keeps-log l m b es r k = let z = log-ack l m b es r k in settles (z .0) (z .1)
 -- ---- each event keeps the relation, and so does each list of records
 
 pub keeps : (e : Event) → Keeps e
-keeps (Setup n l) = keeps-setup n l
+keeps (Setup n l s) = keeps-setup n l s
 keeps (Begin t) = keeps-begin t
 keeps (End t) = keeps-end t
 keeps (Read t l w) = read-keeps t l w

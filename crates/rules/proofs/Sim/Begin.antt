@@ -35,7 +35,7 @@ use Rattle.undo.specs.Claim.{Reach, Structure, then}
 use Rattle.undo.specs.Machine.{ends}
 use Rattle.undo.specs.Recovery.{older}
 use Rattle.undo.specs.Table.{any, put}
-use Rattle.rules.proofs.Tests.{passed}
+use Rattle.rules.proofs.Tests.{begin-room, passed}
 use Rattle.rules.proofs.Sim.Depth.{keeps-deeper}
 
 -- ---- begin at depth 0
@@ -327,7 +327,7 @@ keeps-begin t m b es r k =
     opens d (by s h rc i) rt =
         let d0 : depthIn t es ≡ 0 = sym (i .told .depth t) ∙ eqb-true (depthOf t (b .tables)) 0 d in
         let few : openedIn t es < 65535 = rw (i .told .last t) at (leb-false 65535 (threadAt t (b .tables) .last) (rw d at (passed (b .tables) (Begin t) r 14))) in
-        let room : count isHeld (b .tables .regions) < 32 = leb-false 32 (count isHeld (b .tables .regions)) (rw d at (passed (b .tables) (Begin t) r 16)) in
+        let room : count isHeld (b .tables .regions) < 32 = begin-room (b .tables) t r d in
         record {
           simulated = test (listed (current t (b .tables)) (b .tables .regions))
               (λ y. let z = opens-after rc i t lt d0 few room y in by (z .0) (z .1) (z .2 .0) (z .2 .1))

@@ -22,6 +22,7 @@ use Rattle.rules.specs.Step.{apply, setup}
 use Rattle.rules.specs.Tables.{Board, Memory, noEntry, noThread, threadAt, withCut, withDepth, withNumbers, withTables, withThread}
 use Rattle.rules.specs.declared.Entry.{Entry}
 use Rattle.rules.specs.declared.Event.the-variants.{Cut, Fence, Setup}
+use Rattle.rules.specs.declared.Shares.{Shares}
 use Rattle.rules.specs.declared.Size.{Size}
 use Rattle.rules.specs.declared.Tables.{Tables}
 use Rattle.undo.proofs.Laws.{flip, is-same, never, test}
@@ -39,9 +40,9 @@ unfolding openedIn depthIn endsIn writesIn usesIn
 alike-fence t es =
     record { opened = λ t. refl; inside = λ t n. n; outside = λ t n. n; ends = refl; writes = refl; uses = refl }
 
-pub alike-setup : (n l : ℕ) (es : List Account) → Alike es (Sets l ∷ es)
+pub alike-setup : (l : ℕ) (s : Shares) (es : List Account) → Alike es (Sets l s ∷ es)
 unfolding openedIn depthIn endsIn writesIn usesIn
-alike-setup n l es =
+alike-setup l s es =
     record { opened = λ t. refl; inside = λ t n. n; outside = λ t n. n; ends = refl; writes = refl; uses = refl }
 
 -- ---- fence, cut
@@ -78,21 +79,21 @@ keeps-cut m b es r k =
 
 -- ---- setup
 
-abbrev size′ : ℕ → ℕ → Board → Size
-size′ n l b = withNumbers n l (b .tables .size)
+abbrev size′ : ℕ → ℕ → Shares → Board → Size
+size′ n l s b = withNumbers n l s (b .tables .size)
 
-pub keeps-setup : (n l : ℕ) → Keeps (Setup n l)
+pub keeps-setup : (n l : ℕ) (s : Shares) → Keeps (Setup n l s)
 unfolding apply setup testsOf depthIn linesIn
-keeps-setup n l m b es r k =
+keeps-setup n l shares m b es r k =
     record {
       simulated = go (k .simulated);
-      rest = rest-alter {b = b} (size′ n l b) (b .tables .cut) (b .tables .clock) (b .tables .threads) (k .rest);
+      rest = rest-alter {b = b} (size′ n l shares b) (b .tables .cut) (b .tables .clock) (b .tables .threads) (k .rest);
     }
   where
     facts : (inRange n l ≡ true) × (isSetUp (b .tables) ≡ false)
-    facts = setup-passed (b .tables) n l r
+    facts = setup-passed (b .tables) n l shares r
 
-    go : Simulated m b es → Simulated m (withTables (alter (size′ n l b) (b .tables .cut) (b .tables .clock) (b .tables .threads) (b .tables)) b) (Sets l ∷ es)
+    go : Simulated m b es → Simulated m (withTables (alter (size′ n l shares b) (b .tables .cut) (b .tables .clock) (b .tables .threads) (b .tables)) b) (Sets l shares ∷ es)
     go (by s h rc i) =
         let sh : Shape (b .tables) = i .shape in
         let none′ : (t : ℕ) → threadAt t (b .tables) ≡ noThread = λ t. sh .threads .range t (rw (sh .size (facts .1)) (omega arith)) in
@@ -101,7 +102,7 @@ keeps-setup n l m b es r k =
         (λ e. ap {A = Entry} (λ x. x .key) (getD-replicate 32 j noEntry noEntry (ltb-true j 32 e)))
         (λ e. ap {A = Entry} (λ x. x .key) (List·getD-eq-default (replicate 32 noEntry) noEntry (ltb-false j 32 e)))) in
         by s h rc
-        (sim-alter {b = b} (size′ n l b) (b .tables .cut) (b .tables .clock) (b .tables .threads)
+        (sim-alter {b = b} (size′ n l shares b) (b .tables .cut) (b .tables .clock) (b .tables .threads)
         (record {
           regions = sh .regions;
           threads = record { count = sh .threads .count; logs = sh .threads .logs; range = λ t g. none′ t };
@@ -117,7 +118,7 @@ keeps-setup n l m b es r k =
           once = i .logs .once;
           ranks = i .logs .ranks;
         })
-        (told-alike {b = b} (alike-setup n l es) (i .told .depth) (λ t. refl) (λ e. refl) refl (i .told)) i)
+        (told-alike {b = b} (alike-setup l shares es) (i .told .depth) (λ t. refl) (λ e. refl) refl (i .told)) i)
 
 -- ---- nested begin and end: a thread gets another depth, and nothing else changes
 
