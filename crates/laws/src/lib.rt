@@ -77,7 +77,8 @@ pub fn no_reserves_change_nothing()
     ensures { λ r. ⌜ NoReserves ⌝ }
 {}
 
-// A party below its reserve never meets 16, whatever the other did; 16 comes exactly where an entry would be taken that is kept for the other party.
+// A party below its reserve never meets 16, whatever the other did; 16 comes only where no entry is free that is not kept for the other party, and there no
+// begin opens a region.
 pub fn reserves_hold()
     ensures { λ r. ⌜ Reserved ⌝ }
 {}
