@@ -4,7 +4,7 @@
 #include <inttypes.h>
 #include <stdlib.h>
 
-enum { KINDS = 11, SETUP = 0, MOST_THREADS = 8, LISTED = 32 };
+enum { KINDS = 11, SETUP = 0, MOST_THREADS = 8, CHANNEL = 16 };
 
 /* By kind: the word of the readable form, and the width of each number of the body, a digit for each. Number 9 is no kind's and has no word. */
 static const struct { const char *word, *widths; } forms[KINDS] = {
@@ -54,12 +54,12 @@ size_t event_count(const uint8_t *file, size_t length) {
     return at < length ? count + 1 : count;
 }
 
-/* Whether a setup has T and L in range, no party but 0 and 1, none but 0 for a thread not below T, and reserves of at most 32 together. */
+/* Whether a setup has T and L in range, no party but 0 and 1, none but 0 for a thread not below T, and reserves of at most 16 together. */
 static int can_stand(const uint8_t *record, size_t lines) {
     const uint8_t threads = record[1], *party = record + 4, *reserve = party + MOST_THREADS;
     for (size_t t = 0; t < MOST_THREADS; t++)
         if (party[t] > (t < threads)) return 0;
-    return threads >= 1 && threads <= MOST_THREADS && lines >= 1 && lines <= MOST_LINES && reserve[0] + reserve[1] <= LISTED;
+    return threads >= 1 && threads <= MOST_THREADS && lines >= 1 && lines <= MOST_LINES && reserve[0] + reserve[1] <= CHANNEL;
 }
 
 size_t memory_length(const uint8_t *file, size_t length) {

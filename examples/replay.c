@@ -25,14 +25,14 @@ static const char *const refusal_words[REFUSALS] = {
     [13] = "begin at depth 15",
     [14] = "numbers spent",
     [15] = "modified list full",
-    [16] = "dependence list full, or its free entries kept for the other party",
+    [16] = "channel full, or its free entries kept for the other party",
     [17] = "owner is another thread's open region",
     [18] = "needs a log entry on a line still locked",
     [19] = "new dependence and four held",
     [20] = "new slot and eight held",
     [21] = "new log entry and 32 held",
     [22] = "nothing in flight",
-    [24] = "a party above 1 or of a thread not below T, or reserves above 32 together",
+    [24] = "a party above 1 or of a thread not below T, or reserves above 16 together",
     [27] = "mask 0",
 };
 

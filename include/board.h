@@ -17,9 +17,9 @@ typedef struct {
 } board_answer;
 
 /* The answer that setup with these numbers gets over the lent memory. `shares` are the ten bytes that a setup record has behind L: the party (0 or 1) of
-   the threads 0 to 7, then the entries of the dependence list that are kept for party 0 and for party 1. 6 if they are not ten bytes, T is not 1 to 8,
-   L not 1 to 256, or the memory not 64 * L bytes; else 24 if a party is above 1, or not 0 for a thread not below T, or the two reserves are above 32
-   together. */
+   the threads 0 to 7, then the reserves: the entries that are kept for party 0 and for party 1, of the 16 in each channel of the dependence list. 6 if
+   they are not ten bytes, T is not 1 to 8, L not 1 to 256, or the memory not 64 * L bytes; else 24 if a party is above 1, or not 0 for a thread not below
+   T, or the two reserves are above 16 together. */
 board_answer board_start(uint64_t threads, uint64_t lines, const uint8_t *shares, size_t shares_len, const uint8_t *memory, size_t memory_len);
 
 /* Runs an event file over lent starting memory and writes nine bytes for each answer (refusal, then the value, little-endian).

@@ -1,6 +1,6 @@
 /* compare SEED LISTS: the proved engine against the plain one, on random event files, valid and damaged: answers, images, images after
    every recovery step, places, refusals of short buffers and of damaged images; and on every mask, every party and reserve of a setup, and all pairs of
-   reserves that setup accepts. The last line is 'N passed, M failed'. */
+   reserves that setup accepts, with begins that fill the channels. The last line is 'N passed, M failed'. */
 #include <stdio.h>
 #include <stdlib.h>
 #include <string.h>
@@ -165,9 +165,9 @@ static size_t put_board(size_t at, uint8_t threads, const uint8_t shares[PLAIN_S
 }
 
 /* A setup with these parties and reserves, at every T and as a start call. Behind it stands one that is accepted if the first was not, in which party 0 may
-   hold one entry; then the first again, which is refused. */
+   hold one entry of each channel; then the first again, which is refused. */
 static void compare_setup(const uint8_t shares[PLAIN_SHARES]) {
-    static const uint8_t accepted[PLAIN_SHARES] = {[PLAIN_THREADS + 1] = PLAIN_LISTED - 1};
+    static const uint8_t accepted[PLAIN_SHARES] = {[PLAIN_THREADS + 1] = PLAIN_CHANNEL - 1};
     for (uint8_t threads = 0; threads < 10; threads++) {
         size_t length = put_board(put_board(put_board(0, threads, shares), PLAIN_THREADS, accepted), threads, shares);
         compare_answers(length, PLAIN_LINE_BYTES, sizeof answers[0], threads);
@@ -177,7 +177,7 @@ static void compare_setup(const uint8_t shares[PLAIN_SHARES]) {
 
 /* Each of the ten bytes of a setup behind L with every value, the others as they stand in two that are accepted at T 8. */
 static void compare_setups(void) {
-    static const uint8_t accepted[][PLAIN_SHARES] = {{0}, {0, 1, 0, 1, 0, 1, 0, 1, 5, 27}};
+    static const uint8_t accepted[][PLAIN_SHARES] = {{0}, {0, 1, 0, 1, 0, 1, 0, 1, 5, 11}};
     for (size_t i = 0; i < sizeof accepted / sizeof accepted[0]; i++)
         for (unsigned v = 0; v < 256 * PLAIN_SHARES; v++) {
             uint8_t shares[PLAIN_SHARES];
@@ -187,32 +187,45 @@ static void compare_setups(void) {
         }
 }
 
-/* Begins of two parties in an order of eight, bit 0 first, again and again, until no more entry is had. All regions of a thread stay uncommitted while its
-   first one waits for its line; at the end those of thread 0 commit, and both threads begin. */
-static void compare_begins(const uint8_t shares[PLAIN_SHARES], uint8_t order) {
-    static const uint8_t first[] = {EVENT_BEGIN, 0, EVENT_WRITE, 0, 0, 0, 7, [14] = EVENT_END, 0, EVENT_BEGIN, 1, EVENT_WRITE, 1, 1, 0, 7, [30] = EVENT_END, 1};
-    static const uint8_t last[] = {EVENT_LOG_ACK, 0, EVENT_DATA_ACK, 0, EVENT_BEGIN, 0, EVENT_BEGIN, 1, EVENT_CUT};
-    size_t length = PLAIN_RECORD_BYTES + sizeof first;
-    put_setup(file, 2, 2, shares);
-    memcpy(file + PLAIN_RECORD_BYTES, first, sizeof first);
-    for (int i = 0; i < 132; i++) {
-        uint8_t t = order >> i % 8 & 1;
+/* One region of each thread that waits for the thread's line: number 1 of the first `odd` threads, number 2 of the others. Gives the place behind them. */
+static size_t put_firsts(size_t at, uint8_t odd) {
+    for (uint8_t t = 0; t < PLAIN_THREADS; t++) {
+        const uint8_t first[] = {EVENT_BEGIN, t, EVENT_END, t, EVENT_BEGIN, t, EVENT_WRITE, t, t, 0, 7, [18] = EVENT_END, t};
+        size_t from = t < odd ? 4 : 0;
+        memcpy(file + at, first + from, sizeof first - from);
+        at += sizeof first - from;
+    }
+    return at;
+}
+
+/* Begins of threads of both parties in an order, again and again, until no more entry is had: all regions of a thread stay uncommitted while its first one
+   waits, and where more of the first ones are odd channel 1 is full before channel 0. Then those of threads 0 and 5 commit, and all threads begin. */
+static void compare_begins(const uint8_t shares[PLAIN_SHARES], uint8_t odd, const char *order) {
+    static const uint8_t last[] = {EVENT_LOG_ACK, 0, EVENT_DATA_ACK, 0, EVENT_BEGIN, 0, EVENT_BEGIN, 1, EVENT_LOG_ACK, 5, EVENT_DATA_ACK, 5, EVENT_BEGIN, 2,
+                                   EVENT_BEGIN, 4, EVENT_BEGIN, 3, EVENT_BEGIN, 5, EVENT_BEGIN, 6, EVENT_BEGIN, 7, EVENT_CUT};
+    put_setup(file, PLAIN_THREADS, PLAIN_THREADS, shares);
+    size_t length = put_firsts(PLAIN_RECORD_BYTES, odd);
+    for (size_t i = 0; i < 132; i++) {
+        uint8_t t = (uint8_t)(order[i % strlen(order)] - '0');
         const uint8_t next[] = {EVENT_BEGIN, t, EVENT_END, t};
         memcpy(file + length, next, sizeof next);
         length += sizeof next;
     }
     memcpy(file + length, last, sizeof last);
-    compare_answers(length + sizeof last, 2 * PLAIN_LINE_BYTES, sizeof answers[0], order);
+    compare_answers(length + sizeof last, PLAIN_THREADS * PLAIN_LINE_BYTES, sizeof answers[0], shares[PLAIN_THREADS]);
 }
 
-/* All pairs of reserves that setup accepts, each with begins in several orders: one party alone, both in turn, one more often than the other. */
+/* All pairs of reserves that setup accepts, and those of 17 together, each with begins in several orders: one party alone, both in turn, one more often
+   than the other. */
 static void compare_reserves(void) {
-    static const uint8_t orders[] = {0, 255, 0xAA, 0x01, 0xF7, 0x3C};
-    for (uint8_t first = 0; first <= PLAIN_LISTED; first++)
-        for (uint8_t second = 0; first + second <= PLAIN_LISTED; second++)
-            for (size_t i = 0; i < sizeof orders; i++) {
-                const uint8_t shares[PLAIN_SHARES] = {0, 1, [PLAIN_THREADS] = first, second};
-                compare_begins(shares, orders[i]);
+    static const struct { uint8_t odd; const char *order; } runs[] = {
+        {2, "0"}, {6, "0"}, {2, "1"}, {6, "1"}, {4, "01"}, {4, "1000"}, {2, "7531"}, {6, "0246"}, {6, "45670000"}, {2, "01235555"}, {4, "07162534"},
+    };
+    for (uint8_t first = 0; first <= PLAIN_CHANNEL + 1; first++)
+        for (uint8_t second = 0; first + second <= PLAIN_CHANNEL + 1; second++)
+            for (size_t i = 0; i < sizeof runs / sizeof runs[0]; i++) {
+                const uint8_t shares[PLAIN_SHARES] = {0, 1, 0, 1, 0, 1, 0, 1, first, second};
+                compare_begins(shares, runs[i].odd, runs[i].order);
             }
 }
 

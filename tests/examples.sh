@@ -76,20 +76,23 @@ done
 check 'the values of the fences' '1 1 0 0 0 1 1 0' "$("$bin/trace" < ../samples/fence.events | grep '^7' | cut -d ' ' -f 3 | paste -sd ' ')"
 check 'writes of bytes, what is read, and what recovery finds' '10 0 0, 10 27 0, 10 17 0, 10 0 0, 3 0 78644200, 10 0 0, 3 0 4294902760, M 0 0 1000' \
     "$("$bin/trace" < ../samples/bytes.events | grep -E '^(10|3|M) ' | paste -sd , | sed 's/,/, /g')"
-check 'begins under a reserve, and what recovery finds' '1 0, 1 0, 1 16, 1 0, 1 16, 1 0, 1 16, 1 0, 1 0, 1 16, M 0 0 7' \
-    "$("$bin/trace" < ../samples/reserves.events | grep -E '^(1|M) ' | sed 's/^\(1 .*\) 0$/\1/' | paste -sd , | sed 's/,/, /g')"
+
+# begins NAME: the refusals of a sample's begins, the value of its cut, and what recovery finds.
+begins() { "$bin/trace" < "../samples/$1.events" | sed -n -e 's/^1 \(.*\) 0$/\1/p' -e '/^[8M] /p' | paste -sd , | sed 's/,/, /g'; }
+check 'begins under a reserve' '0, 0, 0, 16, 0, 0, 16, 0, 0, 0, 16, 8 0 5, M 0 0 7' "$(begins reserves)"
+check 'begins in two channels' '0, 0, 16, 0, 0, 16, 0, 16, 0, 0, 0, 16, 0, 8 0 3, M 0 0 7' "$(begins channels)"
 
 # files that end early, and whose first setups are refused
 for end in 'bytes 4 0 1' 'bytes 9 0 255 1' 'bytes 10 1 2 0 3 1 2 0 0 0 0 0' 'bytes 11 1 2 0 3 1 2 0 0 0 0 0 0' 'bytes 0 2 3 0 0 0 0 0 0 0 0 0 0' \
     'bytes 200'; do
-    printf '%s\n' 'setup 9 1 0 0 0 0 0 0 0 0 0 0' 'setup 2 3 0 0 1 0 0 0 0 0 0 0' 'setup 2 3 0 1 0 0 0 0 0 0 200 100' 'setup 2 3 0 1 0 0 0 0 0 0 0 32' \
+    printf '%s\n' 'setup 9 1 0 0 0 0 0 0 0 0 0 0' 'setup 2 3 0 0 1 0 0 0 0 0 0 0' 'setup 2 3 0 1 0 0 0 0 0 0 200 100' 'setup 2 3 0 1 0 0 0 0 0 0 0 16' \
         'begin 0' 'begin 1' 'write 1 2 7 18446744073709551615' 'write 1 2 0 1311768467463790320' 'read 1 2 0' 'fence 0' "$end" | "$bin/tobytes" > "$scratch/damaged"
     replay_file "$scratch/damaged"
 done
 check 'an empty file' '0 answers agree'$'\n''exit 0' "$(replayed /dev/null /dev/null)"
 
 # the starting memory is that of the first setup that can be accepted
-printf '%s\n' 'setup 2 1 0 0 1 0 0 0 0 0 0 0' 'setup 2 1 2 0 0 0 0 0 0 0 0 0' 'setup 2 1 0 0 0 0 0 0 0 0 33 0' 'setup 2 3 0 1 0 0 0 0 0 0 0 32' \
+printf '%s\n' 'setup 2 1 0 0 1 0 0 0 0 0 0 0' 'setup 2 1 2 0 0 0 0 0 0 0 0 0' 'setup 2 1 0 0 0 0 0 0 0 0 17 0' 'setup 2 3 0 1 0 0 0 0 0 0 0 16' \
     'begin 0' 'begin 1' | "$bin/tobytes" > "$scratch/refused"
 "$build/replay" -w "$scratch/refused" "$scratch/answers"
 check 'setups with other lines, refused' '6 6 6 0 16 0' "$(od -An -v -w9 -tu1 "$scratch/answers" | awk '{ print $1 }' | paste -sd ' ')"

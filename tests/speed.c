@@ -1,5 +1,5 @@
 /* speed [EVENTS]: nanoseconds per event of the proved engine beside the plain one, on a mixed and a deep run at T 8, L 256, whose writes are of words, on
-   a mixed one where half of them are of bytes, and on one of many begins with half of the dependence list kept for each party; then microseconds for the
+   a mixed one where half of them are of bytes, and on one of many begins with half of each channel kept for each party; then microseconds for the
    largest image (32 regions, 256 log entries): the image call, one judgement, a whole recovery.
    Each time is the best of five runs over the same input; both must give the same bytes. */
 #define _POSIX_C_SOURCE 199309L

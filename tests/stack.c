@@ -11,7 +11,7 @@
 
 enum { STACK_BYTES = 8 << 20, PAINT = 0xC7, EVENTS = 20000 };
 
-static const uint8_t memory[PLAIN_LINES * PLAIN_LINE_BYTES], shares[PLAIN_SHARES] = {0, 1, 0, 1, 0, 1, 0, 1, 16, 16};
+static const uint8_t memory[PLAIN_LINES * PLAIN_LINE_BYTES], shares[PLAIN_SHARES] = {0, 1, 0, 1, 0, 1, 0, 1, 8, 8};
 static uint8_t file[(EVENTS + 1) * PLAIN_RECORD_BYTES], answers[EVENTS * PLAIN_ANSWER_BYTES], image[PLAIN_IMAGE_BYTES];
 static size_t file_len, image_len;
 static volatile uint64_t answered; /* so that no call is left out */

@@ -1,5 +1,5 @@
-/* The cases P1 to P11 of document 01, the 33rd logged line, counting, fences inside a region, writes of bytes, spent numbers, parties and reserves, and
-   the calls' own refusals. */
+/* The cases P1 to P11 of document 01, the 33rd logged line, counting, fences inside a region, writes of bytes, spent numbers, parties and reserves,
+   channels, and the calls' own refusals. */
 #include <stdio.h>
 #include <string.h>
 
@@ -385,19 +385,22 @@ static void no_mask(void) {
     run();
 }
 
-/* All entries but one are kept for a party without threads, so that at the last begin 16 fits as well; 14 comes first. */
+/* All entries of a channel but one are kept for a party without threads, so that at the last begins 16 fits as well; 14 comes first. */
 static void numbers_spent(void) {
     static plain_engine e;
     plain_init(&e);
-    plain_event(&e, (uint8_t[PLAIN_RECORD_BYTES]){EVENT_SETUP, 2, 1, [13] = 31}, PLAIN_RECORD_BYTES);
+    plain_event(&e, (uint8_t[PLAIN_RECORD_BYTES]){EVENT_SETUP, 2, 1, [13] = 15}, PLAIN_RECORD_BYTES);
     for (int i = 0; i < PLAIN_NUMBERS; i++) {
         plain_answer opened = plain_event(&e, (uint8_t[]){EVENT_BEGIN, 0}, 2);
         plain_answer ended = plain_event(&e, (uint8_t[]){EVENT_END, 0}, 2);
         if (opened.refusal != 0 || ended.value != 1) check(0, "numbers spent", "region", (unsigned)i);
     }
     check(plain_event(&e, (uint8_t[]){EVENT_BEGIN, 0}, 2).refusal == 14, "numbers spent", "next begin", 14);
-    check(plain_event(&e, (uint8_t[]){EVENT_BEGIN, 1}, 2).refusal == 0, "numbers spent", "another thread's begin", 0);
-    check(plain_event(&e, (uint8_t[]){EVENT_BEGIN, 0}, 2).refusal == 14, "numbers spent", "before 16", 14);
+    for (unsigned number = 1; number <= 2; number++) { /* in either channel */
+        check(plain_event(&e, (uint8_t[]){EVENT_BEGIN, 1}, 2).refusal == 0, "numbers spent", "another thread's begin", number);
+        check(plain_event(&e, (uint8_t[]){EVENT_BEGIN, 0}, 2).refusal == 14, "numbers spent", "before 16", 14);
+        check(plain_event(&e, (uint8_t[]){EVENT_END, 1}, 2).value == 1, "numbers spent", "another thread's end", number);
+    }
 }
 
 /* A record of this kind whose body is zeros, cut short at every length; whole, it is a setup with T 0 or stands before setup. */
@@ -439,7 +442,7 @@ static void hold(uint8_t t, uint8_t line, int regions) {
 
 /* Each cause of 24 at its edge, where no other refusal fits; a refused setup does not stand, leaves no share, and the next is judged afresh. */
 static void wrong_shares(void) {
-    static const uint8_t above[][2] = {{33, 0}, {0, 33}, {17, 16}, {1, 32}, {255, 1}, {128, 128}, {200, 100}, {255, 255}};
+    static const uint8_t above[][2] = {{17, 0}, {0, 17}, {9, 8}, {1, 16}, {16, 16}, {0, 32}, {33, 0}, {255, 1}, {128, 128}, {200, 100}, {255, 255}};
     start_case("24", 2);
     for (int t = 0; t < PLAIN_THREADS; t++) {
         setup_shares(3, 2, only(t, 2), 0, 0, 24);
@@ -448,12 +451,12 @@ static void wrong_shares(void) {
     }
     for (size_t i = 0; i < sizeof above / sizeof above[0]; i++) setup_shares(3, 2, 1, above[i][0], above[i][1], 24);
     begin(0, 6, 0);
-    setup_shares(3, 2, only(2, 1), 0, 32, 0);
+    setup_shares(3, 2, only(2, 1), 0, 16, 0);
     setup_shares(3, 2, only(0, 1), 0, 0, 6);
     begin(0, 16, 0);
     begin(1, 16, 0);
     begin(2, 0, 0);
-    setup_shares(3, 2, only(3, 1), 16, 17, 6);
+    setup_shares(3, 2, only(3, 1), 8, 9, 6);
     cut(0, 1);
     setup_shares(3, 2, 2, 0, 0, 6);
     run();
@@ -465,29 +468,29 @@ static void six_before_24(void) {
     setup_shares(0, 1, only(0, 1), 0, 0, 6);
     setup_shares(9, 1, only(7, 2), 0, 0, 6);
     setup_shares(1, 0, 2, 0, 0, 6);
-    setup_shares(1, 257, 0, 33, 0, 6);
-    setup_shares(1, 1, 0, 33, 0, 24);
+    setup_shares(1, 257, 0, 17, 0, 6);
+    setup_shares(1, 1, 0, 17, 0, 24);
     setup_shares(1, 1, 0, 0, 0, 0);
-    setup_shares(1, 1, 0, 33, 0, 6);
+    setup_shares(1, 1, 0, 17, 0, 6);
     run();
 }
 
-/* Parties and reserves that are accepted: of each thread, of all, and 32 entries kept. */
+/* Parties and reserves that are accepted: of each thread, of all, and 16 entries of each channel kept. */
 static void right_shares(void) {
     for (int t = 0; t < PLAIN_THREADS; t++) {
         start_case("party 1 of the last thread", 1);
-        setup_shares((uint8_t)(t + 1), 1, only(t, 1), 32, 0, 0);
+        setup_shares((uint8_t)(t + 1), 1, only(t, 1), 16, 0, 0);
         run();
     }
     start_case("party 1 of all", 1);
-    setup_shares(8, 1, UINT64_C(0x0101010101010101), 0, 32, 0);
+    setup_shares(8, 1, UINT64_C(0x0101010101010101), 0, 16, 0);
     run();
 }
 
-/* Thread 0 is of party 0 and thread 1 of party 1, for which 30 entries are kept: thread 0 gets two, and thread 1 all of its own. */
+/* Thread 0 is of party 0 and thread 1 of party 1, for which 15 entries of each channel are kept: thread 0 gets one of each, and thread 1 all of its own. */
 static void kept_entries(void) {
     start_case("kept entries", 2);
-    setup_shares(2, 2, only(1, 1), 0, 30, 0);
+    setup_shares(2, 2, only(1, 1), 0, 15, 0);
     hold(0, 0, 2);
     begin(0, 16, 0);
     hold(1, 1, 1);
@@ -501,7 +504,7 @@ static void kept_entries(void) {
     begin(0, 16, 0);
     log_ack(0, 0, 0);
     data_ack(0, 0, 2);
-    begin(0, 0, 0); /* the commit of thread 0's two freed both entries, and none is lacking */
+    begin(0, 0, 0); /* the commit of thread 0's two freed an entry of each channel, and none is lacking */
     end(0, 0, 1);
     hold(0, 0, 2);
     begin(1, 16, 0);
@@ -509,35 +512,41 @@ static void kept_entries(void) {
     run();
 }
 
-/* Two threads of each party, and three entries kept for party 0, which may hold more: then nothing is lacking, and the list is full at 32. */
+/* Two threads of each party, and three entries of each channel kept for party 0, which may hold more: then nothing is lacking, and a channel is full at 16. */
 static void used_up(void) {
     start_case("a reserve used up", 4);
     setup_shares(4, 4, only(0, 1) | only(2, 1), 3, 0, 0);
     begin(1, 0, 0);
     write_word(1, 1, 0, 7, 0);
-    hold(0, 0, 20);
-    hold(2, 2, 9);
-    begin(0, 16, 0); /* 30 are held, and two of three are lacking: an open region counts */
+    hold(0, 0, 18);
+    hold(2, 2, 8);
+    begin(0, 16, 0); /* 14 of channel 1 are held, and two of three are lacking: an open region counts */
     begin(2, 16, 0);
     end(1, 0, 0);
-    hold(3, 3, 2);
-    begin(1, 16, 0); /* full */
-    begin(0, 16, 0);
+    hold(3, 3, 3);
+    begin(0, 16, 0); /* channel 1 is full; the numbers 2 of thread 1 and 4 of thread 3 fill channel 0 */
+    begin(1, 0, 0);
+    end(1, 0, 0);
+    begin(1, 16, 0);
+    begin(3, 0, 0);
+    end(3, 0, 0);
     log_ack(0, 0, 0);
-    data_ack(0, 0, 20);
+    data_ack(0, 0, 18);
     for (int i = 0; i < 3; i++) { /* beyond the reserve, as long as entries are free */
         begin(1, 0, 0);
         end(1, 0, 0);
     }
-    hold(0, 0, 17);
-    begin(0, 16, 0); /* 32 are held: 26 of party 1 and six of party 0 */
+    hold(0, 0, 14);
+    begin(0, 16, 0); /* 16 of channel 1 are held: 11 by party 1 and five by party 0 */
     begin(3, 16, 0);
+    begin(1, 0, 0); /* the last of channel 0 */
+    cut(0, 32);
     run();
 }
 
-/* With both reserves 0 the list is full at 32, whatever the parties are; a nested begin needs no entry. */
-static void full_list(uint64_t parties) {
-    start_case("full list", 8);
+/* With both reserves 0 a channel is full at 16, whatever the parties are; a nested begin needs no entry. */
+static void full_channels(uint64_t parties) {
+    start_case("both channels full", 8);
     setup_shares(8, 8, parties, 0, 0, 0);
     for (uint8_t t = 0; t < PLAIN_THREADS; t++) hold(t, t, t < 7 ? 4 : 3);
     begin(7, 0, 0);
@@ -551,10 +560,56 @@ static void full_list(uint64_t parties) {
     run();
 }
 
-/* All 32 entries kept for a party without threads: no region ever begins. */
+/* Thread 0 holds 31 regions from number 1 or 2 on, 16 in the first one's channel and 15 in the other. Of threads 1 and 2, whose next numbers are 1 and 2,
+   one finds its channel full, and the other takes the last entry. */
+static void full_channel(uint8_t from) {
+    uint8_t refused = from, other = (uint8_t)(3 - from);
+    start_case("one channel full", 1);
+    setup_shares(3, 1, 0, 0, 0, 0);
+    begin(2, 0, 0);
+    end(2, 0, 1);
+    if (from == 2) {
+        begin(0, 0, 0);
+        end(0, 0, 1);
+    }
+    hold(0, 0, 31);
+    begin(refused, 16, 0);
+    begin(other, 0, 0);
+    begin(other, 0, 0); /* nested */
+    begin(0, 16, 0);
+    begin(refused, 16, 0);
+    end(other, 0, 0);
+    end(other, 0, 1);
+    begin(other, 16, 0); /* its next number falls into the full channel */
+    begin(0, 0, 0);
+    cut(0, 32);
+    run();
+}
+
+/* What a party holds in one channel takes nothing from what it lacks in the other: threads 2 and 3 have 15 entries of each. */
+static void lack_by_channel(void) {
+    start_case("lack by channel", 1);
+    setup_shares(4, 1, only(2, 1) | only(3, 1), 0, 15, 0);
+    begin(2, 0, 0);
+    end(2, 0, 1);
+    begin(2, 0, 0); /* number 2, channel 0 */
+    begin(0, 0, 0);
+    begin(1, 16, 0); /* 14 would stay free in channel 1, and 15 are lacking */
+    begin(3, 0, 0);
+    begin(1, 16, 0); /* 13, and 14 */
+    end(0, 0, 1);
+    begin(0, 0, 0); /* 14 stay free in channel 0, and 14 are lacking */
+    begin(1, 0, 0);
+    end(1, 0, 1);
+    begin(1, 16, 0);
+    cut(0, 3);
+    run();
+}
+
+/* All entries kept for a party without threads: no region ever begins. */
 static void nobody(void) {
     start_case("kept for nobody", 1);
-    setup_shares(1, 1, 0, 0, 32, 0);
+    setup_shares(1, 1, 0, 0, 16, 0);
     for (int i = 0; i < 3; i++) {
         begin(0, 16, 0);
         end(0, 12, 0);
@@ -566,7 +621,7 @@ static void nobody(void) {
     save(70);
     recover(0, 0, 0, 0);
     start_case("kept for nobody, all but one", 1);
-    setup_shares(1, 1, 0, 0, 31, 0);
+    setup_shares(1, 1, 0, 0, 15, 0);
     begin(0, 0, 0);
     begin(0, 0, 0); /* nested */
     end(0, 0, 0);
@@ -578,7 +633,7 @@ static void nobody(void) {
 /* A thread with four regions in its modified list meets 15 before 16. */
 static void fifteen_first(void) {
     start_case("15 before 16", 5);
-    setup_shares(2, 5, only(1, 1), 0, 28, 0);
+    setup_shares(2, 5, only(1, 1), 0, 14, 0);
     for (uint8_t l = 0; l < 4; l++) hold(0, l, 1);
     begin(0, 15, 0);
     hold(1, 4, 1);
@@ -591,9 +646,9 @@ static void fifteen_first(void) {
 /* Regions of both parties, of which recovery takes back what had not committed; the image has nothing of parties and reserves. */
 static void both_recovered(void) {
     start_case("both parties recovered", 2);
-    setup_shares(2, 2, only(1, 1), 1, 31, 0);
+    setup_shares(3, 2, only(1, 1), 1, 15, 0);
     hold(0, 0, 1);
-    begin(0, 16, 0);
+    begin(2, 16, 0);
     log_ack(0, 0, 0);
     data_ack(0, 0, 1);
     begin(1, 0, 0);
@@ -637,7 +692,7 @@ static void start(uint64_t threads, uint64_t lines, const uint8_t *shares, size_
 }
 
 static void starts(void) {
-    static const uint8_t none[PLAIN_SHARES + 1], right[PLAIN_SHARES + 1] = {0, 1, [8] = 16, 16, 7}, wrong[PLAIN_SHARES + 1] = {0, 0, 1};
+    static const uint8_t none[PLAIN_SHARES + 1], right[PLAIN_SHARES + 1] = {0, 1, [8] = 8, 8, 7}, wrong[PLAIN_SHARES + 1] = {0, 0, 1};
     start(8, 256, none, 10, sizeof memory, 0);
     start(9, 256, none, 10, sizeof memory, 6);
     start(UINT64_C(1) << 32 | 1, 1, none, 10, 64, 6);
@@ -676,8 +731,11 @@ int main(void) {
     right_shares();
     kept_entries();
     used_up();
-    full_list(0);
-    full_list(UINT64_C(0x0100010100000100));
+    full_channels(0);
+    full_channels(UINT64_C(0x0100010100000100));
+    full_channel(1);
+    full_channel(2);
+    lack_by_channel();
     nobody();
     fifteen_first();
     both_recovered();

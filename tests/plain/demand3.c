@@ -1,6 +1,6 @@
 /* Demand 3 tried on the plain engine: seeded event lists, a cut after any event, recovery steps with cuts between.
-   What must be found is worked out of the list of accepted events and the set of committed regions. So is what a party holds: below its reserve it never
-   meets 16. */
+   What must be found is worked out of the list of accepted events and the set of committed regions. So is what a party holds in a channel: below its
+   reserve it never meets 16 at a begin whose number falls there. */
 #include <stdio.h>
 #include <stdlib.h>
 #include <string.h>
@@ -113,25 +113,35 @@ static int others_committed(uint8_t thread) {
     return 1;
 }
 
-/* ---- Reserves ---- */
+/* ---- Channels and reserves ---- */
 
-/* The regions of the party's threads that were opened and have not committed. */
-static int held_by(uint8_t party) {
+/* The regions of the party's threads that were opened and have not committed, of those whose number is odd (channel 1) or even (channel 0). */
+static int held_by(uint8_t party, int channel) {
     int held = 0;
-    for (int i = 0; i < history.regions; i++) held += !history.region[i].committed && history.shares[history.region[i].region.thread] == party;
+    for (int i = 0; i < history.regions; i++) {
+        plain_region r = history.region[i].region;
+        held += !history.region[i].committed && history.shares[r.thread] == party && (r.number & 1) == channel;
+    }
     return held;
+}
+
+/* The channel of the number that the thread's next begin opens. */
+static int next_channel(uint8_t thread) {
+    int newest = history.newest[thread];
+    return newest < 0 || (history.region[newest].region.number & 1) == 0;
 }
 
 static int larger(int a, int b) { return a > b ? a : b; }
 
-/* Below its reserve a party never meets 16; the entries held or kept for one party and the other have room in the list. */
-static void check_reserves(const plain_engine *e) {
+/* The entries of the channel that are held or kept for one party and the other have room in it; a party that has fewer there than its reserve never meets
+   16 at a begin whose number falls there. */
+static void check_channel(const plain_engine *e, int channel) {
     const uint8_t *reserve = history.shares + PLAIN_THREADS;
-    int held[PLAIN_PARTIES] = {held_by(0), held_by(1)};
-    require(larger(held[0], reserve[0]) + larger(held[1], reserve[1]) <= PLAIN_LISTED, "the entries held and kept");
+    int held[PLAIN_PARTIES] = {held_by(0, channel), held_by(1, channel)};
+    require(larger(held[0], reserve[0]) + larger(held[1], reserve[1]) <= PLAIN_CHANNEL, "the entries held and kept");
     for (uint8_t t = 0; t < e->threads; t++) {
         uint8_t party = history.shares[t];
-        if (history.depth[t] == 0 && held[party] < reserve[party])
+        if (history.depth[t] == 0 && next_channel(t) == channel && held[party] < reserve[party])
             require(plain_refusal(e, (uint8_t[]){EVENT_BEGIN, t}, 2) != 16, "16 below the reserve");
     }
 }
@@ -176,8 +186,10 @@ static void check_tables(const plain_engine *e) {
         for (int i = 0; i < PLAIN_MODIFIED; i++)
             if (e->modified[t][i].number != 0)
                 check_slots(e, (plain_region){t, e->modified[t][i].number}, &e->modified[t][i], flights);
-    for (uint32_t i = 0; i < e->listed_len; i++)
+    for (uint32_t i = 0; i < e->listed_len; i++) {
         require(!e->listed[i].done || e->listed[i].held > 0, "a region that may commit");
+        require(e->listed[i].channel == (e->listed[i].region.number & 1), "a region in the other channel");
+    }
     check_lines(e, flights);
 }
 
@@ -255,7 +267,7 @@ static void try_event(plain_engine *e, const uint8_t *record, size_t length) {
     note_commits(e, record, answer);
     if (record[0] == EVENT_FENCE) require(answer.value == (uint64_t)others_committed(record[1]), "value of the fence");
     check_tables(e);
-    check_reserves(e);
+    for (int channel = 0; channel < PLAIN_CHANNELS; channel++) check_channel(e, channel);
 }
 
 /* A record that follows the engine, or one with any fields near the board's; now and then cut short or unknown. */

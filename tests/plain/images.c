@@ -124,11 +124,27 @@ static void try_lengths(void) {
     expect(7, "byte after the end, before 8", 0);
 }
 
+/* Entries of so many consecutive numbers of a thread, each with its predecessor. */
+static void put_run(uint8_t thread, uint8_t first, uint8_t count) {
+    put_entry(thread, first, 0, 0, 0);
+    for (uint8_t i = 1; i < count; i++) put_entry(thread, (uint8_t)(first + i), 0, thread, (uint8_t)(first + i - 1));
+}
+
+/* An image has no channels: 20 entries of one parity, that of the first numbers, and 12 of the other are accepted. */
+static void try_parities(void) {
+    for (uint8_t first = 1; first <= 2; first++) {
+        put_head(PLAIN_THREADS, 1);
+        for (uint8_t t = 0; t < PLAIN_THREADS; t++) put_run(t, first, t < 4 ? 5 : 3);
+        put(IMAGE_END);
+        expect(0, "entries of one parity, from number", first);
+    }
+}
+
 /* 32 entries of kind 34 and 32 log entries of a thread are accepted, the 33rd is 7. */
 static void try_counts(void) {
     for (uint8_t entries = 32; entries <= 33; entries++) {
         put_head(1, 1);
-        for (uint8_t i = 1; i <= entries; i++) put_entry(0, i, 0, 0, (uint8_t)(i - 1));
+        put_run(0, 1, entries);
         put(IMAGE_END);
         expect(entries == 32 ? 0 : 7, "dependence entries", entries);
         put_head(1, 33);
@@ -205,6 +221,7 @@ int main(void) {
     try_edits();
     try_lengths();
     try_counts();
+    try_parities();
     try_walk();
     for (uint64_t seed = 1; seed <= 10000; seed++) try_damaged(seed);
     printf("%u passed, %u failed\n", passed, failed);

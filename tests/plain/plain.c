@@ -22,10 +22,14 @@ static int is_open(const plain_engine *e, plain_region r) {
     return r.number != 0 && e->depth[r.thread] > 0 && e->last[r.thread] == r.number;
 }
 
-/* Index of the region in the dependence list, or -1: a region is uncommitted while it is listed. */
+/* The channel in which the entry of a region with this number lives. */
+static uint8_t channel_of(uint32_t number) { return number % PLAIN_CHANNELS; }
+
+/* Index of the region in the dependence list, searched in its channel, or -1: a region is uncommitted while it is listed. */
 static int find_listed(const plain_engine *e, plain_region r) {
+    uint8_t channel = channel_of(r.number);
     for (uint32_t i = 0; i < e->listed_len; i++)
-        if (same(e->listed[i].region, r)) return (int)i;
+        if (e->listed[i].channel == channel && same(e->listed[i].region, r)) return (int)i;
     return -1;
 }
 
@@ -75,11 +79,11 @@ static plain_modified *modified_of(plain_engine *e, plain_region r) {
 
 /* ---- Refusals ---- */
 
-/* A party that there is not, also of a thread that there is not, or more entries kept than the list has. */
+/* A party that there is not, also of a thread that there is not, or more entries kept in each channel than it has. */
 static int shares_wrong(uint64_t threads, const uint8_t *shares) {
     for (uint64_t t = 0; t < PLAIN_THREADS; t++)
         if (shares[t] >= (t < threads ? PLAIN_PARTIES : 1)) return 1;
-    return PLAIN_LISTED - shares[PLAIN_THREADS] - shares[PLAIN_THREADS + 1] < 0;
+    return PLAIN_CHANNEL - shares[PLAIN_THREADS] - shares[PLAIN_THREADS + 1] < 0;
 }
 
 static uint8_t setup_refusal(const plain_engine *e, uint64_t threads, uint64_t lines, const uint8_t *shares) {
@@ -132,11 +136,16 @@ static uint8_t input_refusal(const plain_engine *e, const event *ev) {
     return ev->kind == EVENT_WRITE && ev->stored == 0 ? 27 : 0;
 }
 
-/* The entries of the dependence list that stay free behind one more of the party, less what the other party may still claim; below 0 there is no room.
-   Each entry of the other party takes one from its claim, until nothing of its reserve is left. */
-static int room_behind(const plain_engine *e, uint8_t party) {
-    int left = PLAIN_LISTED - 1 - (int)e->listed_len, claim = e->reserve[!party];
-    for (uint32_t i = 0; i < e->listed_len && claim > 0; i++) claim -= e->party[e->listed[i].region.thread] != party;
+/* In the channel of the thread's next number, the entries that stay free behind one more, less what the other party may still claim there; below 0 there is
+   no room. Each entry of the other party in this channel takes one from its claim, until nothing of its reserve is left. */
+static int room_behind(const plain_engine *e, uint8_t thread) {
+    uint8_t party = e->party[thread], channel = channel_of(e->last[thread] + 1u);
+    int left = PLAIN_CHANNEL - 1, claim = e->reserve[!party];
+    for (uint32_t i = 0; i < e->listed_len; i++) {
+        if (e->listed[i].channel != channel) continue;
+        left--;
+        claim -= claim > 0 && e->party[e->listed[i].region.thread] != party;
+    }
     return left - claim;
 }
 
@@ -145,7 +154,7 @@ static uint8_t begin_refusal(const plain_engine *e, uint8_t thread) {
     if (e->depth[thread] > 0) return 0;
     if (e->last[thread] == PLAIN_NUMBERS) return 14;
     if (find_modified(e, thread, 0) < 0) return 15;
-    return room_behind(e, e->party[thread]) < 0 ? 16 : 0;
+    return room_behind(e, thread) < 0 ? 16 : 0;
 }
 
 /* Refusals of a read or a write. */
@@ -246,6 +255,7 @@ static uint64_t apply_begin(plain_engine *e, uint8_t thread) {
     memset(entry, 0, sizeof *entry);
     m->number = ++e->last[thread];
     entry->region = newest(e, thread);
+    entry->channel = channel_of(entry->region.number);
     if (uncommitted) add_dependence(entry, predecessor);
     return 0;
 }

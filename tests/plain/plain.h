@@ -14,12 +14,14 @@ enum {
     PLAIN_MODIFIED = 4,    /* regions in a thread's modified list */
     PLAIN_SLOTS = 8,       /* line slots of a region */
     PLAIN_HELD = 4,        /* dependences of a region */
-    PLAIN_LISTED = 32,     /* entries of the dependence list */
+    PLAIN_CHANNELS = 2,    /* channels of the dependence list */
+    PLAIN_CHANNEL = 16,    /* entries of a channel */
+    PLAIN_LISTED = PLAIN_CHANNELS * PLAIN_CHANNEL, /* entries of the dependence list */
     PLAIN_LOG = 32,        /* log entries of a thread */
     PLAIN_DEPTH = 15,      /* nesting depth */
     PLAIN_NUMBERS = 65535, /* region numbers of a thread */
     PLAIN_COUNT = 4,       /* count at which a waiting slot may fly */
-    PLAIN_PARTIES = 2,     /* parties that share the dependence list */
+    PLAIN_PARTIES = 2,     /* parties that share each channel */
     PLAIN_SHARES = PLAIN_THREADS + PLAIN_PARTIES, /* bytes of a setup behind L: the party of each thread, the reserve of each party */
     PLAIN_ANSWER_BYTES = 9,
     PLAIN_WRITE_RECORD = 12, /* the record of a write of a word */
@@ -46,10 +48,10 @@ typedef struct { uint8_t line, state, count; } plain_slot;
 /* An entry of the modified list; number 0 is a free one. */
 typedef struct { uint16_t number; uint8_t ended; plain_slot slot[PLAIN_SLOTS]; } plain_modified;
 
-/* An entry of the dependence list; its dependences rise by thread, then number. */
+/* An entry of the dependence list, in the channel of its region's number; its dependences rise by thread, then number. */
 typedef struct {
     plain_region region;
-    uint8_t done;
+    uint8_t channel, done;
     uint64_t end_stamp;
     uint32_t held;
     plain_region dependence[PLAIN_HELD];

@@ -36,13 +36,13 @@ uint8_t random_mask(random_source *source) {
     return (uint8_t)random_next(source);
 }
 
-/* Reserves of at most 32 together: in half of the draws one party has most of the list, in a quarter they are at an edge. */
+/* Reserves of at most 16 together: in half of the draws one party has most of each channel, in a quarter they are at an edge. */
 static void random_reserves(random_source *source, uint8_t reserve[PLAIN_PARTIES]) {
-    static const uint8_t edges[][PLAIN_PARTIES] = {{32, 0}, {0, 32}, {16, 16}, {31, 1}, {0, 1}, {31, 0}};
+    static const uint8_t edges[][PLAIN_PARTIES] = {{16, 0}, {0, 16}, {8, 8}, {15, 1}, {0, 1}, {15, 0}};
     uint64_t kind = random_below(source, 4), first = random_below(source, 2);
-    uint64_t larger = kind < 2 ? PLAIN_LISTED - random_below(source, 9) : random_below(source, PLAIN_LISTED + 1);
+    uint64_t larger = kind < 2 ? PLAIN_CHANNEL - random_below(source, 5) : random_below(source, PLAIN_CHANNEL + 1);
     reserve[first] = (uint8_t)larger;
-    reserve[!first] = (uint8_t)random_below(source, PLAIN_LISTED - larger + 1);
+    reserve[!first] = (uint8_t)random_below(source, PLAIN_CHANNEL - larger + 1);
     if (kind == 2) memcpy(reserve, edges[random_below(source, sizeof edges / sizeof edges[0])], PLAIN_PARTIES);
 }
 
@@ -56,7 +56,7 @@ void random_shares(random_source *source, uint8_t threads, uint8_t shares[PLAIN_
 }
 
 void random_wrong_shares(random_source *source, uint8_t threads, uint8_t shares[PLAIN_SHARES]) {
-    static const uint8_t above[][PLAIN_PARTIES] = {{33, 0}, {0, 33}, {17, 16}, {1, 32}, {200, 100}, {128, 128}, {255, 255}, {255, 2}};
+    static const uint8_t above[][PLAIN_PARTIES] = {{17, 0}, {0, 17}, {9, 8}, {1, 16}, {16, 16}, {0, 33}, {200, 100}, {255, 2}};
     random_shares(source, threads, shares);
     switch (random_below(source, threads < PLAIN_THREADS ? 3 : 2)) {
     case 0: shares[random_below(source, PLAIN_THREADS)] = (uint8_t)(random_chance(source, 2) ? 2 : 2 + random_below(source, 254)); break;
@@ -77,10 +77,11 @@ static const uint8_t mixed_weight[] = {6, 9, 6, 20, 16, 14, 1};
 static const uint8_t filling_weight[] = {20, 24, 14, 36, 30, 2, 1};
 static const uint8_t draining_weight[] = {4, 8, 3, 8, 16, 12, 1};
 static const uint8_t nesting_weight[] = {24, 1, 10, 40, 40, 40, 1};
+static const uint8_t listing_weight[] = {40, 70, 12, 5, 1, 0, 1};
 static const uint8_t reserves_weight[] = {30, 90, 4, 12, 5, 3, 1};
 
 static const uint8_t *weights_of(const random_events *events) {
-    static const uint8_t *const phase_weight[] = {filling_weight, draining_weight, nesting_weight};
+    static const uint8_t *const phase_weight[] = {filling_weight, draining_weight, nesting_weight, listing_weight};
     if (events->mode == RANDOM_DEEP || events->mode == RANDOM_DEEP_WORDS) return phase_weight[events->phase];
     return events->mode == RANDOM_RESERVES ? reserves_weight : mixed_weight;
 }
@@ -156,18 +157,20 @@ static void damage_record(random_source *source, const plain_engine *e, uint8_t 
     record[at] = random_chance(source, 2) ? (uint8_t)(record[at] + 1) : (uint8_t)random_next(source);
 }
 
-/* Filling and draining take turns; now and then, after a draining, regions stay open and nest. */
+/* Filling and draining take turns; now and then, after a draining, regions stay open and nest, or short regions that do not commit fill the channels.
+   The deep run of words has no such listing. */
 static void move_phase(random_events *events) {
-    static const uint32_t longest[] = {500, 120, 800};
+    static const uint32_t longest[] = {500, 120, 800, 800};
     if (events->phase_left-- > 0) return;
     if (events->phase != PHASE_DRAINING) events->phase = PHASE_DRAINING;
+    else if (events->mode == RANDOM_DEEP && random_chance(&events->source, 3)) events->phase = PHASE_LISTING;
     else events->phase = random_chance(&events->source, 6) ? PHASE_NESTING : PHASE_FILLING;
     events->phase_left = longest[events->phase] / 4 + (uint32_t)random_below(&events->source, longest[events->phase] * 3 / 4);
 }
 
 size_t random_record(random_events *events, const plain_engine *e, uint8_t record[PLAIN_RECORD_BYTES]) {
     random_source *source = &events->source;
-    int tries = random_chance(source, 32) ? 1 : 24;
+    int tries = random_chance(source, events->phase == PHASE_LISTING ? 2 : 32) ? 1 : 24; /* full channels are to be met often */
     move_phase(events);
     for (; tries > 0; tries--) {
         fill_record(source, e, random_kind(events), record);
@@ -198,7 +201,7 @@ static void shares_of_mode(random_events *events, uint8_t threads, uint8_t share
     if (events->mode <= RANDOM_DAMAGED) random_shares(&events->source, threads, shares);
     if (events->mode != RANDOM_RESERVES) return;
     for (uint8_t t = 0; t < threads; t++) shares[t] = t % PLAIN_PARTIES;
-    shares[PLAIN_THREADS] = shares[PLAIN_THREADS + 1] = PLAIN_LISTED / PLAIN_PARTIES;
+    shares[PLAIN_THREADS] = shares[PLAIN_THREADS + 1] = PLAIN_CHANNEL / PLAIN_PARTIES;
 }
 
 /* Setups that are refused, in front of a damaged file: none to three. Gives how many. */

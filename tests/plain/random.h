@@ -17,22 +17,22 @@ uint8_t random_unknown_kind(random_source *source);
 /* The mask of a write of bytes: none, one, all or any of the bits. */
 uint8_t random_mask(random_source *source);
 
-/* Parties and reserves that setup accepts with so many threads: often all zeros, often with most of the list or the whole of it kept for one party.
+/* Parties and reserves that setup accepts with so many threads: often all zeros, often with most of each channel or the whole of it kept for one party.
    Wrong ones are the same with a cause of 24. */
 void random_shares(random_source *source, uint8_t threads, uint8_t shares[PLAIN_SHARES]);
 void random_wrong_shares(random_source *source, uint8_t threads, uint8_t shares[PLAIN_SHARES]);
 
 /* mixed: events of every kind, tables about half full.
-   deep: phases of filling, draining and nesting, lists near or at their limits.
+   deep: phases of filling, draining, nesting and listing, lists and channels near or at their limits.
    damaged: mixed, with setups refused in front, records of any content, bytes flipped, and an end cut short or of unknown kind.
    In these half of the writes are of bytes, and setup has random parties and reserves.
-   mixed words, deep words, mixed bytes: the same with every write of a word, or half of them of bytes, and zeros for parties and reserves.
-   reserves: most events begin or end, writes are of words, the parties of the threads alternate, and half of the list is kept for each. */
+   mixed words, deep words, mixed bytes: the same with every write of a word, or half of them of bytes, zeros for parties and reserves, and no listing.
+   reserves: most events begin or end, writes are of words, the parties of the threads alternate, and half of each channel is kept for each. */
 typedef enum {
     RANDOM_MIXED, RANDOM_DEEP, RANDOM_DAMAGED, RANDOM_MIXED_WORDS, RANDOM_DEEP_WORDS, RANDOM_MIXED_BYTES, RANDOM_RESERVES
 } random_mode;
 
-enum { PHASE_FILLING, PHASE_DRAINING, PHASE_NESTING }; /* of a deep run */
+enum { PHASE_FILLING, PHASE_DRAINING, PHASE_NESTING, PHASE_LISTING }; /* of a deep run */
 
 typedef struct {
     random_source source;

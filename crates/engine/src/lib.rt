@@ -17,7 +17,7 @@ ghost use mathlib.Core.Path.{_≡_};
 ghost use mathlib.Core.Bool.{true};
 ghost use lib.ListN.{set};
 ghost use Rattle.measures.specs.Loan.{was};
-ghost use Rattle.rules.specs.Tables.{noRegion, withDeps, withKey};
+ghost use Rattle.rules.specs.Tables.{channelOf, noRegion, numberOf, withChannel, withDeps, withKey};
 ghost use Rattle.rules.specs.Begin.{begin, opened};
 ghost use Rattle.rules.specs.Refusal.{refusal};
 ghost use Rattle.rules.specs.Step.{apply, did, fence, step, stepEvent};
@@ -30,12 +30,13 @@ ghost use Rattle.engine.specs.Parts.{Deepens, OnBoard, OnDataAcked, OnNu
 
 // ---- begin
 
-// Region k as it begins, with the dependence d on its predecessor.
+// Region k as it begins, in the channel of its number and with the dependence d on its predecessor.
 fn begun(k: u32, d: u32) -> Region
-    ensures { λ r. ⌜ r ≡ withDeps (set (noRegion .deps) 0 d) (withKey k noRegion) ⌝ }
+    ensures { λ r. ⌜ r ≡ withDeps (set (noRegion .deps) 0 d) (withChannel (channelOf (numberOf k)) (withKey k noRegion)) ⌝ }
 {
     let mut r = rows::no_region();
     r.key = k;
+    r.channel = lookup::channel_of(k % NUMBERS);
     r.deps = [d, 0, 0, 0];
     r
 }
@@ -48,7 +49,7 @@ fn open(threads: &mut Threads, regions: &mut Regions, t: u8)
     let n = tables::last_of(threads, t);
     let p = tables::current(threads, t);
     let d = tables::uncommitted(regions, p);
-    let i = tables::place_of(regions, 0);
+    let i = tables::free_place(regions);
     let r = begun(NUMBERS * (t as u32) + (n as u32 + 1), d);
     tables::put(regions, i, r);
     tables::set_thread(threads, t, 1, n + 1);

@@ -9,12 +9,12 @@ use native.Mathlib.Nat.{zero-add}
 use native.Mathlib.Omega.{arith}
 use borrow.Author.Tests.{eqb-false, eqb-true, not-true}
 use Rattle.laws.proofs.Opened.{Once, more, nothing}
-use Rattle.rules.proofs.Places.{Unique, listed-at, listed-key, unique-commit, unique-mapped}
+use Rattle.rules.proofs.Places.{Unique, key-of, listed-at, listed-key, placed-at, unique-commit, unique-mapped}
 use Rattle.rules.proofs.Lists.{count-map}
 use Rattle.rules.proofs.Sim.Done.{ready}
 use Rattle.rules.specs.Commit.{Settled, afterCommit, before, commit, commits, doneRegion, earliest, settle, settled}
 use Rattle.rules.specs.Lists.{count, place}
-use Rattle.rules.specs.Tables.{isHeld, isKey, listed, noRegion, withRegions}
+use Rattle.rules.specs.Tables.{isHeld, isKey, isPlaced, listed, noRegion, withRegions}
 use Rattle.rules.specs.declared.Region.{Region}
 use Rattle.rules.specs.declared.Tables.{Tables}
 use Rattle.undo.proofs.Laws.{is-same, or-right, test}
@@ -93,10 +93,12 @@ module _ (rs : List Region) (un : Unique rs) where
       (λ z. rw z (count-never (λ r. isHeld r && isKey y r) rs (λ r. test (eqb (r .key) y)
       (λ e. rw (eqb-true (r .key) y e, z))
       (λ e. rw e (test (isHeld r) (λ h. rw h) (λ h. rw h))))))
-      (λ z. rw z (count-same (λ r. isHeld r && isKey y r) (isKey y) rs (λ r. test (eqb (r .key) y)
+      (λ z. rw z (count-at (λ r. isHeld r && isKey y r) (isPlaced y) rs noRegion (λ i l. let r = getD rs i noRegion in
+      (test (isKey y r)
       (λ e. rw (e, eqb-true (r .key) y e, z))
       (λ e. rw e (test (isHeld r) (λ h. rw h) (λ h. rw h))))
-      ∙ count-only (isKey y) rs noRegion (λ i k e. let q : getD rs i noRegion .key ≡ y = eqb-true (getD rs i noRegion .key) y e in
+      ∙ sym (placed-at y i rs un z))
+      ∙ count-only (isPlaced y) rs noRegion (λ i k e. let q : getD rs i noRegion .key ≡ y = key-of y (getD rs i noRegion) e in
       rw (← q) (un i (λ w. eqb-false y 0 z (sym q ∙ w))))))
 
   pub listed-in : {ys : List ℕ} → Once ys → count (λ k. listed k rs) ys ≡ count (λ r. isHeld r && isIn (r .key) ys) rs
@@ -122,7 +124,7 @@ module _ (rs : List Region) (un : Unique rs) where
       count-at isHeld (λ r. isHeld r && isIn (r .key) ys) rs noRegion
       (λ i h. test (isHeld (getD rs i noRegion))
       (λ e. let n = eqb-false (getD rs i noRegion .key) 0 (not-true (eqb (getD rs i noRegion .key) 0) e) in
-      rw (e, sub (getD rs i noRegion .key) (listed-at i rs n h)))
+      rw (e, sub (getD rs i noRegion .key) (listed-at i rs un n h)))
       (λ e. rw e))
       ∙ sym (listed-in o)
 
@@ -163,5 +165,5 @@ settle-held (suc n) ts un = go (commits (earliest (ts .regions))) refl (settle-h
 pub settled-held : (ts : Tables) → Unique (ts .regions) → length (settled ts .keys) + count isHeld (settled ts .tables .regions) ≡ count isHeld (ts .regions)
 unfolding settled doneRegion
 settled-held ts un =
-    settle-held (length (ts .regions)) (withRegions (map doneRegion (ts .regions)) ts) (unique-mapped doneRegion (ts .regions) refl (λ r. refl) un)
+    settle-held (length (ts .regions)) (withRegions (map doneRegion (ts .regions)) ts) (unique-mapped doneRegion (ts .regions) refl (λ r. (refl, refl)) un)
     ∙ count-map isHeld isHeld doneRegion (ts .regions) (λ r. refl)

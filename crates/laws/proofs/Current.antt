@@ -45,14 +45,14 @@ pub current-memory : (m : Memory) (rs : List (List ℕ)) → isByteMemory m ≡ 
 unfolding fresh writesIn allApplied
 current-memory m rs bm = along m (λ b es n. Told (startLines m) b es) (λ b es n e r k h. told-after (startLines m) b es e h) refl rs bm
 
--- the value of an accepted event
+-- the value of an accepted event, and the board behind it
 pub value-is : (b : Board) (r : List ℕ) (e : Event) → readRecord r ≡ Whole e → step b r .answer .refusal ≡ 0
-    → (step b r .answer .value ≡ apply b e .value) × (refusal (b .tables) e ≡ 0)
+    → (step b r .answer .value ≡ apply b e .value) × (refusal (b .tables) e ≡ 0) × (step b r .board ≡ apply b e .board)
 unfolding step stepEvent stepBy
 value-is b r e q z = rw q (go (refusal (b .tables) e) (rw q at z))
   where
-    go : (c : ℕ) → stepBy c b e .answer .refusal ≡ 0 → (stepBy c b e .answer .value ≡ apply b e .value) × (c ≡ 0)
-    go zero z = (refl, refl)
+    go : (c : ℕ) → stepBy c b e .answer .refusal ≡ 0 → (stepBy c b e .answer .value ≡ apply b e .value) × (c ≡ 0) × (stepBy c b e .board ≡ apply b e .board)
+    go zero z = (refl, refl, refl)
     go (suc c) z = absurd (omega arith)
 
 pub read-gives : ReadGives

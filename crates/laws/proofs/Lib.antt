@@ -10,6 +10,7 @@ pub mod Counts
 pub mod Values
 pub mod Shares
 pub mod Reserves
+pub mod Channels
 pub mod Answers
 pub mod Circles
 pub mod Whole

@@ -23,7 +23,7 @@ use Rattle.rules.specs.Kinds.{kindAt}
 use Rattle.rules.specs.Lists.{all, count}
 use Rattle.rules.specs.Record.{eventOf, readRecord, sharesAt}
 use Rattle.rules.specs.Refusal.{depthOf, fits, inRange, isNoParty, isOfParty, isSetUp, isUnfit, otherParty, partyOf, refusal, refuse, reserveOf, testsOf}
-use Rattle.rules.specs.Tables.{Board, isHeld, noShares, ownerOf, withTables}
+use Rattle.rules.specs.Tables.{Board, channelOf, inChannel, noShares, ownerOf, threadAt, withTables}
 use Rattle.rules.specs.declared.Event.{Event}
 use Rattle.rules.specs.declared.Event.the-variants.{Begin, Cut, DataAck, End, Fence, LogAck, Read, Setup, Write}
 use Rattle.rules.specs.declared.Reading.the-variants.{Refused, Whole}
@@ -68,7 +68,7 @@ setup-read =
 module _ (n : ℕ) (s : Shares) where
   pub is-fit : isUnfit n s ≡ false → Fit n s
   is-fit e =
-      let z = or-false (any (isNoParty n s) wordPlaces) (ltb 32 (reserveOf 0 s + reserveOf 1 s)) e in
+      let z = or-false (any (isNoParty n s) wordPlaces) (ltb 16 (reserveOf 0 s + reserveOf 1 s)) e in
       let good : (t : ℕ) → t < 8 → isNoParty n s t ≡ false = λ t h. rw (eight (λ x. x) t h) at (any-none (isNoParty n s) wordPlaces t 0 (z .0) h) in
       let two : (t : ℕ) → t < 8 → (ltb 1 (partyOf t s) ≡ false) × (leb n t && not (eqb (partyOf t s) 0) ≡ false)
       = λ t h. or-false (ltb 1 (partyOf t s)) (leb n t && not (eqb (partyOf t s) 0)) (good t h) in
@@ -76,12 +76,12 @@ module _ (n : ℕ) (s : Shares) where
         low = λ t h. ltb-false 1 (partyOf t s) (two t h .0);
         absent = λ t h l. eqb-true (partyOf t s) 0
             (test (eqb (partyOf t s) 0) (λ d. d) (λ d. let y : true ≡ false = rw (le-leb n t l, d) at (two t h .1) in absurd (true≢false y)));
-        room = ltb-false 32 (reserveOf 0 s + reserveOf 1 s) (z .1);
+        room = ltb-false 16 (reserveOf 0 s + reserveOf 1 s) (z .1);
       }
 
   not-unfit : Fit n s → isUnfit n s ≡ false
   not-unfit f =
-      rw (none-any (isNoParty n s) wordPlaces 0 (λ t h. rw (eight (λ x. x) t h) (good t h))) (le-ltb 32 (reserveOf 0 s + reserveOf 1 s) (f .room))
+      rw (none-any (isNoParty n s) wordPlaces 0 (λ t h. rw (eight (λ x. x) t h) (good t h))) (le-ltb 16 (reserveOf 0 s + reserveOf 1 s) (f .room))
     where
       good : (t : ℕ) → t < 8 → isNoParty n s t ≡ false
       good t h =
@@ -116,20 +116,21 @@ shares-tested = record { fit = λ ts n l s. fit-refusal n s ts l; unfit = λ ts 
 
 -- ---- without reserves
 
-nothing-kept : (p h n r : ℕ) → r ≡ 0 → ltb 32 (h + 1 + (byteOf p r - n)) ≡ leb 32 h
+nothing-kept : (p h n r : ℕ) → r ≡ 0 → ltb 16 (h + 1 + (byteOf p r - n)) ≡ leb 16 h
 nothing-kept p h n r z =
     rw (z, zero-byte p)
-    (test (leb 32 h)
-    (λ e. let l = leb-true 32 h e in rw e (lt-ltb 32 (h + 1 + (0 - n)) (omega arith)))
-    (λ e. let l = leb-false 32 h e in rw e (le-ltb 32 (h + 1 + (0 - n)) (omega arith))))
+    (test (leb 16 h)
+    (λ e. let l = leb-true 16 h e in rw e (lt-ltb 16 (h + 1 + (0 - n)) (omega arith)))
+    (λ e. let l = leb-false 16 h e in rw e (le-ltb 16 (h + 1 + (0 - n)) (omega arith))))
 
 begins-as-before : (ts : Tables) (t : ℕ) → ts .size .shares .reserves ≡ 0 → testsOf ts (Begin t) ≡ beginTests ts t
 unfolding testsOf
 begins-as-before ts t z =
     let s = ts .size .shares in
     let o = otherParty (partyOf t s) in
+    let c = channelOf (threadAt t ts .last + 1) in
     ap (λ x. take 6 (testsOf ts (Begin t)) ++ (refuse 16 (eqb (depthOf t ts) 0 && x) ∷ []))
-    (nothing-kept o (count isHeld (ts .regions)) (count (isOfParty s o) (ts .regions)) (s .reserves) z)
+    (nothing-kept o (count (inChannel c) (ts .regions)) (count (isOfParty s c o) (ts .regions)) (s .reserves) z)
 
 others-as-before : (ts : Tables) (e : Event) (s : Shares) → isBegin e ≡ false → testsOf (withShares s ts) e ≡ testsOf ts e
 unfolding testsOf ownerOf

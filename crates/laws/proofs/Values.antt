@@ -18,11 +18,11 @@ use Rattle.laws.specs.Words.{isOtherIn, openRegionIn, opensIn, othersOf,
 use Rattle.rules.proofs.Commits.{CommitsTold, commits-told}
 use Rattle.rules.proofs.Recover.Expected.{committed-done, committed-ended}
 use Rattle.rules.proofs.Lists.{any-at, count-put, count-room, place-lt, place-true}
-use Rattle.rules.proofs.Places.{key-at, listed-at, listed-key, place-listed}
+use Rattle.rules.proofs.Places.{key-at, listed-at, listed-key, place-listed, room-left}
 use Rattle.rules.proofs.Sim.State.{Kept, Sim, Simulated, by}
 use Rattle.rules.proofs.Sim.Ack.{log-ack}
 use Rattle.rules.proofs.Sim.All.{every}
-use Rattle.rules.proofs.Tests.{begin-room}
+use Rattle.rules.proofs.Tests.{channel-room}
 use Rattle.rules.proofs.Sim.Commit.{unique-regions}
 use Rattle.rules.proofs.Sim.Data.{lands}
 use Rattle.rules.proofs.Sim.End.{ends-region}
@@ -36,29 +36,32 @@ use Rattle.rules.specs.Lists.{all, count, place}
 use Rattle.rules.specs.Refusal.{depthOf, isOfThread, refusal, testsOf}
 use Rattle.rules.specs.Run.{run}
 use Rattle.rules.specs.Step.{apply, fence, isOther, openRegion, settledBoard, setup}
-use Rattle.rules.specs.Tables.{Board, Memory, current, fresh, isHeld, isKey, keyOf, lineOf, listed, noRegion, placeOf, regionAt, startLines, threadAt, threadOf, withTables}
+use Rattle.rules.specs.Tables.{Board, Memory, current, freePlace, fresh, isHeld, isKey, keyOf, lineOf, listed, noRegion, placeOf, regionAt, startLines, threadAt, threadOf, withTables}
 use Rattle.rules.specs.declared.Event.{Event}
 use Rattle.rules.specs.declared.Event.the-variants.{Begin, Cut, DataAck, End, Fence, LogAck, Read, Setup, Write}
 use Rattle.rules.specs.declared.Region.{Region}
 use Rattle.undo.proofs.Laws.{and-true, is-same, never, or-right, test}
 use Rattle.undo.specs.Claim.{Reach}
 use Rattle.undo.specs.Table.{any, isIn, keep}
-use Rattle.rules.proofs.Keys.{boardKeys, data-keys, end-keys, held-keys, log-keys, read-keys, write-keys}
+use Rattle.rules.proofs.Keys.{boardNames, data-names, end-names, held-keys, keys-named, log-names, read-names, write-names}
 
 abbrev held : Board → ℕ
 held b = count isHeld (b .tables .regions)
 
 -- ---- what an event does to the number of places that are held
 
-same-held : (b b′ : Board) → boardKeys b′ ≡ boardKeys b → held b′ ≡ held b
-same-held b b′ e = held-keys (b′ .tables .regions) ∙ ap (count (λ x. not (eqb x 0))) e ∙ sym (held-keys (b .tables .regions))
+same-held : (b b′ : Board) → boardNames b′ ≡ boardNames b → held b′ ≡ held b
+same-held b b′ e =
+    held-keys (b′ .tables .regions)
+    ∙ ap (count (λ x. not (eqb x 0))) (keys-named (b′ .tables .regions) (b .tables .regions) e)
+    ∙ sym (held-keys (b .tables .regions))
 
 -- a begin at depth 0 takes one
 open-held : (t : ℕ) (b : Board) → count isHeld (b .tables .regions) < length (b .tables .regions) → count isHeld (opened t (b .tables) .regions) ≡ suc (held b)
 unfolding opened
 open-held t b h =
     let room : any (isKey 0) (b .tables .regions) ≡ true = count-room isHeld (isKey 0) (b .tables .regions) (λ r e. not-false (eqb (r .key) 0) e) h in
-    count-put isHeld (b .tables .regions) (placeOf 0 (b .tables .regions)) _ noRegion (place-lt (isKey 0) (b .tables .regions) room)
+    count-put isHeld (b .tables .regions) (freePlace (b .tables .regions)) _ noRegion (place-lt (isKey 0) (b .tables .regions) room)
     (rw (ne-eqb (keyOf t (threadAt t (b .tables) .last + 1)) 0 (λ z. omega arith)))
     (rw (place-true (isKey 0) (b .tables .regions) noRegion room))
 
@@ -67,7 +70,7 @@ open-held t b h =
 abbrev Balance : Board → List Account → ℕ → Type 0
 Balance b es n = n + held b ≡ length (opensIn es)
 
-balance-settled : {m : Memory} (b b′ : Board) (es es′ : List Account) (n : ℕ) → Simulated m b′ es′ → boardKeys b′ ≡ boardKeys b → Balance b es n
+balance-settled : {m : Memory} (b b′ : Board) (es es′ : List Account) (n : ℕ) → Simulated m b′ es′ → boardNames b′ ≡ boardNames b → Balance b es n
     → Balance (settledBoard b′ .board) es (n + settledBoard b′ .value)
 unfolding settledBoard
 balance-settled b b′ es es′ n s e p = let z = settled-held (b′ .tables) (unique-regions s) in let y = same-held b b′ e in omega arith
@@ -81,7 +84,7 @@ balance-begin t m b es n r k p = go (k .simulated)
     go (by s h rc i) =
         rw (← i .told .depth t)
         (test (eqb (depthOf t (b .tables)) 0)
-        (λ d. let full : held b < 32 = begin-room (b .tables) t r d in
+        (λ d. let full : held b < 32 = room-left (b .tables .regions) (i .shape .regions) (threadAt t (b .tables) .last + 1) (channel-room (b .tables) t r d) in
         let z = open-held t b (rw (i .shape .regions .count) full) in
         rw (d, z) (omega arith))
         (λ d. rw d (omega arith)))
@@ -93,13 +96,13 @@ balance m b es n (Setup c l s) r k p = omega arith
 balance m b es n (Begin t) r k p = balance-begin t m b es n r k p
 balance m b es n (End t) r k p =
     test (eqb (depthOf t (b .tables)) 1)
-    (λ d. rw d (balance-settled b (endRegion t b) es (Closes t ∷ es) n (ends-region t m b es r d k .0) (end-keys t b) p))
+    (λ d. rw d (balance-settled b (endRegion t b) es (Closes t ∷ es) n (ends-region t m b es r d k .0) (end-names t b) p))
     (λ d. rw d (omega arith))
 balance m b es n (Read t l w) r k p =
-    let z = same-held b (withTables (read (current t (b .tables)) l (b .tables)) b) (read-keys (current t (b .tables)) l (b .tables)) in omega arith
-balance m b es n (Write t l w mask v) r k p = let z = same-held b (write t l (storedIn w mask v) b) (write-keys t l (storedIn w mask v) b) in omega arith
-balance m b es n (LogAck l) r k p = balance-settled b (logAck l b) es (Nothing ∷ es) n (log-ack l m b es r k .0) (log-keys l b) p
-balance m b es n (DataAck l) r k p = balance-settled b (dataAck l b) es (Nothing ∷ es) n (lands l m b es r k .0) (data-keys l b) p
+    let z = same-held b (withTables (read (current t (b .tables)) l (b .tables)) b) (read-names (current t (b .tables)) l (b .tables)) in omega arith
+balance m b es n (Write t l w mask v) r k p = let z = same-held b (write t l (storedIn w mask v) b) (write-names t l (storedIn w mask v) b) in omega arith
+balance m b es n (LogAck l) r k p = balance-settled b (logAck l b) es (Nothing ∷ es) n (log-ack l m b es r k .0) (log-names l b) p
+balance m b es n (DataAck l) r k p = balance-settled b (dataAck l b) es (Nothing ∷ es) n (lands l m b es r k .0) (data-names l b) p
 balance m b es n (Fence t) r k p = omega arith
 balance m b es n Cut r k p = omega arith
 
@@ -170,7 +173,7 @@ module _ (m : Memory) (rs : List (List ℕ)) (told : CommitsTold m rs) {s : u.St
       let y = and-true (isOfThread t r) (not (isKey o r)) (place-true (isOther t o) (boardAfter m rs .tables .regions) noRegion a) in
       let z = and-true (isHeld r) (eqb (threadOf (r .key)) t) (y .0) in
       let li : listed (r .key) (boardAfter m rs .tables .regions) ≡ true
-      = listed-at j (boardAfter m rs .tables .regions) (eqb-false (r .key) 0 (not-true (eqb (r .key) 0) (z .0)))
+      = listed-at j (boardAfter m rs .tables .regions) (i .shape .regions .unique) (eqb-false (r .key) 0 (not-true (eqb (r .key) 0) (z .0)))
       (place-lt (isOther t o) (boardAfter m rs .tables .regions) a) in
       let op = in-list (r .key) li in
       let nc : committed m rs (r .key) ≡ false = not-true (committed m rs (r .key)) (uncommitted (r .key) op ∙ li) in

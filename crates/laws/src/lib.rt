@@ -4,6 +4,7 @@ ghost use Rattle.laws.specs.Bench.{BenchRecovers};
 ghost use Rattle.laws.specs.Causes.{CausesMatter};
 ghost use Rattle.laws.specs.Images.{FinishedLast, RecoveryAnswers, WalkWhole};
 ghost use Rattle.laws.specs.Laws.{CommitsAddUp, CommittedEnded, CutCounts, FenceOutside, FenceTells, NothingLeft, OneFlight, ReadGives};
+ghost use Rattle.laws.specs.Channels.{TwoChannels};
 ghost use Rattle.laws.specs.Reserves.{NoReserves, Reserved, SetupRead, SharesTested};
 ghost use Rattle.laws.specs.Stores.{MaskTested, StoresBytes, WholeWord, WritesRead};
 
@@ -72,15 +73,22 @@ pub fn shares_are_tested()
     ensures { λ r. ⌜ SharesTested ⌝ }
 {}
 
-// With reserves 0 a begin has the tests of document 01; the tests of other events and the image do not look at parties and reserves that stand.
+// With reserves 0 a begin has the tests of document 01, the last of them for its channel; the tests of other events and the image do not look at parties and
+// reserves that stand.
 pub fn no_reserves_change_nothing()
     ensures { λ r. ⌜ NoReserves ⌝ }
 {}
 
-// A party below its reserve never meets 16, whatever the other did; 16 comes only where no entry is free that is not kept for the other party, and there no
-// begin opens a region.
+// A party below its reserve in a channel never meets 16 at a begin whose number falls there, whatever the other did; 16 comes only where no entry of the
+// channel is free that is not kept for the other party, and there no begin opens a region.
 pub fn reserves_hold()
     ensures { λ r. ⌜ Reserved ⌝ }
+{}
+
+// Every region listed is in the channel of its number, at most 16 in each; a lookup by the channel finds what a search of both would find; a begin that is
+// accepted has a free place; a cut counts both channels, and no byte of an image is of a channel.
+pub fn channels_are_kept()
+    ensures { λ r. ⌜ TwoChannels ⌝ }
 {}
 
 // The committed regions are the ended ones that are listed no more.

@@ -1,8 +1,8 @@
 // Small tests and searches in a region, by value. Each function's contract is one term of the definitions of `rules`, on every value; where a search
 // finds nothing, its place is the length of the list. The bounds that callers need are laws about these terms, in proofs/.
 use measures::MOST_DEPS;
+use measures::MOST_IN_CHANNEL;
 use measures::MOST_LINES;
-use measures::MOST_REGIONS;
 use measures::MOST_SLOTS;
 use measures::MOST_THREADS;
 use rules::Found;
@@ -12,7 +12,7 @@ use rules::SlotState;
 ghost use mathlib.Core.Path.{_≡_};
 ghost use lib.Dec.{eqb};
 ghost use Rattle.rules.specs.Lists.{place};
-ghost use Rattle.rules.specs.Tables.{noSlot, withLine, withState};
+ghost use Rattle.rules.specs.Tables.{channelOf, noSlot, withLine, withState};
 ghost use Rattle.rules.specs.Slots.{carries, isEmpty, names, orAt, slotFor};
 ghost use Rattle.rules.specs.Access.{isHad, joined, wordPlaces};
 ghost use Rattle.rules.specs.Bytes.{byteOf};
@@ -93,7 +93,16 @@ pub fn is_unfit(n: u8, s: Shares) -> bool
     if has_no_party(n, s) {
         return true;
     }
-    MOST_REGIONS < (reserve_of(s, 0) as usize) + (reserve_of(s, 1) as usize)
+    MOST_IN_CHANNEL < (reserve_of(s, 0) as usize) + (reserve_of(s, 1) as usize)
+}
+
+// ---- channels
+
+// The channel of a region's number.
+pub fn channel_of(n: u32) -> u8
+    ensures { λ r. ⌜ r ≡ channelOf n ⌝ }
+{
+    (n % 2) as u8
 }
 
 // ---- dependences

@@ -35,12 +35,15 @@ pub const MOST_DEPS: usize = 4;
 // "Dependence list: 32 entries shared by all threads"
 pub const MOST_REGIONS: usize = 32;
 
+// Request 8: "16 entries each", of two channels.
+pub const MOST_IN_CHANNEL: usize = 16;
+
 // "A waiting slot flies when its line is unlocked and its count is 4"
 pub const RIPE_COUNT: u8 = 4;
 
 // ---- what is lent
 
-// A region as a row of numbers: key, ended, done, stamp, its dependences, its slots from SLOTS_AT on.
+// A region as a row of numbers: key, channel and ended in one, done, stamp, its dependences, its slots from SLOTS_AT on.
 pub const SLOTS_AT: usize = 4 + MOST_DEPS;
 
 pub const REGION_NUMBERS: usize = SLOTS_AT + MOST_SLOTS;

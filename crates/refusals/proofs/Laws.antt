@@ -12,7 +12,7 @@ use Rattle.undo.specs.Table.{any}
 use Rattle.rules.specs.Access.{dependence, needsLog}
 use Rattle.rules.specs.Refusal.{isForeignOpen, noRoomForDep}
 use Rattle.rules.specs.Slots.{isFull, slotFor}
-use Rattle.rules.specs.Tables.{current, isKey, keyOf, listed, noRegion, noThread, ownerOf, placeOf, regionAt, threadAt, threadOf}
+use Rattle.rules.specs.Tables.{current, isPlaced, keyOf, listed, noRegion, noThread, ownerOf, placeOf, regionAt, threadAt, threadOf}
 use Rattle.rules.specs.declared.Region.{Region}
 use Rattle.rules.specs.declared.Tables.{Tables}
 use Rattle.rows.specs.Row.{threadOf as threadIn, threadsOf}
@@ -84,10 +84,10 @@ module _ (o k : ℕ) (rs : List Region) where
   unfolding writerOf
   writer-own e = test (listed o rs) (λ a. rw (a, eq-eqb o k e)) writer-unlisted
 
-  pub writer-other : eqb o 0 ≡ false → eqb o k ≡ false → any (isKey o) rs ≡ true → _≡_ {A = Writer} (record { key = o; ended = regionAt o rs .ended }) (writerOf o k rs)
+  pub writer-other : eqb o 0 ≡ false → eqb o k ≡ false → any (isPlaced o) rs ≡ true → _≡_ {A = Writer} (record { key = o; ended = regionAt o rs .ended }) (writerOf o k rs)
   unfolding writerOf
   writer-other z n a = simp (z, a, n)
 
 -- what a reserve lacks is at most the reserve
-pub kept-small : (held reserve n : ℕ) → held + 1 + reserve ≤ 32 → false ≡ ltb 32 (held + 1 + (reserve - n))
-kept-small held reserve n h = sym (le-ltb 32 (held + 1 + (reserve - n)) (omega arith))
+pub kept-small : (held reserve n : ℕ) → held + 1 + reserve ≤ 16 → false ≡ ltb 16 (held + 1 + (reserve - n))
+kept-small held reserve n h = sym (le-ltb 16 (held + 1 + (reserve - n)) (omega arith))

@@ -6,6 +6,7 @@ use measures::LINE_WORDS;
 use measures::Locks;
 use measures::MOST_DEPTH;
 use measures::MOST_ENTRIES;
+use measures::MOST_IN_CHANNEL;
 use measures::MOST_MODIFIED;
 use measures::MOST_NUMBER;
 use measures::MOST_REGIONS;
@@ -27,7 +28,7 @@ ghost use lib.Dec.{eqb, leb};
 ghost use Rattle.measures.specs.Loan.{was};
 ghost use Rattle.undo.specs.Table.{any};
 ghost use Rattle.rules.specs.Access.{isOf};
-ghost use Rattle.rules.specs.Refusal.{firstBad, fits, inRange, noRoomFor, otherParty, refusal, testsOf};
+ghost use Rattle.rules.specs.Refusal.{firstBad, fits, inRange, noRoomFor, noRoomIn, otherParty, refusal, testsOf};
 ghost use Rattle.rules.specs.declared.Tables.{Tables};
 ghost use Rattle.rules.specs.declared.Event.the-variants.{Begin, Cut, DataAck, End, LogAck, Read, Setup, Write};
 ghost use Rattle.rows.specs.Row.{regionsOf, threadOf};
@@ -122,19 +123,28 @@ fn lack_of(reserve: u8, held: u8) -> u8
     if held < reserve { reserve - held } else { 0 }
 }
 
-// A region of thread t would leave fewer free entries than the other party's reserve still lacks, which is at most that reserve.
-fn no_room_for(h: Head, regions: &Regions, t: u8) -> bool
-    ensures { λ r. ⌜ ByRegions (noRoomFor t) h regions r ⌝ }
+// An entry of party p in channel c would leave fewer free entries there than the other party's reserve still lacks, which is at most that reserve.
+fn no_room_in(h: Head, regions: &Regions, c: u8, p: u8) -> bool
+    ensures { λ r. ⌜ ByRegions (noRoomIn c p) h regions r ⌝ }
 {
     let z = h.size;
-    let other = other_party(lookup::party_of(z.shares, t as u32));
+    let other = other_party(p);
     let reserve = lookup::reserve_of(z.shares, other);
-    let taken = tables::count_held(regions) as usize + 1;
-    if taken + reserve as usize <= MOST_REGIONS {
+    let taken = tables::count_channel(regions, c) as usize + 1;
+    if taken + reserve as usize <= MOST_IN_CHANNEL {
         return false;
     }
-    let held = tables::count_party(regions, z.shares, other);
-    MOST_REGIONS < taken + lack_of(reserve, held) as usize
+    let held = tables::count_party(regions, z.shares, c, other);
+    MOST_IN_CHANNEL < taken + lack_of(reserve, held) as usize
+}
+
+// The channel is that of the number which a begin of thread t would open.
+fn no_room_for(h: Head, threads: &Threads, regions: &Regions, t: u8) -> bool
+    ensures { λ r. ⌜ ByRows (noRoomFor t) h threads regions r ⌝ }
+{
+    let z = h.size;
+    let c = lookup::channel_of(tables::last_of(threads, t) as u32 + 1);
+    no_room_in(h, regions, c, lookup::party_of(z.shares, t as u32))
 }
 
 // A write that needs a log entry, on a line still locked.
@@ -260,7 +270,11 @@ fn begin_refusal(h: Head, threads: &Threads, regions: &Regions, t: u8) -> u8
     if MOST_MODIFIED <= tables::count_modified(regions, t) {
         return 15;
     }
-    if no_room_for(h, regions, t) { 16 } else { 0 }
+    if no_room_for(h, threads, regions, t) {
+        16
+    } else {
+        0
+    }
 }
 
 fn end_refusal(h: Head, threads: &Threads, t: u8) -> u8

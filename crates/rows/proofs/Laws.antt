@@ -98,6 +98,7 @@ pub whole : (r : Region) → length (r .deps) ≡ 4 → length (r .slots) ≡ 8
     → _≡_ {A = Region}
     (record {
       key = r .key;
+      channel = r .channel;
       ended = r .ended;
       done = r .done;
       stamp = r .stamp;
@@ -119,7 +120,7 @@ whole r h e = rw (four 0 (r .deps) h, eight noSlot (r .slots) e)
 -- a row whose numbers are those of the region r holds r
 pub packed : (r : Region) (w : List ℕ) → length (r .deps) ≡ 4 → length (r .slots) ≡ 8
     → word w 0 ≡ r .key
-    → eqb (word w 1) 1 ≡ r .ended
+    → (word w 1 / 2 % 256 ≡ r .channel) × (eqb (word w 1 % 2) 1 ≡ r .ended)
     → eqb (word w 2) 1 ≡ r .done
     → word w 3 ≡ r .stamp
     → word w 4 ≡ getD (r .deps) 0 0
@@ -137,7 +138,11 @@ pub packed : (r : Region) (w : List ℕ) → length (r .deps) ≡ 4 → length (
     → regionOf w ≡ r
 unfolding regionOf
 packed r w h k e0 e1 e2 e3 e4 e5 e6 e7 e8 e9 e10 e11 e12 e13 e14 e15 =
-    rw (e0, e1, e2, e3, e4, e5, e6, e7, e8, e9, e10, e11, e12, e13, e14, e15) (whole r h k)
+    rw (e0, e1 .0, e1 .1, e2, e3, e4, e5, e6, e7, e8, e9, e10, e11, e12, e13, e14, e15) (whole r h k)
+
+-- a number of a channel and whether the region has ended gives both back
+pub channel-back : (c f : ℕ) → c < 256 → f < 2 → ((2 * c + f) / 2 % 256 ≡ c) × ((2 * c + f) % 2 ≡ f)
+channel-back c f h l = (omega arith, omega arith)
 
 -- ---- a log entry
 

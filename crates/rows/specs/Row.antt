@@ -1,4 +1,4 @@
--- A region as a row of numbers: key, ended, done, stamp, four dependences, eight slots. A thread as a row: 32 log entries, depth, last number. Every row is a
+-- A region as a row of numbers: key, channel and ended in one, done, stamp, four dependences, eight slots. A thread as a row: 32 log entries, depth, last number. Every row is a
 -- region, and every row a thread.
 use Prim.Native.Nat.{_%_, _+_, _/_, ℕ}
 use mathlib.Core.Bool.{Bool, _||_, cond}
@@ -55,7 +55,16 @@ slotsOf w =
     ∷ []
 
 unfoldable pub regionOf : List ℕ → Region
-regionOf w = record { key = word w 0; ended = eqb (word w 1) 1; done = eqb (word w 2) 1; stamp = word w 3; deps = depsOf w; slots = slotsOf w }
+regionOf w =
+    record {
+      key = word w 0;
+      channel = word w 1 / 2 % 256;
+      ended = eqb (word w 1 % 2) 1;
+      done = eqb (word w 2) 1;
+      stamp = word w 3;
+      deps = depsOf w;
+      slots = slotsOf w;
+    }
 
 abbrev pub regionsOf : List (List ℕ) → List Region
 regionsOf ws = map regionOf ws

@@ -17,7 +17,7 @@ use rules::Region;
 use rules::Size;
 use rules::Slot;
 use rules::SlotState;
-ghost use Prim.Native.Nat.{_<_};
+ghost use Prim.Native.Nat.{_%_, _/_, _<_};
 ghost use mathlib.Core.Path.{_≡_};
 ghost use mathlib.Core.Bool.{_||_, cond, false};
 ghost use lib.Dec.{eqb};
@@ -154,6 +154,19 @@ fn slot_word(s: Slot) -> u32
 
 // ---- a region
 
+// The channel, and whether the region has ended, in the number of both.
+pub fn channel_in(n: u32) -> u8
+    ensures { λ c. ⌜ c ≡ n / 2 % 256 ⌝ }
+{
+    (n / 2 % 256) as u8
+}
+
+pub fn ended_in(n: u32) -> bool
+    ensures { λ b. ⌜ b ≡ eqb (n % 2) 1 ⌝ }
+{
+    n % 2 == 1
+}
+
 // The region that a row holds.
 pub fn region_of(w: RegionRow) -> Region
     ensures { λ r. ⌜ r ≡ regionOf w ⌝ }
@@ -168,7 +181,8 @@ pub fn region_of(w: RegionRow) -> Region
     let s7 = slot_of(w[15]);
     Region {
         key: w[0],
-        ended: w[1] == 1,
+        channel: channel_in(w[1]),
+        ended: ended_in(w[1]),
         done: w[2] == 1,
         stamp: w[3],
         deps: [w[4], w[5], w[6], w[7]],
@@ -188,6 +202,12 @@ fn flag(b: bool) -> u32
     ensures { λ r. ⌜ (eqb r 1 ≡ b) × (r < 2) ⌝ }
 {
     if b { 1 } else { 0 }
+}
+
+fn channel_word(c: u8, ended: bool) -> u32
+    ensures { λ r. ⌜ (r / 2 % 256 ≡ c) × (eqb (r % 2) 1 ≡ ended) ⌝ }
+{
+    2 * (c as u32) + flag(ended)
 }
 
 fn eight(s: [Slot; MOST_SLOTS])
@@ -219,7 +239,7 @@ pub fn row_of(r: Region) -> RegionRow
     let s7 = s[7];
     [
         r.key,
-        flag(r.ended),
+        channel_word(r.channel, r.ended),
         flag(r.done),
         r.stamp,
         d[0],

@@ -14,7 +14,7 @@ use Rattle.rules.proofs.Sim.Ack.{log-ack}
 use Rattle.rules.proofs.Sim.All.{step-kept}
 use Rattle.rules.proofs.Sim.Done.{ready}
 use Rattle.rules.proofs.Sim.Data.{lands}
-use Rattle.rules.proofs.Sim.Begin.{born-begun, listed-begun, newKey, unborn}
+use Rattle.rules.proofs.Sim.Begin.{born-begun, listed-begun, new-room, newKey, unborn}
 use Rattle.rules.proofs.Sim.End.{ends-region}
 use Rattle.rules.proofs.Start.{initially}
 use Rattle.rules.proofs.Views.{isOpened}
@@ -25,12 +25,11 @@ use Rattle.rules.specs.Claim.{boardAfter, isByteMemory}
 use Rattle.rules.specs.Commit.{Settled, afterCommit, before, commit, commits, doneRegion, earliest, settle, settled}
 use Rattle.rules.specs.End.{endRegion}
 use Rattle.rules.specs.History.{Account, Closes, Nothing, Opens, acceptedFrom, acceptedIn, accountOf, commitsBy, commitsFrom, commitsOf, committed, depthIn, noted, openedIn}
-use Rattle.rules.specs.Lists.{count}
 use Rattle.rules.specs.Record.{readRecord}
 use Rattle.rules.specs.Refusal.{depthOf, refusal, testsOf}
 use Rattle.rules.specs.Run.{run}
 use Rattle.rules.specs.Step.{apply, settledBoard, setup, step, stepBy, stepEvent, stepRead}
-use Rattle.rules.specs.Tables.{Board, Memory, current, fresh, isHeld, listed, numberOf, threadAt, threadOf, withRegions}
+use Rattle.rules.specs.Tables.{Board, Memory, current, fresh, listed, numberOf, threadAt, threadOf, withRegions}
 use Rattle.rules.specs.declared.Event.{Event}
 use Rattle.rules.specs.declared.Event.the-variants.{Begin, Cut, DataAck, End, Fence, LogAck, Read, Setup, Write}
 use Rattle.rules.specs.declared.Reading.{Reading}
@@ -39,8 +38,8 @@ use Rattle.rules.specs.declared.Region.{Region}
 use Rattle.rules.specs.declared.Tables.{Tables}
 use Rattle.undo.proofs.Laws.{and-true, never, or-true, test}
 use Rattle.undo.specs.Table.{isIn}
-use Rattle.rules.proofs.Tests.{begin-room, passed}
-use Rattle.rules.proofs.Keys.{boardKeys, data-keys, end-keys, listed-keys, log-keys, read-keys, write-keys}
+use Rattle.rules.proofs.Tests.{passed}
+use Rattle.rules.proofs.Keys.{boardNames, data-names, end-names, listed-names, log-names, read-names, write-names}
 
 is-in-both : (k : ℕ) (xs ys : List ℕ) → isIn k (xs ++ ys) ≡ (isIn k xs || isIn k ys)
 is-in-both k [] ys = refl
@@ -84,8 +83,8 @@ settle-takes (suc n) ts un = go (commits (earliest (ts .regions))) refl (settle-
 settled-takes : (ts : Tables) → Unique (ts .regions) → Takes (ts .regions) (settled ts)
 unfolding settled doneRegion
 settled-takes ts un k =
-    let z = settle-takes (length (ts .regions)) (withRegions (map doneRegion (ts .regions)) ts) (unique-mapped doneRegion (ts .regions) refl (λ r. refl) un) k in
-    let l : listed k (map doneRegion (ts .regions)) ≡ listed k (ts .regions) = listed-mapped doneRegion (ts .regions) refl (λ r. refl) k in
+    let z = settle-takes (length (ts .regions)) (withRegions (map doneRegion (ts .regions)) ts) (unique-mapped doneRegion (ts .regions) refl (λ r. (refl, refl)) un) k in
+    let l : listed k (map doneRegion (ts .regions)) ≡ listed k (ts .regions) = listed-mapped doneRegion (ts .regions) refl (λ r. (refl, refl)) k in
     (z .0 ∙ rw l, λ e. sym l ∙ z .1 e)
 
 -- ---- the regions that have committed
@@ -96,7 +95,7 @@ isListed k b = listed k (b .tables .regions)
 abbrev Gone : Board → List Account → List ℕ → Type 0
 Gone b es ks = (k : ℕ) → isIn k ks ≡ (isOpened es k && not (isListed k b))
 
-gone-settled : {m : Memory} (b b′ : Board) (es es′ : List Account) (ks : List ℕ) → Simulated m b′ es′ → boardKeys b′ ≡ boardKeys b
+gone-settled : {m : Memory} (b b′ : Board) (es es′ : List Account) (ks : List ℕ) → Simulated m b′ es′ → boardNames b′ ≡ boardNames b
     → ((k : ℕ) → isOpened es′ k ≡ isOpened es k) → Gone b es ks → Gone (settledBoard b′ .board) es′ (settled (b′ .tables) .keys ++ ks)
 unfolding settledBoard
 gone-settled b b′ es es′ ks (by s h rc i) same op p k =
@@ -104,7 +103,7 @@ gone-settled b b′ es es′ ks (by s h rc i) same op p k =
     rw (is-in-both k (settled (b′ .tables) .keys) ks, z .0)
     (test (isIn k (settled (b′ .tables) .keys))
     (λ e. let bo : isOpened es′ k ≡ true = sym (i .told .born k) ∙ and-true (s .born k) (not (s .done k)) (sym (i .live k) ∙ z .1 e) .0 in rw (e, bo))
-    (λ e. rw (e, listed-keys (b′ .tables .regions) (b .tables .regions) same k, op k) (p k)))
+    (λ e. rw (e, listed-names (b′ .tables .regions) (b .tables .regions) same k, op k) (p k)))
 
 gone-begin : (t : ℕ) (m : Memory) (b : Board) (es : List Account) (ks : List ℕ) → refusal (b .tables) (Begin t) ≡ 0 → Kept m b es → Gone b es ks
     → Gone (apply b (Begin t) .board) (Opens t ∷ es) ks
@@ -119,7 +118,7 @@ gone-begin t m b es ks r kept p k = go (kept .simulated)
         test (eqb (depthOf t (b .tables)) 0)
         (λ d. let d0 : depthIn t es ≡ 0 = sym (i .told .depth t) ∙ eqb-true (depthOf t (b .tables)) 0 d in
         let few : openedIn t es < 65535 = rw (i .told .last t) at (leb-false 65535 (threadAt t (b .tables) .last) (rw d at (passed (b .tables) (Begin t) r 14))) in
-        let room : count isHeld (b .tables .regions) < 32 = begin-room (b .tables) t r d in
+        let room = new-room (b .tables) t r d in
         rw (d, listed-begun rc i t lt d0 few room k, ← born-begun rc i t lt d0 few room k)
         (test (eqb k (newKey t (b .tables)))
         (λ e. let un : isOpened es k ≡ false = sym (i .told .born k) ∙ rw (eqb-true k (newKey t (b .tables)) e) (unborn rc i t lt d0 few room) in
@@ -137,17 +136,17 @@ gone-after m b es ks (Setup n l s) r kept p = p
 gone-after m b es ks (Begin t) r kept p = gone-begin t m b es ks r kept p
 gone-after m b es ks (End t) r kept p =
     test (eqb (depthOf t (b .tables)) 1)
-    (λ d. rw d (gone-settled b (endRegion t b) es (Closes t ∷ es) ks (ends-region t m b es r d kept .0) (end-keys t b) (λ k. refl) p))
+    (λ d. rw d (gone-settled b (endRegion t b) es (Closes t ∷ es) ks (ends-region t m b es r d kept .0) (end-names t b) (λ k. refl) p))
     (λ d. rw d p)
 gone-after m b es ks (Read t l w) r kept p =
     λ k. p k ∙ ap (λ x. isOpened es k && not x)
-    (sym (listed-keys (read (current t (b .tables)) l (b .tables) .regions) (b .tables .regions) (read-keys (current t (b .tables)) l (b .tables)) k))
+    (sym (listed-names (read (current t (b .tables)) l (b .tables) .regions) (b .tables .regions) (read-names (current t (b .tables)) l (b .tables)) k))
 gone-after m b es ks (Write t l w mask v) r kept p =
-    λ k. rw (listed-keys (write t l (storedIn w mask v) b .tables .regions) (b .tables .regions) (write-keys t l (storedIn w mask v) b) k) (p k)
+    λ k. rw (listed-names (write t l (storedIn w mask v) b .tables .regions) (b .tables .regions) (write-names t l (storedIn w mask v) b) k) (p k)
 gone-after m b es ks (LogAck l) r kept p =
-    gone-settled b (logAck l b) es (Nothing ∷ es) ks (log-ack l m b es r kept .0) (log-keys l b) (λ k. refl) p
+    gone-settled b (logAck l b) es (Nothing ∷ es) ks (log-ack l m b es r kept .0) (log-names l b) (λ k. refl) p
 gone-after m b es ks (DataAck l) r kept p =
-    gone-settled b (dataAck l b) es (Nothing ∷ es) ks (lands l m b es r kept .0) (data-keys l b) (λ k. refl) p
+    gone-settled b (dataAck l b) es (Nothing ∷ es) ks (lands l m b es r kept .0) (data-names l b) (λ k. refl) p
 gone-after m b es ks (Fence t) r kept p = p
 gone-after m b es ks Cut r kept p = p
 

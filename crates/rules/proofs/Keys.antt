@@ -17,7 +17,7 @@ use Rattle.rules.specs.History.{commitsOf}
 use Rattle.rules.specs.Lists.{count, place}
 use Rattle.rules.specs.Refusal.{depthOf}
 use Rattle.rules.specs.Step.{apply, settledBoard, setup}
-use Rattle.rules.specs.Tables.{Board, current, isHeld, isKey, keyOf, listed, noRegion, placeOf, threadAt, withRegions}
+use Rattle.rules.specs.Tables.{Board, channelOf, current, freePlace, isHeld, isKey, isPlaced, keyOf, listed, noRegion, numberOf, placeOf, threadAt, withRegions}
 use Rattle.rules.specs.declared.Event.{Event}
 use Rattle.rules.specs.declared.Event.the-variants.{Begin, Cut, DataAck, End, Fence, LogAck, Read, Setup, Write}
 use Rattle.rules.specs.declared.Region.{Region}
@@ -31,13 +31,33 @@ keysIn rs = map (λ r. r .key) rs
 abbrev pub boardKeys : Board → List ℕ
 boardKeys b = keysIn (b .tables .regions)
 
--- ---- what the keys say
+-- a region's name in a lookup: its key and its channel
+abbrev pub nameOf : Region → ℕ × ℕ
+nameOf r = (r .key, r .channel)
 
-pub listed-keys : (rs rs′ : List Region) → keysIn rs ≡ keysIn rs′ → (k : ℕ) → listed k rs ≡ listed k rs′
-listed-keys rs rs′ e k = ap (λ x. not (eqb k 0) && x) (by-keys rs ∙ ap (any (λ x. eqb x k)) e ∙ sym (by-keys rs′))
+abbrev pub namesIn : List Region → List (ℕ × ℕ)
+namesIn rs = map nameOf rs
+
+abbrev pub boardNames : Board → List (ℕ × ℕ)
+boardNames b = namesIn (b .tables .regions)
+
+-- ---- what the names and keys say
+
+pub listed-names : (rs rs′ : List Region) → namesIn rs ≡ namesIn rs′ → (k : ℕ) → listed k rs ≡ listed k rs′
+listed-names rs rs′ e k = ap (λ x. not (eqb k 0) && x) (by-names rs ∙ ap (any names) e ∙ sym (by-names rs′))
   where
-    by-keys : (xs : List Region) → any (isKey k) xs ≡ any (λ x. eqb x k) (keysIn xs)
-    by-keys xs = sym (any-map (λ x. eqb x k) (isKey k) (λ r. r .key) xs (λ r. refl))
+    names : ℕ × ℕ → Bool
+    names x = eqb (x .0) k && eqb (x .1) (channelOf (numberOf k))
+
+    by-names : (xs : List Region) → any (isPlaced k) xs ≡ any names (namesIn xs)
+    by-names xs = sym (any-map names (isPlaced k) nameOf xs (λ r. refl))
+
+pub keys-named : (rs rs′ : List Region) → namesIn rs ≡ namesIn rs′ → keysIn rs ≡ keysIn rs′
+keys-named rs rs′ e = sym (map-both rs) ∙ ap (map (λ x. x .0)) e ∙ map-both rs′
+  where
+    map-both : (xs : List Region) → map (λ x. x .0) (namesIn xs) ≡ keysIn xs
+    map-both [] = refl
+    map-both (x ∷ xs) = ap (λ ks. x .key ∷ ks) (map-both xs)
 
 pub held-keys : (rs : List Region) → count isHeld rs ≡ count (λ x. not (eqb x 0)) (keysIn rs)
 held-keys rs = sym (count-map (λ x. not (eqb x 0)) isHeld (λ r. r .key) rs (λ r. refl))
@@ -49,10 +69,14 @@ keys-put [] i r = refl
 keys-put (x ∷ rs) zero r = refl
 keys-put (x ∷ rs) (suc i) r = ap (λ ks. x .key ∷ ks) (keys-put rs i r)
 
-keys-stored : (rs : List Region) (i : ℕ) (r : Region) → r .key ≡ getD rs i noRegion .key → keysIn (set rs i r) ≡ keysIn rs
-keys-stored [] i r e = refl
-keys-stored (x ∷ rs) zero r e = ap (λ k. k ∷ keysIn rs) e
-keys-stored (x ∷ rs) (suc i) r e = ap (λ ks. x .key ∷ ks) (keys-stored rs i r e)
+names-stored : (rs : List Region) (i : ℕ) (r : Region) → nameOf r ≡ nameOf (getD rs i noRegion) → namesIn (set rs i r) ≡ namesIn rs
+names-stored [] i r e = refl
+names-stored (x ∷ rs) zero r e = ap (λ k. k ∷ namesIn rs) e
+names-stored (x ∷ rs) (suc i) r e = ap (λ ks. nameOf x ∷ ks) (names-stored rs i r e)
+
+names-changed : (f : Region → Region) (rs : List Region) → ((r : Region) → nameOf (f r) ≡ nameOf r) → namesIn (map f rs) ≡ namesIn rs
+names-changed f [] h = refl
+names-changed f (r ∷ rs) h = rw (h r, names-changed f rs h)
 
 keys-mapped : (f : Region → Region) (g : ℕ → ℕ) (rs : List Region) → ((r : Region) → f r .key ≡ g (r .key)) → keysIn (map f rs) ≡ map g (keysIn rs)
 keys-mapped f g [] h = refl
@@ -67,38 +91,38 @@ keys-changed f rs h = keys-mapped f (λ k. k) rs h ∙ each-same (λ k. k) (keys
 
 -- ---- the rules, before what commits
 
-flown-keys : (k : ℕ) (b : Board) → boardKeys (flown k b) ≡ boardKeys b
+flown-names : (k : ℕ) (b : Board) → boardNames (flown k b) ≡ boardNames b
 unfolding flown
-flown-keys k b = keys-stored (b .tables .regions) (placeOf k (b .tables .regions)) _ refl
+flown-names k b = names-stored (b .tables .regions) (placeOf k (b .tables .regions)) _ refl
 
-pub read-keys : (k l : ℕ) (ts : Tables) → keysIn (read k l ts .regions) ≡ keysIn (ts .regions)
+pub read-names : (k l : ℕ) (ts : Tables) → namesIn (read k l ts .regions) ≡ namesIn (ts .regions)
 unfolding read
-read-keys k l ts = keys-stored (ts .regions) (placeOf k (ts .regions)) _ refl
+read-names k l ts = names-stored (ts .regions) (placeOf k (ts .regions)) _ refl
 
-pub write-keys : (t l : ℕ) (change : List ℕ → List ℕ) (b : Board) → boardKeys (write t l change b) ≡ boardKeys b
+pub write-names : (t l : ℕ) (change : List ℕ → List ℕ) (b : Board) → boardNames (write t l change b) ≡ boardNames b
 unfolding write stored logged wrote
-write-keys t l change b =
-    flown-keys (current t (b .tables)) _
+write-names t l change b =
+    flown-names (current t (b .tables)) _
     ∙ test (needsLog (current t (b .tables)) l (b .tables))
-    (λ d. rw d (keys-stored (b .tables .regions) (placeOf (current t (b .tables)) (b .tables .regions)) _ refl))
-    (λ d. rw d (keys-stored (b .tables .regions) (placeOf (current t (b .tables)) (b .tables .regions)) _ refl))
+    (λ d. rw d (names-stored (b .tables .regions) (placeOf (current t (b .tables)) (b .tables .regions)) _ refl))
+    (λ d. rw d (names-stored (b .tables .regions) (placeOf (current t (b .tables)) (b .tables .regions)) _ refl))
 
-pub end-keys : (t : ℕ) (b : Board) → boardKeys (endRegion t b) ≡ boardKeys b
+pub end-names : (t : ℕ) (b : Board) → boardNames (endRegion t b) ≡ boardNames b
 unfolding endRegion closed
-end-keys t b =
-    flown-keys (current t (b .tables)) _
-    ∙ keys-stored (b .tables .regions) (placeOf (current t (b .tables)) (b .tables .regions)) _ refl
+end-names t b =
+    flown-names (current t (b .tables)) _
+    ∙ names-stored (b .tables .regions) (placeOf (current t (b .tables)) (b .tables .regions)) _ refl
 
-pub log-keys : (l : ℕ) (b : Board) → boardKeys (logAck l b) ≡ boardKeys b
+pub log-names : (l : ℕ) (b : Board) → boardNames (logAck l b) ≡ boardNames b
 unfolding logAck unlocked dropped
-log-keys l b =
-    flown-keys (getD (b .tables .owner) l 0) _
-    ∙ keys-changed (dropped (getD (b .tables .owner) l 0) l) (b .tables .regions)
+log-names l b =
+    flown-names (getD (b .tables .owner) l 0) _
+    ∙ names-changed (dropped (getD (b .tables .owner) l 0) l) (b .tables .regions)
     (λ r. test (eqb (r .key) (getD (b .tables .owner) l 0)) (λ e. rw e) (λ e. rw e))
 
-pub data-keys : (l : ℕ) (b : Board) → boardKeys (dataAck l b) ≡ boardKeys b
+pub data-names : (l : ℕ) (b : Board) → boardNames (dataAck l b) ≡ boardNames b
 unfolding dataAck landed
-data-keys l b = keys-stored (b .tables .regions) (flightPlace l (b .tables .regions)) _ refl
+data-names l b = names-stored (b .tables .regions) (flightPlace l (b .tables .regions)) _ refl
 
 -- ---- the commits of a step
 
@@ -154,14 +178,14 @@ pub data Keys (b : Board) (e : Event) (ks : List ℕ) : Type 0 where
       → Keys b e ks
   fewer : ks ≡ map (gone (commitsOf e b)) (boardKeys b) → Keys b e ks
 
-settled-fewer : (b b′ : Board) (e : Event) → commitsOf e b ≡ settled (b′ .tables) .keys → boardKeys b′ ≡ boardKeys b → Keys b e (boardKeys (settledBoard b′ .board))
+settled-fewer : (b b′ : Board) (e : Event) → commitsOf e b ≡ settled (b′ .tables) .keys → boardNames b′ ≡ boardNames b → Keys b e (boardKeys (settledBoard b′ .board))
 unfolding settledBoard
-settled-fewer b b′ e c h = fewer (settled-keys (b′ .tables) ∙ rw (c, h))
+settled-fewer b b′ e c h = fewer (settled-keys (b′ .tables) ∙ rw (c, keys-named (b′ .tables .regions) (b .tables .regions) h))
 
 opened-keys : (t : ℕ) (ts : Tables) → keysIn (opened t ts .regions) ≡ set (keysIn (ts .regions)) (place (λ x. eqb x 0) (keysIn (ts .regions))) (keyOf t (threadAt t ts .last + 1))
 unfolding opened
 opened-keys t ts =
-    keys-put (ts .regions) (placeOf 0 (ts .regions)) _
+    keys-put (ts .regions) (freePlace (ts .regions)) _
     ∙ ap (λ i. set (keysIn (ts .regions)) i (keyOf t (threadAt t ts .last + 1))) (sym (place-map (λ x. eqb x 0) (isKey 0) (λ r. r .key) (ts .regions) (λ r. refl)))
 
 pub keys-after : (b : Board) (e : Event) → Keys b e (boardKeys (apply b e .board))
@@ -173,11 +197,11 @@ keys-after b (Begin t) =
     (λ d. rw d (same refl))
 keys-after b (End t) =
     test (eqb (depthOf t (b .tables)) 1)
-    (λ d. rw d (settled-fewer b (endRegion t b) (End t) (rw d) (end-keys t b)))
+    (λ d. rw d (settled-fewer b (endRegion t b) (End t) (rw d) (end-names t b)))
     (λ d. rw d (same refl))
-keys-after b (Read t l w) = same (read-keys (current t (b .tables)) l (b .tables))
-keys-after b (Write t l w mask v) = same (write-keys t l (storedIn w mask v) b)
-keys-after b (LogAck l) = settled-fewer b (logAck l b) (LogAck l) refl (log-keys l b)
-keys-after b (DataAck l) = settled-fewer b (dataAck l b) (DataAck l) refl (data-keys l b)
+keys-after b (Read t l w) = same (keys-named (read (current t (b .tables)) l (b .tables) .regions) (b .tables .regions) (read-names (current t (b .tables)) l (b .tables)))
+keys-after b (Write t l w mask v) = same (keys-named (write t l (storedIn w mask v) b .tables .regions) (b .tables .regions) (write-names t l (storedIn w mask v) b))
+keys-after b (LogAck l) = settled-fewer b (logAck l b) (LogAck l) refl (log-names l b)
+keys-after b (DataAck l) = settled-fewer b (dataAck l b) (DataAck l) refl (data-names l b)
 keys-after b (Fence t) = same refl
 keys-after b Cut = same refl

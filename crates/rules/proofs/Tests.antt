@@ -7,8 +7,9 @@ use lib.Dec.{eqb, ltb}
 use native.Mathlib.Omega.{arith}
 use borrow.Author.Tests.{eq-eqb, ltb-false}
 use Rattle.rules.specs.Lists.{all, count}
+use Rattle.rules.specs.Measures.{mostInChannel}
 use Rattle.rules.specs.Refusal.{Test, depthOf, firstBad, fits, inRange, isSetUp, refusal, testsOf}
-use Rattle.rules.specs.Tables.{isHeld}
+use Rattle.rules.specs.Tables.{channelOf, inChannel, threadAt}
 use Rattle.rules.specs.declared.Event.{Event}
 use Rattle.rules.specs.declared.Event.the-variants.{Begin, Cut, DataAck, End, Fence, LogAck, Read, Setup, Write}
 use Rattle.rules.specs.declared.Shares.{Shares}
@@ -62,10 +63,11 @@ setup-passed ts n l s r =
     (λ f. let z : _≡_ {A = ℕ} 6 0 = rw (a, f) at r in absurd (omega arith)))
     (λ a. let z : _≡_ {A = ℕ} 6 0 = rw a at r in absurd (omega arith))
 
--- a begin that opens a region has a free place for it, whatever is kept for the other party
-one-free : (held kept : ℕ) → ltb 32 (held + 1 + kept) ≡ false → held < 32
-one-free held kept e = let z = ltb-false 32 (held + 1 + kept) e in omega arith
+-- a begin that opens a region has a free entry for it in its channel, whatever is kept for the other party
+one-free : (held kept : ℕ) → ltb mostInChannel (held + 1 + kept) ≡ false → held < mostInChannel
+one-free held kept e = let z = ltb-false mostInChannel (held + 1 + kept) e in omega arith
 
-pub begin-room : (ts : Tables) (t : ℕ) → refusal ts (Begin t) ≡ 0 → eqb (depthOf t ts) 0 ≡ true → count isHeld (ts .regions) < 32
+pub channel-room : (ts : Tables) (t : ℕ) → refusal ts (Begin t) ≡ 0 → eqb (depthOf t ts) 0 ≡ true
+    → count (inChannel (channelOf (threadAt t ts .last + 1))) (ts .regions) < mostInChannel
 unfolding testsOf
-begin-room ts t r d = one-free (count isHeld (ts .regions)) _ (rw d at (passed ts (Begin t) r 16))
+channel-room ts t r d = one-free (count (inChannel (channelOf (threadAt t ts .last + 1))) (ts .regions)) _ (rw d at (passed ts (Begin t) r 16))

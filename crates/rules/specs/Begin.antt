@@ -4,18 +4,18 @@ use mathlib.Core.Bool.{cond}
 use mathlib.Core.List.{List}
 use lib.Dec.{eqb}
 use lib.ListN.{set}
-use Rattle.rules.specs.Tables.{current, keyOf, listed, noRegion, threadAt, withDepth, withDeps, withKey, withLast, withRegion, withThread}
+use Rattle.rules.specs.Tables.{channelOf, current, freePlace, keyOf, listed, noRegion, numberOf, threadAt, withChannel, withDepth, withDeps, withKey, withLast, withRegions, withThread}
 use Rattle.rules.specs.declared.Region.{Region}
 use Rattle.rules.specs.declared.Tables.{Tables}
 
--- region k begins; its predecessor is region p
+-- region k begins, in the channel of its number; its predecessor is region p
 abbrev pub begun : ℕ → ℕ → List Region → Region
-begun k p rs = withDeps (set (noRegion .deps) 0 (cond (listed p rs) p 0)) (withKey k noRegion)
+begun k p rs = withDeps (set (noRegion .deps) 0 (cond (listed p rs) p 0)) (withChannel (channelOf (numberOf k)) (withKey k noRegion))
 
 unfoldable pub opened : ℕ → Tables → Tables
 opened t ts =
     withThread t (withDepth 1 (withLast (threadAt t ts .last + 1) (threadAt t ts)))
-    (withRegion 0 (begun (keyOf t (threadAt t ts .last + 1)) (current t ts) (ts .regions)) ts)
+    (withRegions (set (ts .regions) (freePlace (ts .regions)) (begun (keyOf t (threadAt t ts .last + 1)) (current t ts) (ts .regions))) ts)
 
 abbrev pub deeper : ℕ → Tables → Tables
 deeper t ts = withThread t (withDepth (threadAt t ts .depth + 1) (threadAt t ts)) ts

@@ -9,7 +9,7 @@ use Rattle.rules.specs.Lists.{flat, place, rising}
 use Rattle.rules.specs.Measures.{mostDeps, mostEntries, mostThreads}
 use Rattle.rules.specs.Refusal.{isSetUp}
 use Rattle.rules.specs.Run.{Wrote, runFile, wroteInto}
-use Rattle.rules.specs.Tables.{Board, Lent, lineOf, noEntry, numberOf, regionAt, threadAt, threadOf}
+use Rattle.rules.specs.Tables.{Board, Lent, isKey, lineOf, noEntry, noRegion, numberOf, threadAt, threadOf}
 use Rattle.rules.specs.declared.Entry.{Entry}
 use Rattle.rules.specs.declared.Listed.{Listed}
 use Rattle.rules.specs.declared.Region.{Region}
@@ -53,9 +53,9 @@ withLogged es p = record { threads = p .threads; lines = p .lines; medium = p .m
 unfoldable pub savedRegion : Region → Listed
 savedRegion r = record { key = r .key; state = cond (r .done) 1 0; deps = take mostDeps (rising (r .deps) ++ replicate mostDeps 0) }
 
--- "rising by thread then number"
+-- "rising by thread then number", whatever the channel
 unfoldable pub savedRegions : List Region → List Listed
-savedRegions rs = map (λ k. savedRegion (regionAt k rs)) (rising (map (λ r. r .key) rs))
+savedRegions rs = map (λ k. savedRegion (getD rs (place (isKey k) rs) noRegion)) (rising (map (λ r. r .key) rs))
 
 -- a persistent entry's place in the order of its thread's writes: regions by number, in a region by rank; 0 for any other entry
 abbrev pub orderOf : Entry → ℕ

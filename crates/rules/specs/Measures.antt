@@ -43,6 +43,10 @@ mostDeps = 4
 abbrev pub mostRegions : ℕ
 mostRegions = 32
 
+-- request 8: "16 entries each", of two channels
+abbrev pub mostInChannel : ℕ
+mostInChannel = 16
+
 -- "A waiting slot flies when its line is unlocked and its count is 4"
 abbrev pub ripeCount : ℕ
 ripeCount = 4

@@ -7,9 +7,9 @@ use lib.Dec.{eqb, leb, ltb}
 use Rattle.rules.specs.Access.{dependence, isHad, isOf, needsLog, wordPlaces}
 use Rattle.rules.specs.Bytes.{byteOf}
 use Rattle.rules.specs.Lists.{count}
-use Rattle.rules.specs.Measures.{mostDepth, mostLines, mostModified, mostNumber, mostRegions, mostThreads}
+use Rattle.rules.specs.Measures.{mostDepth, mostInChannel, mostLines, mostModified, mostNumber, mostThreads}
 use Rattle.rules.specs.Slots.{carries, isFull, slotFor}
-use Rattle.rules.specs.Tables.{current, isHeld, locked, ownerOf, regionAt, threadAt, threadOf}
+use Rattle.rules.specs.Tables.{channelOf, current, inChannel, isHeld, locked, ownerOf, regionAt, threadAt, threadOf}
 use Rattle.rules.specs.declared.Event.{Event}
 use Rattle.rules.specs.declared.Event.the-variants.{Begin, Cut, DataAck, End, Fence, LogAck, Read, Setup, Write}
 use Rattle.rules.specs.declared.Region.{Region}
@@ -55,8 +55,9 @@ abbrev pub isNoParty : ℕ → Shares → ℕ → Bool
 isNoParty n s t = ltb 1 (partyOf t s) || (leb n t && not (eqb (partyOf t s) 0))
 
 -- "24, a party above 1 or not 0 for a thread not below T, or reserves summing above 32"
+-- request 8: "the reserves hold in each channel with sums up to 16, so 24 tests 16"
 abbrev pub isUnfit : ℕ → Shares → Bool
-isUnfit n s = any (isNoParty n s) wordPlaces || ltb mostRegions (reserveOf 0 s + reserveOf 1 s)
+isUnfit n s = any (isNoParty n s) wordPlaces || ltb mostInChannel (reserveOf 0 s + reserveOf 1 s)
 
 abbrev pub depthOf : ℕ → Tables → ℕ
 depthOf t ts = threadAt t ts .depth
@@ -71,17 +72,22 @@ isModified t r = isOfThread t r && not (r .done)
 abbrev pub otherParty : ℕ → ℕ
 otherParty p = cond (eqb p 0) 1 0
 
--- a region of a thread of the party
-abbrev pub isOfParty : Shares → ℕ → Region → Bool
-isOfParty s p r = isHeld r && eqb (partyOf (threadOf (r .key)) s) p
+-- a region of a thread of the party, with its entry in channel c
+abbrev pub isOfParty : Shares → ℕ → ℕ → Region → Bool
+isOfParty s c p r = inChannel c r && eqb (partyOf (threadOf (r .key)) s) p
 
--- what the party's reserve still lacks: nothing, where the party holds that many entries or more
-abbrev pub lack : ℕ → Tables → ℕ
-lack p ts = reserveOf p (ts .size .shares) - count (isOfParty (ts .size .shares) p) (ts .regions)
+-- what the party's reserve still lacks in channel c: nothing, where the party holds that many entries or more there
+abbrev pub lack : ℕ → ℕ → Tables → ℕ
+lack c p ts = reserveOf p (ts .size .shares) - count (isOfParty (ts .size .shares) c p) (ts .regions)
 
--- request 1: "A begin is refused with 16 when the entry would leave fewer free entries than the other party's reserve still lacks"
+-- a new entry in channel c for a thread of party p, with request 1: "A begin is refused with 16 when the entry would leave fewer free entries than the other
+-- party's reserve still lacks"
+abbrev pub noRoomIn : ℕ → ℕ → Tables → Bool
+noRoomIn c p ts = ltb mostInChannel (count (inChannel c) (ts .regions) + 1 + lack c (otherParty p) ts)
+
+-- request 8: "Refusal 16 is now about that channel", that of the number which the begin would open
 abbrev pub noRoomFor : ℕ → Tables → Bool
-noRoomFor t ts = ltb mostRegions (count isHeld (ts .regions) + 1 + lack (otherParty (partyOf t (ts .size .shares))) ts)
+noRoomFor t ts = noRoomIn (channelOf (threadAt t ts .last + 1)) (partyOf t (ts .size .shares)) ts
 
 -- "17 owner is another thread's open region"
 abbrev pub isForeignOpen : ℕ → ℕ → Tables → Bool

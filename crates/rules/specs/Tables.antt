@@ -36,7 +36,7 @@ abbrev pub noSlot : Slot
 noSlot = record { line = 0; state = Empty }
 
 abbrev pub noRegion : Region
-noRegion = record { key = 0; ended = false; done = false; stamp = 0; deps = replicate mostDeps 0; slots = replicate mostSlots noSlot }
+noRegion = record { key = 0; channel = 0; ended = false; done = false; stamp = 0; deps = replicate mostDeps 0; slots = replicate mostSlots noSlot }
 
 abbrev pub noEntry : Entry
 noEntry = record { key = 0; line = 0; rank = 0; persistent = false }
@@ -119,19 +119,35 @@ threadAt t ts = getD (ts .threads) t noThread
 abbrev pub current : ℕ → Tables → ℕ
 current t ts = keyOf t (threadAt t ts .last)
 
+-- request 8: "A region's dependence entry lives in the channel given by the lowest bit of its number"
+abbrev pub channelOf : ℕ → ℕ
+channelOf n = n % 2
+
+-- an entry of region k in whatever channel: a commit, a dropped flight, a fence and the image go over the entries of both
 abbrev pub isKey : ℕ → Region → Bool
 isKey k r = eqb (r .key) k
+
+-- the entry of region k as a lookup finds it: "An entry carries its channel and every lookup goes by it"
+abbrev pub isPlaced : ℕ → Region → Bool
+isPlaced k r = isKey k r && eqb (r .channel) (channelOf (numberOf k))
 
 -- a place of the list that holds a region
 abbrev pub isHeld : Region → Bool
 isHeld r = not (eqb (r .key) 0)
 
+abbrev pub inChannel : ℕ → Region → Bool
+inChannel c r = isHeld r && eqb (r .channel) c
+
 -- region k is uncommitted
 abbrev pub listed : ℕ → List Region → Bool
-listed k rs = not (eqb k 0) && any (isKey k) rs
+listed k rs = not (eqb k 0) && any (isPlaced k) rs
 
 abbrev pub placeOf : ℕ → List Region → ℕ
-placeOf k rs = place (isKey k) rs
+placeOf k rs = place (isPlaced k) rs
+
+-- the first place that holds no region
+abbrev pub freePlace : List Region → ℕ
+freePlace rs = place (isKey 0) rs
 
 abbrev pub regionAt : ℕ → List Region → Region
 regionAt k rs = getD rs (placeOf k rs) noRegion
@@ -173,19 +189,22 @@ abbrev pub withNumbers : ℕ → ℕ → Shares → Size → Size
 withNumbers n l s z = record { threads = n; lines = l; shares = s; zero = z .zero; lent = z .lent }
 
 abbrev pub withKey : ℕ → Region → Region
-withKey k r = record { key = k; ended = r .ended; done = r .done; stamp = r .stamp; deps = r .deps; slots = r .slots }
+withKey k r = record { key = k; channel = r .channel; ended = r .ended; done = r .done; stamp = r .stamp; deps = r .deps; slots = r .slots }
+
+abbrev pub withChannel : ℕ → Region → Region
+withChannel c r = record { key = r .key; channel = c; ended = r .ended; done = r .done; stamp = r .stamp; deps = r .deps; slots = r .slots }
 
 abbrev pub withEnd : ℕ → Region → Region
-withEnd c r = record { key = r .key; ended = true; done = r .done; stamp = c; deps = r .deps; slots = r .slots }
+withEnd c r = record { key = r .key; channel = r .channel; ended = true; done = r .done; stamp = c; deps = r .deps; slots = r .slots }
 
 abbrev pub withDone : Bool → Region → Region
-withDone d r = record { key = r .key; ended = r .ended; done = d; stamp = r .stamp; deps = r .deps; slots = r .slots }
+withDone d r = record { key = r .key; channel = r .channel; ended = r .ended; done = d; stamp = r .stamp; deps = r .deps; slots = r .slots }
 
 abbrev pub withDeps : List ℕ → Region → Region
-withDeps ds r = record { key = r .key; ended = r .ended; done = r .done; stamp = r .stamp; deps = ds; slots = r .slots }
+withDeps ds r = record { key = r .key; channel = r .channel; ended = r .ended; done = r .done; stamp = r .stamp; deps = ds; slots = r .slots }
 
 abbrev pub withSlots : List Slot → Region → Region
-withSlots ss r = record { key = r .key; ended = r .ended; done = r .done; stamp = r .stamp; deps = r .deps; slots = ss }
+withSlots ss r = record { key = r .key; channel = r .channel; ended = r .ended; done = r .done; stamp = r .stamp; deps = r .deps; slots = ss }
 
 abbrev pub withState : SlotState → Slot → Slot
 withState x s = record { line = s .line; state = x }

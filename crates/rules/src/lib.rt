@@ -16,10 +16,11 @@ pub struct Slot {
     pub state: SlotState,
 }
 
-// An uncommitted region. Every region listed here is in the dependence list; those that are not done are the modified list.
+// An uncommitted region. Every region listed here is in the dependence list; those that are not done are the modified list. Its entry is in `channel`.
 // `stamp` tells which region ended first. `deps` are the keys of the regions on which it depends, 0 for a free place.
 pub struct Region {
     pub key: u32,
+    pub channel: u8,
     pub ended: bool,
     pub done: bool,
     pub stamp: u32,

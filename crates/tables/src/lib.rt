@@ -15,7 +15,7 @@ ghost use lib.Dec.{eqb};
 ghost use lib.ListN.{set};
 ghost use Rattle.undo.specs.Table.{any};
 ghost use Rattle.rules.specs.Lists.{count};
-ghost use Rattle.rules.specs.Tables.{isHeld, keyOf, listed, placeOf};
+ghost use Rattle.rules.specs.Tables.{freePlace, inChannel, isHeld, isPlaced, keyOf, listed, placeOf};
 ghost use Rattle.rules.specs.Slots.{carries, isFull, slotFor};
 ghost use Rattle.rules.specs.Acknowledge.{flightPlace, kept, landed};
 ghost use Rattle.rules.specs.Refusal.{isModified, isOfParty, isOfThread, noRoomForDep};
@@ -66,9 +66,21 @@ pub fn ended_at(regions: &Regions, i: usize) -> bool
 {
     rows::regions_length(regions);
     if i < MOST_REGIONS {
-        regions[i][1] == 1
+        rows::ended_in(regions[i][1])
     } else {
         false
+    }
+}
+
+// The channel at place i.
+fn channel_at(regions: &Regions, i: usize) -> u8
+    ensures { λ c. ⌜ c ≡ regionHeld (was regions) i .channel ⌝ }
+{
+    rows::regions_length(regions);
+    if i < MOST_REGIONS {
+        rows::channel_in(regions[i][1])
+    } else {
+        0
     }
 }
 
@@ -86,7 +98,17 @@ fn done_at(regions: &Regions, i: usize) -> bool
 
 // ---- searches
 
-// The place of region `key`; of key 0, the first free place.
+// Whether a lookup of region `key` finds it at place i: in the channel of its number. The key is asked for first: it differs at most places.
+fn is_placed(regions: &Regions, i: usize, key: u32) -> bool
+    ensures { λ b. ⌜ b ≡ isPlaced key (regionHeld (was regions) i) ⌝ }
+{
+    if key_at(regions, i) != key {
+        return false;
+    }
+    channel_at(regions, i) == lookup::channel_of(key % NUMBERS)
+}
+
+// The place of region `key`.
 pub fn place_of(regions: &Regions, key: u32) -> usize
     ensures { λ r. ⌜ r ≡ placeOf key (regionsOf (was regions)) ⌝ }
 {
@@ -96,7 +118,25 @@ pub fn place_of(regions: &Regions, key: u32) -> usize
         if MOST_REGIONS <= i {
             break i;
         }
-        if key_at(regions, i) == key {
+        if is_placed(regions, i, key) {
+            break i;
+        }
+        i += 1;
+    };
+    at
+}
+
+// The first place that holds no region.
+pub fn free_place(regions: &Regions) -> usize
+    ensures { λ r. ⌜ r ≡ freePlace (regionsOf (was regions)) ⌝ }
+{
+    rows::regions_length(regions);
+    let mut i: usize = 0;
+    let at = loop {
+        if MOST_REGIONS <= i {
+            break i;
+        }
+        if key_at(regions, i) == 0 {
             break i;
         }
         i += 1;
@@ -214,29 +254,54 @@ pub fn count_modified(regions: &Regions, t: u8) -> u8
     c
 }
 
-// Whether the place holds a region of a thread of party p.
-fn is_of_party(regions: &Regions, i: usize, s: Shares, p: u8) -> bool
-    ensures { λ b. ⌜ b ≡ isOfParty s p (regionHeld (was regions) i) ⌝ }
+// Whether the place holds a region whose entry is in channel c.
+fn in_channel(regions: &Regions, i: usize, c: u8) -> bool
+    ensures { λ b. ⌜ b ≡ inChannel c (regionHeld (was regions) i) ⌝ }
 {
-    let key = key_at(regions, i);
-    if key == 0 {
-        return false;
+    if is_held(regions, i) {
+        channel_at(regions, i) == c
+    } else {
+        false
     }
-    lookup::party_of(s, key / NUMBERS) == p
 }
 
-// How many regions the threads of party p have in the dependence list.
-pub fn count_party(regions: &Regions, s: Shares, p: u8) -> u8
-    ensures { λ r. ⌜ r ≡ count (isOfParty s p) (regionsOf (was regions)) ⌝ }
+// How many entries of channel c are taken.
+pub fn count_channel(regions: &Regions, c: u8) -> u8
+    ensures { λ r. ⌜ r ≡ count (inChannel c) (regionsOf (was regions)) ⌝ }
 {
     rows::regions_length(regions);
-    let mut c: u8 = 0;
+    let mut n: u8 = 0;
     let mut i: usize = 0;
     while i < MOST_REGIONS {
-        c += rows::one(is_of_party(regions, i, s, p));
+        n += rows::one(in_channel(regions, i, c));
         i += 1;
     }
-    c
+    n
+}
+
+// Whether the place holds a region of a thread of party p whose entry is in channel c.
+fn is_of_party(regions: &Regions, i: usize, s: Shares, c: u8, p: u8) -> bool
+    ensures { λ b. ⌜ b ≡ isOfParty s c p (regionHeld (was regions) i) ⌝ }
+{
+    if in_channel(regions, i, c) {
+        lookup::party_of(s, key_at(regions, i) / NUMBERS) == p
+    } else {
+        false
+    }
+}
+
+// How many entries of channel c the threads of party p hold.
+pub fn count_party(regions: &Regions, s: Shares, c: u8, p: u8) -> u8
+    ensures { λ r. ⌜ r ≡ count (isOfParty s c p) (regionsOf (was regions)) ⌝ }
+{
+    rows::regions_length(regions);
+    let mut n: u8 = 0;
+    let mut i: usize = 0;
+    while i < MOST_REGIONS {
+        n += rows::one(is_of_party(regions, i, s, c, p));
+        i += 1;
+    }
+    n
 }
 
 // ---- the slots and dependences of one region

@@ -1,11 +1,10 @@
 use mathlib.Core.Path.{_∙_, ap}
 use borrow.Author.Needs.{needs}
 use Rattle.rules.specs.Access.{stored, storedIn}
-use Rattle.rules.specs.Tables.{ownerOf}
-use Rattle.rules.specs.declared.Region.{Region}
+use Rattle.rules.specs.Tables.{isPlaced, ownerOf}
 use Rattle.rows.specs.Row.{regionsOf}
 use Rattle.rows.specs.Whole.{boardOf}
-use Rattle.tables.proofs.Flight.{flown-at, key-of}
+use Rattle.tables.proofs.Flight.{entry-of, flown-at}
 use Rattle.tables.specs.Flight.{placed}
 use Rattle.access.proofs.Laws.{write-law}
 use Rattle.access.proofs.write.Statement.{statement}
@@ -74,7 +73,7 @@ returns c =
     (rw (q .ensures, r .ensures, i .ensures))
     (rw (i .ensures, x .ensures))
     (p .ensures h ths owner med old ∙ flown-at (k .result) b (i .result) (i .ensures) (q .result)
-    (λ z. ap (λ (y : Region). y .key) (q .ensures) ∙ key-of (k .result) rs (i .result) (r .result) (i .ensures) (r .ensures) z))
+    (λ z. ap (isPlaced (k .result)) (q .ensures) ∙ entry-of (k .result) rs (i .result) (r .result) (i .ensures) (r .ensures) z))
 
 pub write-spec : {M : Type 1} → statement M
 write-spec =

@@ -2,12 +2,11 @@ use mathlib.Core.Path.{_∙_, ap}
 use lib.ListN.{set}
 use borrow.Author.Needs.{needs}
 use Rattle.rules.specs.End.{closed}
-use Rattle.rules.specs.Tables.{withRegions}
-use Rattle.rules.specs.declared.Region.{Region}
+use Rattle.rules.specs.Tables.{isPlaced, withRegions}
 use Rattle.rows.specs.Row.{regionsOf}
 use Rattle.rows.specs.Whole.{boardOf, tablesOf}
 use Rattle.rows.specs.declared.Head.{Head}
-use Rattle.tables.proofs.Flight.{flown-at, key-of}
+use Rattle.tables.proofs.Flight.{entry-of, flown-at}
 use Rattle.ends.proofs.Laws.{end-law}
 use Rattle.ends.proofs.end_region.Statement.{statement}
 use Rattle.ends.proofs.end_region.Tie as tie
@@ -58,7 +57,7 @@ returns c =
     (f .ensures (s .h) (s .regions .now) owner (s .lock .now))
     (rw (q .ensures, r .ensures, i .ensures, x .ensures))
     (p .ensures h ths owner med old ∙ flown-at (k .result) b (i .result) (i .ensures) (q .result)
-    (λ z. ap (λ (y : Region). y .key) (q .ensures) ∙ key-of (k .result) rs (i .result) (r .result) (i .ensures) (r .ensures) z))
+    (λ z. ap (isPlaced (k .result)) (q .ensures) ∙ entry-of (k .result) rs (i .result) (r .result) (i .ensures) (r .ensures) z))
 
 pub end-region-spec : {M : Type 1} → statement M
 end-region-spec =

@@ -2,7 +2,7 @@ use mathlib.Core.Path.{_∙_}
 use borrow.Author.Needs.{needs}
 use Rattle.rows.specs.Row.{regionsOf}
 use Rattle.rows.specs.Whole.{boardOf}
-use Rattle.tables.proofs.Flight.{flown-at, flown-same, key-of}
+use Rattle.tables.proofs.Flight.{entry-of, flown-at, flown-same}
 use Rattle.ends.proofs.fly.Statement.{statement}
 use Rattle.ends.proofs.fly.Tie as tie
 
@@ -23,7 +23,7 @@ returns c =
     let s = c .before .before .before .before .before .before .before .args in
     let b = boardOf h threads (s .regions .now) owner (s .lock .now) (s .cur .now) med old (s .car .now) in
     c .put-flown .ensures h threads owner med old
-    ∙ (flown-at (s .k) b (i .result) (i .ensures) (r .result) (key-of (s .k) (regionsOf (s .regions .now)) (i .result) (r .result) (i .ensures) (r .ensures))
+    ∙ (flown-at (s .k) b (i .result) (i .ensures) (r .result) (entry-of (s .k) (regionsOf (s .regions .now)) (i .result) (r .result) (i .ensures) (r .ensures))
     ∙ flown-same (s .k) b (i .result) (i .ensures) (r .result) (r .ensures))
 
 pub fly-spec : {M : Type 1} → statement M

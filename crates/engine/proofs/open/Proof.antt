@@ -12,8 +12,8 @@ current-requires c κs = search needs
 uncommitted-requires : tie.Need-uncommitted-requires
 uncommitted-requires c κs = search needs
 
-place-of-requires : tie.Need-place-of-requires
-place-of-requires c κs = search needs
+free-place-requires : tie.Need-free-place-requires
+free-place-requires c κs = search needs
 
 mul-begun : tie.Need-mul-begun
 mul-begun c = search needs
@@ -41,7 +41,7 @@ set-thread-requires c κs = search needs
 
 returns : tie.Need-returns
 unfolding opened
-returns c = λ h owner lock. rw (c .set-thread .ensures, c .before .before .put .ensures, c .before .before .before .before .begun .ensures, c .before .before .before .before .before .place-of .ensures, c .before .before .before .before .before .before .before .uncommitted .ensures, c .before .before .before .before .before .before .before .before .before .current .ensures, c .before .before .before .before .before .before .before .before .before .before .before .last-of .ensures)
+returns c = λ h owner lock. rw (c .set-thread .ensures, c .before .before .put .ensures, c .before .before .before .before .begun .ensures, c .before .before .before .before .before .free-place .ensures, c .before .before .before .before .before .before .before .uncommitted .ensures, c .before .before .before .before .before .before .before .before .before .current .ensures, c .before .before .before .before .before .before .before .before .before .before .before .last-of .ensures)
 
 pub open-spec : {M : Type 1} → statement M
 open-spec =
@@ -50,7 +50,7 @@ open-spec =
     last-of-requires
     current-requires
     uncommitted-requires
-    place-of-requires
+    free-place-requires
     mul-begun
     cast-begun
     add-begun

@@ -90,11 +90,11 @@ no-room-for-requires c κs = search needs
 
 returns-6 : tie.Need-returns-6
 unfolding refusal testsOf
-returns-6 c = λ owner lock. let e = c .before .before in let s = start (to-13 (to-14 (to-15 e) .before)) .args in sym (passed-16 owner lock e ∙ rw (outside owner lock (to-14 (to-15 e)), ← c .before .no-room-for .ensures (s .threads .now) owner lock, c .if6 .taken))
+returns-6 c = λ owner lock. let e = c .before .before in sym (passed-16 owner lock e ∙ rw (outside owner lock (to-14 (to-15 e)), ← c .before .no-room-for .ensures owner lock, c .if6 .taken))
 
 returns-7 : tie.Need-returns-7
 unfolding refusal testsOf
-returns-7 c = λ owner lock. let e = c .before .before in let s = start (to-13 (to-14 (to-15 e) .before)) .args in sym (passed-16 owner lock e ∙ rw (outside owner lock (to-14 (to-15 e)), ← c .before .no-room-for .ensures (s .threads .now) owner lock, c .if6 .left))
+returns-7 c = λ owner lock. let e = c .before .before in sym (passed-16 owner lock e ∙ rw (outside owner lock (to-14 (to-15 e)), ← c .before .no-room-for .ensures owner lock, c .if6 .left))
 
 pub begin-refusal-spec : {M : Type 1} → statement M
 begin-refusal-spec =

@@ -1,65 +1,36 @@
-use Rattle.refusals.proofs.Laws.{kept-small}
 use borrow.Author.Needs.{needs}
 use Rattle.refusals.proofs.no_room_for.Statement.{statement}
 use Rattle.refusals.proofs.no_room_for.Tie as tie
 
+last-of-requires : tie.Need-last-of-requires
+last-of-requires c κs = search needs
+
+cast-channel-of : tie.Need-cast-channel-of
+cast-channel-of c = search needs
+
+add-channel-of : tie.Need-add-channel-of
+add-channel-of c = search needs
+
+channel-of-requires : tie.Need-channel-of-requires
+channel-of-requires c κs = search needs
+
 party-of-requires : tie.Need-party-of-requires
 party-of-requires c κs = search needs
 
-other-party-requires : tie.Need-other-party-requires
-other-party-requires c κs = search needs
-
-reserve-of-requires : tie.Need-reserve-of-requires
-reserve-of-requires c κs = search needs
-
-count-held-requires : tie.Need-count-held-requires
-count-held-requires c κs = search needs
-
-cast-taken : tie.Need-cast-taken
-cast-taken c = search needs
-
-add-taken : tie.Need-add-taken
-add-taken c = search needs
-
-cast-if1 : tie.Need-cast-if1
-cast-if1 c = search needs
-
-add-if1 : tie.Need-add-if1
-add-if1 c = search needs
+no-room-in-requires : tie.Need-no-room-in-requires
+no-room-in-requires c κs = search needs
 
 returns : tie.Need-returns
-returns c = λ threads owner lock. let h = c .before in let o = h .before .before in rw (← h .count-held .ensures, ← o .before .party-of .ensures, ← o .other-party .ensures, ← h .before .reserve-of .ensures) (kept-small (h .count-held .result) (h .before .reserve-of .result) _ (c .if1 .taken))
-
-count-party-requires : tie.Need-count-party-requires
-count-party-requires c κs = search needs
-
-lack-of-requires : tie.Need-lack-of-requires
-lack-of-requires c κs = search needs
-
-cast-result : tie.Need-cast-result
-cast-result c = search needs
-
-add-result : tie.Need-add-result
-add-result c = search needs
-
-returns-2 : tie.Need-returns-2
-returns-2 c = λ threads owner lock. let h = c .before .before .before in let o = h .before .before in rw (← h .count-held .ensures, ← o .before .party-of .ensures, ← o .other-party .ensures, ← h .before .reserve-of .ensures, ← c .before .count-party .ensures, ← c .lack-of .ensures)
+returns c = λ owner lock. let s = c .before .before .before .before .before .args in rw (← c .before .before .before .last-of .ensures, ← c .before .before .channel-of .ensures, ← c .before .party-of .ensures) (c .no-room-in .ensures (s .threads .now) owner lock)
 
 pub no-room-for-spec : {M : Type 1} → statement M
 no-room-for-spec =
     tie.close
     (tie.spec
+    last-of-requires
+    cast-channel-of
+    add-channel-of
+    channel-of-requires
     party-of-requires
-    other-party-requires
-    reserve-of-requires
-    count-held-requires
-    cast-taken
-    add-taken
-    cast-if1
-    add-if1
-    returns
-    count-party-requires
-    lack-of-requires
-    cast-result
-    add-result
-    returns-2)
+    no-room-in-requires
+    returns)

@@ -54,30 +54,39 @@ slot-of-requires-8 c κs = search needs
 array-read-t13 : tie.Need-array-read-t13
 array-read-t13 c = search needs
 
-array-read-t32 : tie.Need-array-read-t32
-array-read-t32 c = search needs
+array-read-channel-in : tie.Need-array-read-channel-in
+array-read-channel-in c = search needs
 
-array-read-t36 : tie.Need-array-read-t36
-array-read-t36 c = search needs
+channel-in-requires : tie.Need-channel-in-requires
+channel-in-requires c κs = search needs
+
+array-read-ended-in : tie.Need-array-read-ended-in
+array-read-ended-in c = search needs
+
+ended-in-requires : tie.Need-ended-in-requires
+ended-in-requires c κs = search needs
 
 array-read-t40 : tie.Need-array-read-t40
 array-read-t40 c = search needs
 
-array-read-t43 : tie.Need-array-read-t43
-array-read-t43 c = search needs
+array-read-t44 : tie.Need-array-read-t44
+array-read-t44 c = search needs
 
-array-read-t46 : tie.Need-array-read-t46
-array-read-t46 c = search needs
+array-read-t47 : tie.Need-array-read-t47
+array-read-t47 c = search needs
 
-array-read-t49 : tie.Need-array-read-t49
-array-read-t49 c = search needs
+array-read-t50 : tie.Need-array-read-t50
+array-read-t50 c = search needs
 
-array-read-t52 : tie.Need-array-read-t52
-array-read-t52 c = search needs
+array-read-t53 : tie.Need-array-read-t53
+array-read-t53 c = search needs
+
+array-read-t56 : tie.Need-array-read-t56
+array-read-t56 c = search needs
 
 returns : tie.Need-returns
 unfolding regionOf
-returns c = simp (c .slot-of8 .ensures, c .before .slot-of7 .ensures, c .before .before .slot-of6 .ensures, c .before .before .before .slot-of5 .ensures, c .before .before .before .before .slot-of4 .ensures, c .before .before .before .before .before .slot-of3 .ensures, c .before .before .before .before .before .before .slot-of2 .ensures, c .before .before .before .before .before .before .before .slot-of .ensures)
+returns c = simp (c .ended-in .ensures, c .before .channel-in .ensures, c .before .before .slot-of8 .ensures, c .before .before .before .slot-of7 .ensures, c .before .before .before .before .slot-of6 .ensures, c .before .before .before .before .before .slot-of5 .ensures, c .before .before .before .before .before .before .slot-of4 .ensures, c .before .before .before .before .before .before .before .slot-of3 .ensures, c .before .before .before .before .before .before .before .before .slot-of2 .ensures, c .before .before .before .before .before .before .before .before .before .slot-of .ensures)
 
 pub region-of-spec : {M : Type 1} → statement M
 region-of-spec =
@@ -100,11 +109,14 @@ region-of-spec =
     array-read-slot-of-8
     slot-of-requires-8
     array-read-t13
-    array-read-t32
-    array-read-t36
+    array-read-channel-in
+    channel-in-requires
+    array-read-ended-in
+    ended-in-requires
     array-read-t40
-    array-read-t43
-    array-read-t46
-    array-read-t49
-    array-read-t52
+    array-read-t44
+    array-read-t47
+    array-read-t50
+    array-read-t53
+    array-read-t56
     returns)

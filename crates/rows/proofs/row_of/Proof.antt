@@ -31,11 +31,11 @@ array-copy-out-s6 c = search needs
 array-copy-out-s7 : tie.Need-array-copy-out-s7
 array-copy-out-s7 c = search needs
 
+channel-word-requires : tie.Need-channel-word-requires
+channel-word-requires c κs = search needs
+
 flag-requires : tie.Need-flag-requires
 flag-requires c κs = search needs
-
-flag-requires-2 : tie.Need-flag-requires-2
-flag-requires-2 c κs = search needs
 
 array-read-t34 : tie.Need-array-read-t34
 array-read-t34 c = search needs
@@ -74,7 +74,7 @@ slot-word-requires-8 : tie.Need-slot-word-requires-8
 slot-word-requires-8 c κs = search needs
 
 returns : tie.Need-returns
-returns c = let e = c .before .before .before .before .before .before .before .before .before .before .before .before .before .before .before .before .before .before .before .before .lengths .ensures in packed _ _ (e .0) (e .1) refl (c .before .before .before .before .before .before .before .before .before .flag .ensures .0) (c .before .before .before .before .before .before .before .before .flag2 .ensures .0) refl refl refl refl refl (c .before .before .before .before .before .before .before .slot-word .ensures) (c .before .before .before .before .before .before .slot-word2 .ensures) (c .before .before .before .before .before .slot-word3 .ensures) (c .before .before .before .before .slot-word4 .ensures) (c .before .before .before .slot-word5 .ensures) (c .before .before .slot-word6 .ensures) (c .before .slot-word7 .ensures) (c .slot-word8 .ensures)
+returns c = let e = c .before .before .before .before .before .before .before .before .before .before .before .before .before .before .before .before .before .before .before .before .lengths .ensures in packed _ _ (e .0) (e .1) refl (c .before .before .before .before .before .before .before .before .before .channel-word .ensures) (c .before .before .before .before .before .before .before .before .flag .ensures .0) refl refl refl refl refl (c .before .before .before .before .before .before .before .slot-word .ensures) (c .before .before .before .before .before .before .slot-word2 .ensures) (c .before .before .before .before .before .slot-word3 .ensures) (c .before .before .before .before .slot-word4 .ensures) (c .before .before .before .slot-word5 .ensures) (c .before .before .slot-word6 .ensures) (c .before .slot-word7 .ensures) (c .slot-word8 .ensures)
 
 pub row-of-spec : {M : Type 1} → statement M
 row-of-spec =
@@ -89,8 +89,8 @@ row-of-spec =
     array-copy-out-s5
     array-copy-out-s6
     array-copy-out-s7
+    channel-word-requires
     flag-requires
-    flag-requires-2
     array-read-t34
     array-read-t37
     array-read-t40

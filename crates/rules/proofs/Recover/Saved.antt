@@ -11,11 +11,11 @@ use borrow.Author.Tests.{eqb-true, le-leb, lt-ltb, ne-eqb, not-true}
 use Rattle.rules.proofs.Codec.Valid.{keyOfListed, rises}
 use Rattle.rules.proofs.Recover.Rising.{Rises, higher, no-more, rising-is, rising-length, rising-rises}
 use Rattle.rules.proofs.Lists.{any-map, or-none}
-use Rattle.rules.proofs.Places.{eqb-swap, key-at}
+use Rattle.rules.proofs.Places.{Homes, any-placed, eqb-swap, key-at, place-placed}
 use Rattle.rules.specs.Contradiction.{depsOf, inOrder, isListed}
 use Rattle.rules.specs.Image.{noListed, savedRegion, savedRegions}
 use Rattle.rules.specs.Lists.{all, place, rising}
-use Rattle.rules.specs.Tables.{isKey, listed, numberOf, regionAt}
+use Rattle.rules.specs.Tables.{isKey, listed, noRegion, numberOf, regionAt}
 use Rattle.rules.specs.declared.Listed.{Listed}
 use Rattle.rules.specs.declared.Region.{Region}
 use Rattle.undo.proofs.Laws.{and-true, flip, is-same, never, or-false, or-right, test}
@@ -163,10 +163,10 @@ abbrev pub keysOf : List Region → List ℕ
 keysOf rs = rising (map (λ r. r .key) rs)
 
 -- the keys are those of the listed regions
-pub keys-listed : (rs : List Region) (k : ℕ) → isIn k (keysOf rs) ≡ listed k rs
-keys-listed rs k =
+pub keys-listed : (rs : List Region) → Homes rs → (k : ℕ) → isIn k (keysOf rs) ≡ listed k rs
+keys-listed rs h k =
     rising-is (map (λ r. r .key) rs) k
-    ∙ rw (any-map (eqb k) (isKey k) (λ r. r .key) rs (λ r. eqb-swap k (r .key)))
+    ∙ rw (any-map (eqb k) (isKey k) (λ r. r .key) rs (λ r. eqb-swap k (r .key)), any-placed k rs h)
 
 pub keys-rise : (rs : List Region) → Rises 0 (keysOf rs)
 keys-rise rs = rising-rises 0 (length (map (λ r. r .key) rs)) (map (λ r. r .key) rs)
@@ -177,11 +177,11 @@ keys-length rs =
     let q = length-map rs (λ r. r .key) in
     omega arith
 
-pub saved-regions : (rs : List Region) → savedRegions rs ≡ map (savedAt rs) (keysOf rs)
+pub saved-regions : (rs : List Region) → Homes rs → savedRegions rs ≡ map (savedAt rs) (keysOf rs)
 unfolding savedRegions savedRegion
-saved-regions rs =
-    map-in (λ k. record { key = regionAt k rs .key; state = stateAt rs k; deps = depsAt rs k }) (savedAt rs) (keysOf rs)
-    (λ k e. rw (key-at k rs (sym (keys-listed rs k) ∙ e)))
+saved-regions rs h =
+    map-in (λ k. savedRegion (getD rs (place (isKey k) rs) noRegion)) (savedAt rs) (keysOf rs)
+    (λ k e. rw (← place-placed k rs h, key-at k rs (sym (keys-listed rs h k) ∙ e)))
 
 -- ---- as the reader looks at them
 

@@ -20,7 +20,7 @@ use Rattle.rules.proofs.Recover.Rising.{Rises, higher, no-more, rises-a
 use Rattle.rules.proofs.Recover.Saved.{any-of, deps-in, deps-none, depsAt, keys-in, keys-listed, keys-rise, keysOf, none-in, none-of, padded-in, padded-order, padded-zeros, saved-regions, savedAt, stateAt}
 use Rattle.rules.proofs.Recover.Walk.{at-in}
 use Rattle.rules.proofs.Lists.{count-fewer, count-le, place-lt, place-true}
-use Rattle.rules.proofs.Places.{eqb-swap, key-at, listed-key}
+use Rattle.rules.proofs.Places.{eqb-swap, homes, key-at, listed-key}
 use Rattle.rules.proofs.Sim.State.{Rest, Sim}
 use Rattle.rules.specs.Commit.{commits}
 use Rattle.rules.specs.Contradiction.{anyBroken, anyClash, brokenBefore, clash, contradicts, inOrder, isAstray, isCircle, isLeftOver, isListed, isUnknownState, isUnnumbered, reaches, reachesIn}
@@ -40,13 +40,13 @@ module _ {start : ℕ → List ℕ} {b : Board} {es : List Account} {s : u.State
   entries = map (savedAt (b .tables .regions)) (keysOf (b .tables .regions))
 
   in-keys : (k : ℕ) → listed k (b .tables .regions) ≡ true → isIn k (keysOf (b .tables .regions)) ≡ true
-  in-keys k e = keys-listed (b .tables .regions) k ∙ e
+  in-keys k e = keys-listed (b .tables .regions) (homes (b .tables .regions) (i .shape .regions)) k ∙ e
 
   of-keys : (k : ℕ) → isIn k (keysOf (b .tables .regions)) ≡ true → listed k (b .tables .regions) ≡ true
-  of-keys k e = sym (keys-listed (b .tables .regions) k) ∙ e
+  of-keys k e = sym (keys-listed (b .tables .regions) (homes (b .tables .regions) (i .shape .regions)) k) ∙ e
 
   is-listed : (k : ℕ) → isListed k entries ≡ listed k (b .tables .regions)
-  is-listed k = keys-in (stateAt (b .tables .regions)) (depsAt (b .tables .regions)) k (keysOf (b .tables .regions)) ∙ keys-listed (b .tables .regions) k
+  is-listed k = keys-in (stateAt (b .tables .regions)) (depsAt (b .tables .regions)) k (keysOf (b .tables .regions)) ∙ keys-listed (b .tables .regions) (homes (b .tables .regions) (i .shape .regions)) k
 
   -- ---- reaching
 
@@ -263,7 +263,7 @@ module _ {start : ℕ → List ℕ} {b : Board} {es : List Account} {s : u.State
   unfolding contradicts saved
   sound rest =
       rw (
-        saved-regions (b .tables .regions),
+        saved-regions (b .tables .regions) (homes (b .tables .regions) (i .shape .regions)),
         no-unnumbered,
         no-unknown,
         in-order,

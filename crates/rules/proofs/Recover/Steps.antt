@@ -40,6 +40,7 @@ use Rattle.rules.specs.Tables.{Board, lineOf}
 use Rattle.rules.specs.Walk.{entriesFrom, entriesOf, walk, walkEntries}
 use Rattle.undo.proofs.Laws.{same, test}
 use Rattle.undo.specs.Table.{isIn, keep, put}
+use Rattle.rules.proofs.Places.{homes}
 
 -- ---- lists
 
@@ -87,7 +88,7 @@ module _ {start : ℕ → List ℕ} {b : Board} {es : List Account} {s : u.State
   unfolding walk saved regionsWalked
   walk-is =
       let rs = b .tables .regions in
-      rw (saved-regions rs, length-map (keysOf rs) (savedAt rs)) (walk-same (depsAt rs) (stateAt rs) (length (keysOf rs)) (keysOf rs))
+      rw (saved-regions rs (homes rs (i .shape .regions)), length-map (keysOf rs) (savedAt rs)) (walk-same (depsAt rs) (stateAt rs) (length (keysOf rs)) (keysOf rs))
 
   image-of : w.Image s regionsWalked entriesWalked
   unfolding regionsWalked entriesWalked saved
@@ -95,7 +96,7 @@ module _ {start : ℕ → List ℕ} {b : Board} {es : List Account} {s : u.State
       let rs = b .tables .regions in
       record {
         all = λ r bo dn. covers (whole rc i) (depsAt rs) (dep-same rc i) r (length (keysOf rs)) (keysOf rs) (keys-rise rs) (le-refl _)
-            (keys-listed rs r ∙ live-listed rc i r bo dn);
+            (keys-listed rs (homes rs (i .shape .regions)) r ∙ live-listed rc i r bo dn);
         order = walks (whole rc i) (depsAt rs) (dep-same rc i) (length (keysOf rs)) (keysOf rs) (keys-rise rs);
         entries = λ r l. aimed-entries (savedLog 0 8 b) r l (single-chosen rc i r l) ∙ log-chosen rc i r l;
       }

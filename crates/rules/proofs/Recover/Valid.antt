@@ -27,6 +27,7 @@ use Rattle.rules.specs.Refusal.{isSetUp}
 use Rattle.rules.specs.Tables.{Board, listed, regionAt, threadOf}
 use Rattle.undo.proofs.Laws.{test}
 use Rattle.rules.specs.History.{Account}
+use Rattle.rules.proofs.Places.{homes}
 
 all-index : {A : Type 0} (p : A → Bool) (d : A) (xs : List A) → ((j : ℕ) → j < length xs → p (getD xs j d) ≡ true) → all p xs ≡ true
 all-index p d [] f = refl
@@ -54,14 +55,15 @@ module _ {start : ℕ → List ℕ} {b : Board} {es : List Account} {s : u.State
       let rs = b .tables .regions in
       let ll = size-lines (b .tables .size .threads) (b .tables .size .lines) up in
       let lm = i .memories .med in
+      let home = homes rs (i .shape .regions) in
       record {
         size = up;
         whole = length-take-le (b .tables .size .lines) (b .med) (omega arith);
         medium = all-take isLine (b .tables .size .lines) (b .med) (all-index isLine [] (b .med) (λ j k. i .memories .med-lines j (omega arith)));
-        few = let k = keys-length rs in let q = i .shape .regions .count in rw (saved-regions rs, length-map (keysOf rs) (savedAt rs)) (omega arith);
-        rising = rw (saved-regions rs) (rises-listed (stateAt rs) (depsAt rs) 0 (omega arith) (keys-rise rs));
-        regions = rw (saved-regions rs)
-            (all-in (fitsRegion (b .tables .size .threads)) (savedAt rs) (keysOf rs) (λ k e. fits-region k (sym (keys-listed rs k) ∙ e)));
+        few = let k = keys-length rs in let q = i .shape .regions .count in rw (saved-regions rs home, length-map (keysOf rs) (savedAt rs)) (omega arith);
+        rising = rw (saved-regions rs home) (rises-listed (stateAt rs) (depsAt rs) 0 (omega arith) (keys-rise rs));
+        regions = rw (saved-regions rs home)
+            (all-in (fitsRegion (b .tables .size .threads)) (savedAt rs) (keysOf rs) (λ k e. fits-region k (sym (keys-listed rs home k) ∙ e)));
         room = λ t. log-few rc i 0 8 t;
         climbing = log-climbs rc i 0 8 0 (omega arith);
         entries = each-all (fitsEntry (b .tables .size .threads) (b .tables .size .lines))

@@ -13,7 +13,7 @@ use lib.Dec.{eqb, ltb}
 use lib.ListN.{List·getD-eq-default, getD, length, length-set, set}
 use borrow.Author.Tests.{eq-eqb, eqb-false, eqb-true, ltb-false, ltb-true, not-false}
 use lib.Seq.{set-getD}
-use Rattle.rules.proofs.Places.{Once, key-at, listed-key, listed-stored, region-stored}
+use Rattle.rules.proofs.Places.{Once, entry-at, key-at, listed-key, listed-stored, region-stored}
 use Rattle.rules.proofs.Lists.{any-none, any-put, any-set, each-set, getD-set, place-lt, place-true}
 use Rattle.rules.proofs.Sim.State.{Finished, GoodRegion, Keeps, Kept, Rest, Sim, Simulated, Told, by}
 use Rattle.rules.proofs.Sim.Base.{orZero, writer-same}
@@ -27,7 +27,7 @@ use Rattle.rules.specs.Lists.{place}
 use Rattle.rules.specs.Reader.{nothing}
 use Rattle.rules.specs.Refusal.{depthOf, isForeignOpen, noRoomForDep, testsOf}
 use Rattle.rules.specs.Step.{apply}
-use Rattle.rules.specs.Tables.{Board, current, isHeld, lineOf, listed, noRegion, ownerOf, placeOf, regionAt, startLines, threadOf, withDeps, withTables}
+use Rattle.rules.specs.Tables.{Board, current, isHeld, isPlaced, lineOf, listed, noRegion, ownerOf, placeOf, regionAt, startLines, threadOf, withDeps, withTables}
 use Rattle.rules.specs.declared.Event.the-variants.{Read}
 use Rattle.rules.specs.declared.Region.{Region}
 use Rattle.rules.specs.declared.Tables.{Tables}
@@ -164,14 +164,14 @@ module _ {m : ℕ → List ℕ} {b : Board} {es : List Account} {s : u.State (Li
       in′ : listed k (b .tables .regions) ≡ true
       in′ = open-listed rc i k current-open
 
-      key : r′ .key ≡ k
-      key = key-at k (b .tables .regions) in′
+      key : isPlaced k r′ ≡ true
+      key = entry-at k (b .tables .regions) in′
 
       good-joined : GoodRegion r′
       good-joined =
           let g : GoodRegion r = i .shape .regions .good (placeOf k (b .tables .regions)) in
           record {
-            free = λ e. absurd (eqb-false k 0 (listed-key k (b .tables .regions) in′) (sym key ∙ e));
+            free = λ e. absurd (eqb-false k 0 (listed-key k (b .tables .regions) in′) (sym (key-at k (b .tables .regions) in′) ∙ e));
             deps = length-joined o (r .deps) ∙ g .deps;
             slots = g .slots;
             distinct = g .distinct;
@@ -292,8 +292,8 @@ unfolding read
 rest-read {b} k l i o in′ r =
     record {
       flown = λ q x c e w. r .flown q x c
-          (ap (λ y. eqb c ripeCount || y) (sym (part-stored (b .tables) k r′ in′ (key-at k (b .tables .regions) in′) (λ y. y .ended) refl q)) ∙ e)
-          (ap (stateOf x) (sym (part-stored (b .tables) k r′ in′ (key-at k (b .tables .regions) in′) (λ y. y .slots) refl q)) ∙ w);
+          (ap (λ y. eqb c ripeCount || y) (sym (part-stored (b .tables) k r′ in′ (entry-at k (b .tables .regions) in′) (λ y. y .ended) refl q)) ∙ e)
+          (ap (stateOf x) (sym (part-stored (b .tables) k r′ in′ (entry-at k (b .tables .regions) in′) (λ y. y .slots) refl q)) ∙ w);
       finished = each-set Finished (b .tables .regions) (placeOf k (b .tables .regions)) r′ noRegion
           (λ e n. never e (i .ended k in′ ∙ o .goes-on)) (r .finished);
       settled = each-set (λ y. commits y ≡ false) (b .tables .regions) (placeOf k (b .tables .regions)) r′ noRegion

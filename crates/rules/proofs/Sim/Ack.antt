@@ -49,9 +49,9 @@ module _ (k l : ℕ) (nz : eqb k 0 ≡ false) where
   unfolding dropped
   dropped-none′ = rw (flip k 0 nz)
 
-  dropped-key : (r : Region) → dropped k l r .key ≡ r .key
+  dropped-key : (r : Region) → (dropped k l r .key ≡ r .key) × (dropped k l r .channel ≡ r .channel)
   unfolding dropped
-  dropped-key r = test (isKey k r) (λ d. rw d) (λ d. rw d)
+  dropped-key r = test (isKey k r) (λ d. rw d (refl, refl)) (λ d. rw d (refl, refl))
 
   dropped-deps : (r : Region) → dropped k l r .deps ≡ r .deps
   unfolding dropped

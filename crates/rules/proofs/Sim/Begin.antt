@@ -12,7 +12,7 @@ use native.Mathlib.Omega.{arith}
 use borrow.Author.Tests.{eqb-false, eqb-true, le-leb, leb-false, leb-true, lt-leb, ltb-true, ne-eqb, not-false, not-true}
 use Rattle.rules.proofs.Recover.Rising.{no-more}
 use Rattle.rules.proofs.Lists.{count-room, each-set, getD-set}
-use Rattle.rules.proofs.Places.{eqb-swap, good-free, listed-key, listed-new, once-one, region-new, region-none, regions-new, unlisted-any}
+use Rattle.rules.proofs.Places.{eqb-swap, good-free, listed-key, listed-new, once-one, region-new, region-none, regions-new, room-left, unlisted-any}
 use Rattle.rules.proofs.Sim.State.{Distinct, Finished, GoodRegion, Keeps, Kept, Rest, Shape, Sim, Simulated, Told, by, more, none}
 use Rattle.rules.proofs.Sim.Base.{key-number, key-split, key-thread, logs-over, logs-same, memories-same, owner-born, shape-kept, threads-8, threads-stored}
 use Rattle.rules.proofs.Views.{isOpened, stateOf}
@@ -21,9 +21,9 @@ use Rattle.rules.specs.Commit.{commits}
 use Rattle.rules.specs.Flight.{flown}
 use Rattle.rules.specs.History.{Account, Opens, depthIn, drawsOn, endsIn, linesIn, openedIn, regionIn, usesIn, writesIn}
 use Rattle.rules.specs.Lists.{count}
-use Rattle.rules.specs.Refusal.{depthOf, testsOf}
+use Rattle.rules.specs.Refusal.{depthOf, refusal, testsOf}
 use Rattle.rules.specs.Step.{apply}
-use Rattle.rules.specs.Tables.{Board, current, isHeld, isKey, keyOf, listed, noRegion, noSlot, noThread, numberOf, ownerOf, placeOf, regionAt, threadAt, threadOf, withDepth, withLast, withTables}
+use Rattle.rules.specs.Tables.{Board, channelOf, current, freePlace, inChannel, isHeld, isKey, isPlaced, keyOf, listed, noRegion, noSlot, noThread, numberOf, ownerOf, regionAt, threadAt, threadOf, withDepth, withLast, withTables}
 use Rattle.rules.specs.declared.Event.the-variants.{Begin}
 use Rattle.rules.specs.declared.Region.{Region}
 use Rattle.rules.specs.declared.SlotState.the-variants.{Empty, Waiting}
@@ -35,8 +35,9 @@ use Rattle.undo.specs.Claim.{Reach, Structure, then}
 use Rattle.undo.specs.Machine.{ends}
 use Rattle.undo.specs.Recovery.{older}
 use Rattle.undo.specs.Table.{any, put}
-use Rattle.rules.proofs.Tests.{begin-room, passed}
+use Rattle.rules.proofs.Tests.{channel-room, passed}
 use Rattle.rules.proofs.Sim.Depth.{keeps-deeper}
+use Rattle.rules.specs.Measures.{mostInChannel}
 
 -- ---- begin at depth 0
 
@@ -54,12 +55,20 @@ newKey t ts = keyOf t (threadAt t ts .last + 1)
 abbrev pub newRegion : ℕ → Tables → Region
 newRegion t ts = begun (newKey t ts) (current t ts) (ts .regions)
 
+-- a begin that opens a region has a free entry for it in its channel
+pub new-room : (ts : Tables) (t : ℕ) → refusal ts (Begin t) ≡ 0 → eqb (depthOf t ts) 0 ≡ true
+    → count (inChannel (newRegion t ts .channel)) (ts .regions) < mostInChannel
+unfolding testsOf
+new-room ts t r d =
+    rw (key-number t (threadAt t ts .last + 1) (omega (arith, leb-false 65535 (threadAt t ts .last) (rw d at (passed ts (Begin t) r 14)))))
+    (channel-room ts t r d)
+
 module _ {m : ℕ → List ℕ} {b : Board} {es : List Account} {s : u.State (List ℕ)} {h : v.History (List ℕ)} (rc : Reach m s h) (i : Sim b es s h) where
   st : Structure s h
   st = structured m s h rc
 
   module _ (t : ℕ) (lt : t < b .tables .size .threads) (d0 : depthIn t es ≡ 0) (few : openedIn t es < 65535)
-      (room : count isHeld (b .tables .regions) < 32) where
+      (room : count (inChannel (newRegion t (b .tables) .channel)) (b .tables .regions) < mostInChannel) where
     k-thread : threadOf (newKey t (b .tables)) ≡ t
     k-thread = rw (i .told .last t) (key-thread t (openedIn t es + 1) (omega arith))
 
@@ -83,11 +92,15 @@ module _ {m : ℕ → List ℕ} {b : Board} {es : List Account} {s : u.State (Li
     unlisted : listed (newKey t (b .tables)) (b .tables .regions) ≡ false
     unlisted = i .live (newKey t (b .tables)) ∙ rw unborn
 
-    new : any (isKey (newKey t (b .tables))) (b .tables .regions) ≡ false
+    new : any (isPlaced (newKey t (b .tables))) (b .tables .regions) ≡ false
     new = unlisted-any (newKey t (b .tables)) (b .tables .regions) k-nz unlisted
 
     free : any (isKey 0) (b .tables .regions) ≡ true
-    free = count-room isHeld (isKey 0) (b .tables .regions) (λ r e. not-false (eqb (r .key) 0) e) (rw (i .shape .regions .count) room)
+    free = count-room isHeld (isKey 0) (b .tables .regions) (λ r e. not-false (eqb (r .key) 0) e)
+        (rw (i .shape .regions .count) (room-left (b .tables .regions) (i .shape .regions) (numberOf (newKey t (b .tables))) room))
+
+    begun-placed : isPlaced (newKey t (b .tables)) (newRegion t (b .tables)) ≡ true
+    begun-placed = rw (is-same (newKey t (b .tables))) (is-same (channelOf (numberOf (newKey t (b .tables)))))
 
     good-begun : GoodRegion (newRegion t (b .tables))
     good-begun =
@@ -99,13 +112,13 @@ module _ {m : ℕ → List ℕ} {b : Board} {es : List Account} {s : u.State (Li
           finished = λ e. absurd (false≢true e);
         }
 
-    region-begun : (j : ℕ) → regionAt j (set (b .tables .regions) (placeOf 0 (b .tables .regions)) (newRegion t (b .tables)))
+    region-begun : (j : ℕ) → regionAt j (set (b .tables .regions) (freePlace (b .tables .regions)) (newRegion t (b .tables)))
         ≡ cond (eqb j (newKey t (b .tables))) (newRegion t (b .tables)) (regionAt j (b .tables .regions))
-    region-begun = region-new (newKey t (b .tables)) (b .tables .regions) (newRegion t (b .tables)) new k-nz free refl good-begun (i .shape .regions .good)
+    region-begun = region-new (newKey t (b .tables)) (b .tables .regions) (newRegion t (b .tables)) new k-nz free begun-placed good-begun (i .shape .regions .good)
 
-    pub listed-begun : (j : ℕ) → listed j (set (b .tables .regions) (placeOf 0 (b .tables .regions)) (newRegion t (b .tables)))
+    pub listed-begun : (j : ℕ) → listed j (set (b .tables .regions) (freePlace (b .tables .regions)) (newRegion t (b .tables)))
         ≡ (eqb j (newKey t (b .tables)) || listed j (b .tables .regions))
-    listed-begun = listed-new (newKey t (b .tables)) (b .tables .regions) (newRegion t (b .tables)) new k-nz free refl
+    listed-begun = listed-new (newKey t (b .tables)) (b .tables .regions) (newRegion t (b .tables)) new k-nz free begun-placed
 
     abbrev opener : Thread
     opener = withDepth 1 (withLast (threadAt t (b .tables) .last + 1) (threadAt t (b .tables)))
@@ -119,8 +132,8 @@ module _ {m : ℕ → List ℕ} {b : Board} {es : List Account} {s : u.State (Li
     shape-begun =
         let sh : Shape (b .tables) = i .shape in
         shape-kept (b .tables) _ refl refl
-        (regions-new (newKey t (b .tables)) (b .tables .regions) (newRegion t (b .tables)) new k-nz free refl good-begun
-        (once-one (cond (listed (current t (b .tables)) (b .tables .regions)) (current t (b .tables)) 0) 3) (sh .regions))
+        (regions-new (newKey t (b .tables)) (b .tables .regions) (newRegion t (b .tables)) new k-nz free begun-placed good-begun
+        (once-one (cond (listed (current t (b .tables)) (b .tables .regions)) (current t (b .tables)) 0) 3) room (sh .regions))
         (threads-stored t opener (b .tables) lt (sh .threads .logs t) sh) (sh .owner) (sh .lock) sh
 
     depth-begun : (j : ℕ) → depthIn j (Opens t ∷ es) ≡ cond (eqb j t) 1 (depthIn j es)
@@ -307,9 +320,9 @@ module _ {m : ℕ → List ℕ} {b : Board} {es : List Account} {s : u.State (Li
           flown = λ k l c e w. test (eqb k (newKey t (b .tables)))
               (λ d. let v : Empty ≡ Waiting c = sym (state-free l) ∙ (rw (region-begun k, d) at w) in let z : _≡_ {A = ℕ} 0 1 = cc in absurd (omega arith))
               (λ d. r .flown k l c (rw (region-begun k, d) at e) (rw (region-begun k, d) at w));
-          finished = each-set Finished (b .tables .regions) (placeOf 0 (b .tables .regions)) (newRegion t (b .tables)) noRegion
+          finished = each-set Finished (b .tables .regions) (freePlace (b .tables .regions)) (newRegion t (b .tables)) noRegion
               (λ e n. absurd (false≢true e)) (r .finished);
-          settled = each-set (λ x. commits x ≡ false) (b .tables .regions) (placeOf 0 (b .tables .regions)) (newRegion t (b .tables)) noRegion
+          settled = each-set (λ x. commits x ≡ false) (b .tables .regions) (freePlace (b .tables .regions)) (newRegion t (b .tables)) noRegion
               (test (isHeld (newRegion t (b .tables))) (λ d. rw d) (λ d. rw d)) (r .settled);
         }
 
@@ -327,7 +340,7 @@ keeps-begin t m b es r k =
     opens d (by s h rc i) rt =
         let d0 : depthIn t es ≡ 0 = sym (i .told .depth t) ∙ eqb-true (depthOf t (b .tables)) 0 d in
         let few : openedIn t es < 65535 = rw (i .told .last t) at (leb-false 65535 (threadAt t (b .tables) .last) (rw d at (passed (b .tables) (Begin t) r 14))) in
-        let room : count isHeld (b .tables .regions) < 32 = begin-room (b .tables) t r d in
+        let room = new-room (b .tables) t r d in
         record {
           simulated = test (listed (current t (b .tables)) (b .tables .regions))
               (λ y. let z = opens-after rc i t lt d0 few room y in by (z .0) (z .1) (z .2 .0) (z .2 .1))

@@ -12,7 +12,7 @@ use lib.Dec.{eqb, leb, ltb}
 use lib.ListN.{List·getD-eq-default, getD, length, length-map}
 use native.Mathlib.Omega.{arith}
 use borrow.Author.Tests.{eqb-false, eqb-true, leb-true, ltb-false, ltb-true, ne-eqb, not-true}
-use Rattle.rules.proofs.Places.{Unique, at-commit, good-free, held-commit, key-at, listed-any, listed-commit, listed-key, region-commit, region-none, unique-commit}
+use Rattle.rules.proofs.Places.{Unique, at-commit, channels-commit, good-free, held-commit, key-at, listed-any, listed-commit, listed-key, region-commit, region-none, unique-commit}
 use Rattle.rules.proofs.Lists.{any-map, any-none, count-le, count-map, count-zero, getD-map}
 use Rattle.rules.proofs.Sim.State.{Finished, GoodEntry, Kept, Logs, Shape, Sim, Simulated, Told, by}
 use Rattle.rules.proofs.Sim.Base.{clear-waits, memories-same, shape-kept, thread-stored, threads-8, threads-stored}
@@ -140,6 +140,7 @@ module _ {m : ℕ → List ℕ} {b : Board} {es : List Account} {s : u.State (Li
         count = length-map (b .tables .regions) (afterCommit k) ∙ sh .regions .count;
         good = λ j. rw (at-commit k (b .tables .regions) nz j) (good-after k (getD (b .tables .regions) j noRegion) nz (sh .regions .good j));
         unique = unique-commit k (b .tables .regions) nz (sh .regions .unique);
+        channels = λ c. omega (arith, channels-commit k (b .tables .regions) nz c, sh .regions .channels c);
         deps-once = λ j. rw (at-commit k (b .tables .regions) nz j) (once-after k (getD (b .tables .regions) j noRegion) (sh .regions .deps-once j));
       })
       (threads-stored (threadOf k) (freed k (threadAt (threadOf k) (b .tables))) (b .tables) k-thread

@@ -10,7 +10,7 @@ use lib.Dec.{eqb}
 use lib.ListN.{getD, length-map, length-set, set}
 use native.Mathlib.Omega.{arith}
 use borrow.Author.Tests.{eqb-false, eqb-true, leb-false, not-false}
-use Rattle.rules.proofs.Places.{Good, key-at, listed-at, listed-key, listed-stored, region-stored}
+use Rattle.rules.proofs.Places.{Good, Unique, entry-at, key-at, listed-at, listed-key, listed-stored, region-stored}
 use Rattle.rules.proofs.Lists.{getD-set, place-lt, place-true}
 use Rattle.rules.proofs.Sim.State.{GoodRegion, Keeps, Kept, Memories, Sim, Simulated, by}
 use Rattle.rules.proofs.Sim.Base.{clear-waits, lines-256}
@@ -23,7 +23,7 @@ use Rattle.rules.specs.History.{Account, Nothing, depthIn, endsIn, lines
 use Rattle.rules.specs.Refusal.{inFlight, isSetUp, refusal, testsOf}
 use Rattle.rules.specs.Slots.{carries, isFlight}
 use Rattle.rules.specs.Step.{apply}
-use Rattle.rules.specs.Tables.{Board, Memory, lineOf, listed, noRegion, placeOf, regionAt, withSlots}
+use Rattle.rules.specs.Tables.{Board, Memory, isPlaced, lineOf, listed, noRegion, placeOf, regionAt, withSlots}
 use Rattle.rules.specs.declared.Event.the-variants.{DataAck}
 use Rattle.rules.specs.declared.Region.{Region}
 use Rattle.rules.specs.declared.SlotState.the-variants.{Empty, Waiting}
@@ -50,8 +50,8 @@ module _ {m : ℕ → List ℕ} {b : Board} {es : List Account} {s : u.State (Li
   good-at : GoodRegion (regionAt k (b .tables .regions))
   good-at = i .shape .regions .good (placeOf k (b .tables .regions))
 
-  key : landedRegion k l b .key ≡ k
-  key = key-at k (b .tables .regions) in′
+  key : isPlaced k (landedRegion k l b) ≡ true
+  key = entry-at k (b .tables .regions) in′
 
   in-flight : isFlight (stateOf l (regionAt k (b .tables .regions) .slots)) ≡ true
   in-flight = sym (flight-carried l (good-at .distinct)) ∙ fl
@@ -62,7 +62,7 @@ module _ {m : ℕ → List ℕ} {b : Board} {es : List Account} {s : u.State (Li
   good-landed : GoodRegion (landedRegion k l b)
   good-landed =
       record {
-        free = λ e. absurd (eqb-false k 0 (listed-key k (b .tables .regions) in′) (sym key ∙ e));
+        free = λ e. absurd (eqb-false k 0 (listed-key k (b .tables .regions) in′) (sym (key-at k (b .tables .regions) in′) ∙ e));
         deps = good-at .deps;
         slots = length-map (regionAt k (b .tables .regions) .slots) (droppedSlot l) ∙ good-at .slots;
         distinct = distinct-dropped l (good-at .distinct);
@@ -154,8 +154,8 @@ module _ (rs : List Region) (l : ℕ) (g : Good rs) (e : any (λ r. any (carries
   found-key : getD rs (flightPlace l rs) noRegion .key ≢ 0
   found-key z = false≢true (rw (g (flightPlace l rs) .free z) at found-flight)
 
-  found-listed : listed (getD rs (flightPlace l rs) noRegion .key) rs ≡ true
-  found-listed = listed-at (flightPlace l rs) rs found-key (place-lt (λ r. any (carries l) (r .slots)) rs e)
+  found-listed : Unique rs → listed (getD rs (flightPlace l rs) noRegion .key) rs ≡ true
+  found-listed un = listed-at (flightPlace l rs) rs un found-key (place-lt (λ r. any (carries l) (r .slots)) rs e)
 
 pub lands : (l : ℕ) (m : Memory) (b : Board) (es : List Account) → refusal (b .tables) (DataAck l) ≡ 0 → Kept m b es
     → Simulated m (dataAck l b) (Nothing ∷ es) × Flown (dataAck l b)
@@ -179,7 +179,7 @@ lands l m b es r kept = go (kept .simulated)
 
     go : Simulated m b es → Simulated m (dataAck l b) (Nothing ∷ es) × Flown (dataAck l b)
     go (by s h rc i) =
-        let in′ : listed k (b .tables .regions) ≡ true = found-listed (b .tables .regions) l (i .shape .regions .good) flying in
+        let in′ : listed k (b .tables .regions) ≡ true = found-listed (b .tables .regions) l (i .shape .regions .good) flying (i .shape .regions .unique) in
         let at : placeOf k (b .tables .regions) ≡ flightPlace l (b .tables .regions)
         = i .shape .regions .unique (flightPlace l (b .tables .regions)) (found-key (b .tables .regions) l (i .shape .regions .good) flying) in
         let fl : any (carries l) (regionAt k (b .tables .regions) .slots) ≡ true = rw at (found-flight (b .tables .regions) l (i .shape .regions .good) flying) in

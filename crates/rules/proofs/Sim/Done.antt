@@ -40,9 +40,9 @@ done-free : doneRegion noRegion ≡ noRegion
 unfolding doneRegion
 done-free = refl
 
-done-key : (r : Region) → doneRegion r .key ≡ r .key
+done-key : (r : Region) → (doneRegion r .key ≡ r .key) × (doneRegion r .channel ≡ r .channel)
 unfolding doneRegion
-done-key r = refl
+done-key r = (refl, refl)
 
 good-done : (r : Region) → GoodRegion r → GoodRegion (doneRegion r)
 unfolding doneRegion
@@ -141,7 +141,7 @@ ready rs un e =
     (λ z. let held : isHeld (getD rs (z .0) noRegion) ≡ true
     = and-true (isHeld (getD rs (z .0) noRegion)) (getD rs (z .0) noRegion .done && all (eqb 0) (getD rs (z .0) noRegion .deps)) (rw (z .2) at e) .0 in
     let key : getD rs (z .0) noRegion .key ≢ 0 = eqb-false (getD rs (z .0) noRegion .key) 0 (not-true (eqb (getD rs (z .0) noRegion .key) 0) held) in
-    rw (z .2) (listed-at (z .0) rs key (z .1), rw (region-at (z .0) rs un key) (rw (z .2) at e)))
+    rw (z .2) (listed-at (z .0) rs un key (z .1), rw (region-at (z .0) rs un key) (rw (z .2) at e)))
     (earliest-in noRegion rs)
 
 -- ---- the tables of one commit

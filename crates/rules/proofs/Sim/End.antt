@@ -10,7 +10,7 @@ use lib.Dec.{eqb}
 use lib.ListN.{getD}
 use native.Mathlib.Omega.{arith}
 use borrow.Author.Tests.{eqb-false, eqb-true, leb-false, ne-eqb}
-use Rattle.rules.proofs.Places.{eqb-swap, key-at, listed-key, listed-stored, region-stored, regions-stored}
+use Rattle.rules.proofs.Places.{entry-at, eqb-swap, key-at, listed-key, listed-stored, region-stored, regions-stored}
 use Rattle.rules.proofs.Sim.State.{GoodRegion, Kept, Rest, Shape, Sim, Simulated, Told, by}
 use Rattle.rules.proofs.Sim.Base.{key-thread, logs-over, logs-same, memories-same, shape-kept, thread-stored, threads-8, threads-stored}
 use Rattle.rules.proofs.Sim.Flight.{flights, flown-rest}
@@ -20,7 +20,7 @@ use Rattle.rules.specs.End.{closed, endRegion, endedRegion, shallower, t
 use Rattle.rules.specs.Flight.{flown}
 use Rattle.rules.specs.History.{Account, Closes, depthIn, endsIn, linesIn, openedIn, regionIn, usesIn, writesIn}
 use Rattle.rules.specs.Refusal.{depthOf, refusal, testsOf}
-use Rattle.rules.specs.Tables.{Board, Memory, current, listed, ownerOf, placeOf, regionAt, threadAt, threadOf, withDepth, withTables}
+use Rattle.rules.specs.Tables.{Board, Memory, current, isPlaced, listed, ownerOf, placeOf, regionAt, threadAt, threadOf, withDepth, withTables}
 use Rattle.rules.specs.declared.Event.the-variants.{End}
 use Rattle.rules.specs.declared.Region.{Region}
 use Rattle.rules.specs.declared.SlotState.the-variants.{Waiting}
@@ -56,8 +56,8 @@ module _ {m : ℕ → List ℕ} {b : Board} {es : List Account} {s : u.State (Li
   pub ended-listed : listed (current t (b .tables)) (b .tables .regions) ≡ true
   ended-listed = open-listed rc i (current t (b .tables)) mine-open
 
-  key-over : overRegion t (b .tables) .key ≡ current t (b .tables)
-  key-over = key-at (current t (b .tables)) (b .tables .regions) ended-listed
+  key-over : isPlaced (current t (b .tables)) (overRegion t (b .tables)) ≡ true
+  key-over = entry-at (current t (b .tables)) (b .tables .regions) ended-listed
 
   region-over : (j : ℕ) → regionAt j (over t (b .tables) .regions)
       ≡ cond (eqb j (current t (b .tables))) (overRegion t (b .tables)) (regionAt j (b .tables .regions))
@@ -78,7 +78,7 @@ module _ {m : ℕ → List ℕ} {b : Board} {es : List Account} {s : u.State (Li
   good-over =
       let g : GoodRegion (regionAt (current t (b .tables)) (b .tables .regions)) = i .shape .regions .good (placeOf (current t (b .tables)) (b .tables .regions)) in
       record {
-        free = λ e. absurd (eqb-false (current t (b .tables)) 0 (listed-key (current t (b .tables)) (b .tables .regions) ended-listed) (sym key-over ∙ e));
+        free = λ e. absurd (eqb-false (current t (b .tables)) 0 (listed-key (current t (b .tables)) (b .tables .regions) ended-listed) (sym (key-at (current t (b .tables)) (b .tables .regions) ended-listed) ∙ e));
         deps = g .deps;
         slots = g .slots;
         distinct = g .distinct;

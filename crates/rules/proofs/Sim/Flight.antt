@@ -11,7 +11,7 @@ use lib.Dec.{eqb}
 use lib.ListN.{getD, set}
 use native.Mathlib.Omega.{arith}
 use borrow.Author.Tests.{eqb-false, eqb-true, not-true}
-use Rattle.rules.proofs.Places.{key-at, listed-key, listed-stored, region-stored}
+use Rattle.rules.proofs.Places.{entry-at, key-at, listed-key, listed-stored, region-stored}
 use Rattle.rules.proofs.Sim.State.{GoodRegion, Memories, Sim, Simulated, by}
 use Rattle.rules.proofs.Sim.Parts.{Flown, logs-kept, no-event, once-at, owner-stored, part-stored, shape-stored, told-kept}
 use Rattle.rules.proofs.SlotLaws.{distinct-flown, flight-state, flown-none, length-carried, length-flown, line-carried, offAt, state-flown, takesOff}
@@ -97,7 +97,7 @@ module _ {m : ℕ → List ℕ} {b : Board} {es : List Account} {s : u.State (Li
   slot-off : (l q : ℕ) → cond (eqb q k && off k b l) (u.Flies (s .cur l)) (s .slot l q)
       ≡ carryOf (flownLines k b) l (stateOf l (regionAt q (set (b .tables .regions) (placeOf k (b .tables .regions)) (flownRegion k b)) .slots))
   slot-off l q =
-      rw (region-stored k (b .tables .regions) (flownRegion k b) in′ (key-at k (b .tables .regions) in′) q)
+      rw (region-stored k (b .tables .regions) (flownRegion k b) in′ (entry-at k (b .tables .regions) in′) q)
       (test (eqb q k)
       (λ d. rw (d, eqb-true q k d, state-flown (b .tables .lock) (regionAt k (b .tables .regions) .ended) l (regionAt k (b .tables .regions) .slots)) (own-slot l))
       (λ d. rw d (i .slot l q ∙ sym (carry-same (b .car) (flownLines k b) l (stateOf l (regionAt q (b .tables .regions) .slots))
@@ -129,7 +129,7 @@ module _ {m : ℕ → List ℕ} {b : Board} {es : List Account} {s : u.State (Li
   unfolding flown act
   flown-sim =
       record {
-        shape = shape-stored (b .tables) k (flownRegion k b) in′ (key-at k (b .tables .regions) in′) good-flown (once-at k (i .shape)) (i .shape);
+        shape = shape-stored (b .tables) k (flownRegion k b) in′ (entry-at k (b .tables .regions) in′) good-flown (once-at k (i .shape)) (i .shape);
         memories = flown-memories;
         logs = logs-kept (set (b .tables .regions) (placeOf k (b .tables .regions)) (flownRegion k b)) (b .cur) (b .med) (flownLines k b) refl refl (i .logs);
         told = told-kept (λ t. refl) (λ t. refl) refl (no-event es) refl refl refl (i .told .writes) (i .told .uses) (i .told .owner) (i .told);
@@ -137,11 +137,11 @@ module _ {m : ℕ → List ℕ} {b : Board} {es : List Account} {s : u.State (Li
         med = i .med;
         lock = i .lock;
         slot = slot-off;
-        dep = λ a d. i .dep a d ∙ sym (rw (part-stored (b .tables) k (flownRegion k b) in′ (key-at k (b .tables .regions) in′) (λ x. x .deps) refl a));
-        live = λ q. listed-stored k (b .tables .regions) (flownRegion k b) in′ (key-at k (b .tables .regions) in′) q ∙ i .live q;
-        ended = λ q e. part-stored (b .tables) k (flownRegion k b) in′ (key-at k (b .tables .regions) in′) (λ x. x .ended) refl q
-            ∙ i .ended q (sym (listed-stored k (b .tables .regions) (flownRegion k b) in′ (key-at k (b .tables .regions) in′) q) ∙ e);
-        top = λ l. i .top l ∙ sym (owner-stored (b .tables) k (flownRegion k b) in′ (key-at k (b .tables .regions) in′) l);
+        dep = λ a d. i .dep a d ∙ sym (rw (part-stored (b .tables) k (flownRegion k b) in′ (entry-at k (b .tables .regions) in′) (λ x. x .deps) refl a));
+        live = λ q. listed-stored k (b .tables .regions) (flownRegion k b) in′ (entry-at k (b .tables .regions) in′) q ∙ i .live q;
+        ended = λ q e. part-stored (b .tables) k (flownRegion k b) in′ (entry-at k (b .tables .regions) in′) (λ x. x .ended) refl q
+            ∙ i .ended q (sym (listed-stored k (b .tables .regions) (flownRegion k b) in′ (entry-at k (b .tables .regions) in′) q) ∙ e);
+        top = λ l. i .top l ∙ sym (owner-stored (b .tables) k (flownRegion k b) in′ (entry-at k (b .tables .regions) in′) l);
         waits = flown-waits;
       }
 
@@ -168,7 +168,7 @@ flown-rest k b in′ others q l c en w =
     (λ d. others q l c d (rw (at, d) at en) (rw (at, d) at w))
   where
     at : regionAt q (set (b .tables .regions) (placeOf k (b .tables .regions)) (flownRegion k b)) ≡ cond (eqb q k) (flownRegion k b) (regionAt q (b .tables .regions))
-    at = region-stored k (b .tables .regions) (flownRegion k b) in′ (key-at k (b .tables .regions) in′) q
+    at = region-stored k (b .tables .regions) (flownRegion k b) in′ (entry-at k (b .tables .regions) in′) q
 
     stays : (st : SlotState) (e x : Bool) → (eqb c ripeCount || e) ≡ true → cond (isRipe e st && not x) InFlight st ≡ Waiting c → x ≡ true
     stays st e true d w = refl

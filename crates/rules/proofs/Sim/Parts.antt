@@ -14,7 +14,7 @@ use Rattle.rules.proofs.Places.{Once, listed-stored, region-stored, reg
 use Rattle.rules.proofs.Sim.State.{GoodRegion, Logs, Shape, Sim, Told, conv}
 use Rattle.rules.proofs.Views.{stateOf}
 use Rattle.rules.specs.History.{Account, depthIn, drawsOn, endsIn, lastWriter, linesIn, openedIn, regionIn, usesIn, writesIn}
-use Rattle.rules.specs.Tables.{Board, listed, ownerOf, placeOf, regionAt, threadAt, threadOf, withCar, withCur, withMed, withRegions, withTables}
+use Rattle.rules.specs.Tables.{Board, isPlaced, listed, ownerOf, placeOf, regionAt, threadAt, threadOf, withCar, withCur, withMed, withRegions, withTables}
 use Rattle.rules.specs.declared.Region.{Region}
 use Rattle.rules.specs.declared.SlotState.the-variants.{Waiting}
 use Rattle.rules.specs.declared.Tables.{Tables}
@@ -91,7 +91,7 @@ logs-kept {b} {s} {s′} rs cu me ca ch lo i =
 
 -- ---- the regions, one of them stored anew
 
-module _ (ts : Tables) (k : ℕ) (r : Region) (in′ : listed k (ts .regions) ≡ true) (e : r .key ≡ k) where
+module _ (ts : Tables) (k : ℕ) (r : Region) (in′ : listed k (ts .regions) ≡ true) (e : isPlaced k r ≡ true) where
   pub shape-stored : GoodRegion r → Once (r .deps) → Shape ts → Shape (withRegions (set (ts .regions) (placeOf k (ts .regions)) r) ts)
   shape-stored g o i = shape-kept ts _ refl refl (regions-stored k (ts .regions) r in′ e g o (i .regions)) (i .threads) (i .owner) (i .lock) i
 

@@ -19,7 +19,7 @@ use Rattle.rules.specs.Lists.{count}
 use Rattle.rules.specs.Refusal.{isSetUp, refusal}
 use Rattle.rules.specs.Slots.{hasSlot, isEmpty}
 use Rattle.rules.specs.Step.{apply}
-use Rattle.rules.specs.Tables.{Board, Memory, lineOf, listed, noEntry, noRegion, noSlot, noThread, ownerOf, placeOf, regionAt, startLines, threadAt, threadOf}
+use Rattle.rules.specs.Tables.{Board, Memory, inChannel, lineOf, listed, noEntry, noRegion, noSlot, noThread, ownerOf, placeOf, regionAt, startLines, threadAt, threadOf}
 use Rattle.rules.specs.declared.Entry.{Entry}
 use Rattle.rules.specs.declared.Event.{Event}
 use Rattle.rules.specs.declared.Region.{Region}
@@ -30,7 +30,7 @@ use Rattle.rules.specs.declared.Thread.{Thread}
 use Rattle.undo.specs.Claim.{Reach}
 use Rattle.undo.specs.Recovery.{olds}
 use Rattle.undo.specs.Table.{any}
-use Rattle.rules.specs.Measures.{ripeCount}
+use Rattle.rules.specs.Measures.{mostInChannel, ripeCount}
 
 -- ---- the tables by themselves
 
@@ -48,12 +48,17 @@ pub record GoodRegion (r : Region) : Type 0 where
   pub distinct : Distinct (r .slots)
   pub finished : r .done ≡ true → (r .ended ≡ true) × (hasSlot r ≡ false)
 
+-- "16 entries each"
+abbrev pub InChannels : List Region → Type 0
+InChannels rs = (c : ℕ) → count (inChannel c) rs ≤ mostInChannel
+
 -- the list of regions
 pub record GoodRegions (rs : List Region) : Type 0 where
   pub count : length rs ≡ 32
   pub good : (i : ℕ) → GoodRegion (getD rs i noRegion)
-  -- a key stands in one place only
+  -- a key stands in one place only, where a lookup finds it: in the channel of its number
   pub unique : (i : ℕ) → getD rs i noRegion .key ≢ 0 → placeOf (getD rs i noRegion .key) rs ≡ i
+  pub channels : InChannels rs
   -- the dependences are a set
   pub deps-once : (i a b : ℕ) → getD (getD rs i noRegion .deps) a 0 ≢ 0 → getD (getD rs i noRegion .deps) a 0 ≡ getD (getD rs i noRegion .deps) b 0 → a ≡ b
 

@@ -12,7 +12,7 @@ use lib.ListN.{getD, length, length-set, set}
 use borrow.Author.Tests.{eqb-false, eqb-true}
 use Rattle.rules.proofs.Codec.Bytes.{isLine}
 use Rattle.rules.proofs.Lists.{getD-set}
-use Rattle.rules.proofs.Places.{key-at, listed-key, listed-stored, region-stored}
+use Rattle.rules.proofs.Places.{entry-at, key-at, listed-key, listed-stored, region-stored}
 use Rattle.rules.proofs.Sim.State.{GoodRegion, Logs, Memories, Shape, Sim, Told}
 use Rattle.rules.proofs.Sim.Access.{open-undone, uses-access}
 use Rattle.rules.proofs.Sim.Parts.{logs-kept, once-at, owner-stored, part-stored, shape-stored, told-kept}
@@ -23,7 +23,7 @@ use Rattle.rules.proofs.Views.{carryOf, newest, stateOf}
 use Rattle.rules.specs.Access.{changeLine, stored, storedIn, wordAfter}
 use Rattle.rules.specs.History.{Account, Stores, depthIn, endsIn, lastWriter, linesIn, openedIn, regionIn, usesIn, writesIn}
 use Rattle.rules.specs.Slots.{isFull, slotFor, written}
-use Rattle.rules.specs.Tables.{Board, lineOf, listed, ownerOf, placeOf, regionAt, threadAt, withLocks, withOld, withOwners, withSlots, withTables, withThreads}
+use Rattle.rules.specs.Tables.{Board, isPlaced, lineOf, listed, ownerOf, placeOf, regionAt, threadAt, withLocks, withOld, withOwners, withSlots, withTables, withThreads}
 use Rattle.rules.specs.declared.Region.{Region}
 use Rattle.rules.specs.declared.Thread.{Thread}
 use Rattle.undo.proofs.Laws.{and-true, never, test}
@@ -111,7 +111,7 @@ module _ {b : Board} {es : List Account} {s : u.State (List ℕ)} {h : v.History
   store-slot : (x q : ℕ) → after ch lk (regionIn t es) l change s .slot x q
       ≡ carryOf (b .car) x (stateOf x (regionAt q (set (b .tables .regions) (placeOf (regionIn t es) (b .tables .regions)) (slotted (regionIn t es) l b)) .slots))
   store-slot x q =
-      rw (region-stored (regionIn t es) (b .tables .regions) (slotted (regionIn t es) l b) in′ (key-at (regionIn t es) (b .tables .regions) in′) q)
+      rw (region-stored (regionIn t es) (b .tables .regions) (slotted (regionIn t es) l b) in′ (entry-at (regionIn t es) (b .tables .regions) in′) q)
       (test (eqb q (regionIn t es))
       (λ d. test (eqb x l)
       (λ f. rw (f, d, eqb-true x l f, state-written (regionAt (regionIn t es) (b .tables .regions) .slots) l room))
@@ -148,8 +148,8 @@ module _ {b : Board} {es : List Account} {s : u.State (List ℕ)} {h : v.History
       r′ : Region
       r′ = slotted (regionIn t es) l b
 
-      key : r′ .key ≡ k
-      key = key-at k (b .tables .regions) in′
+      key : isPlaced k r′ ≡ true
+      key = entry-at k (b .tables .regions) in′
 
 -- a slot that waits after the write is the one written, or waited before
 pub after-waits : (ch : ℕ → List (u.Entry (List ℕ))) (lk : ℕ → Bool) (k l : ℕ) (change : List ℕ → List ℕ) (s : u.State (List ℕ)) (x q : ℕ) → after ch lk k l change s .slot x q ≡ u.Waits

@@ -16,7 +16,7 @@ use borrow.Author.Tests.{eq-eqb, eqb-false, eqb-true, leb-false, not-false}
 use lib.Seq.{set-set}
 use Rattle.rules.proofs.Recover.Live.{live-listed}
 use Rattle.rules.proofs.Lists.{each-set, getD-set}
-use Rattle.rules.proofs.Places.{key-at, listed-key, listed-stored, place-stored, region-stored}
+use Rattle.rules.proofs.Places.{entry-at, listed-key, listed-stored, place-stored, region-stored}
 use Rattle.rules.proofs.Sim.State.{Finished, Keeps, Kept, Rest, Sim, Simulated, by}
 use Rattle.rules.proofs.Sim.Access.{Joined, current-is, current-open, join, joins, open-undone, owner-ended, rest-read, undone-stays}
 use Rattle.rules.proofs.Sim.Base.{lines-256}
@@ -31,7 +31,7 @@ use Rattle.rules.specs.History.{Account, Stores, regionIn}
 use Rattle.rules.specs.Refusal.{depthOf, isForeignOpen, isSetUp, testsOf}
 use Rattle.rules.specs.Slots.{flownSlots, isFull, slotFor, written}
 use Rattle.rules.specs.Step.{apply, setup}
-use Rattle.rules.specs.Tables.{Board, Memory, current, lineOf, listed, locked, noRegion, ownerOf, placeOf, regionAt, startLines, threadAt, withDeps, withSlots, withTables}
+use Rattle.rules.specs.Tables.{Board, Memory, current, isPlaced, lineOf, listed, locked, noRegion, ownerOf, placeOf, regionAt, startLines, threadAt, withDeps, withSlots, withTables}
 use Rattle.rules.specs.declared.Event.the-variants.{Write}
 use Rattle.rules.specs.declared.Region.{Region}
 use Rattle.rules.specs.declared.SlotState.{SlotState}
@@ -142,9 +142,9 @@ module _ (t l k : ℕ) (change : List ℕ → List ℕ) (b : Board) (cur : curre
   write-regions =
       let r : Region = withDeps (joined (dependence k l (b .tables)) (regionAt k (b .tables .regions) .deps)) (regionAt k (b .tables .regions)) in
       rw (
-        region-stored k (b .tables .regions) r in′ (key-at k (b .tables .regions) in′) k,
+        region-stored k (b .tables .regions) r in′ (entry-at k (b .tables .regions) in′) k,
         is-same k,
-        place-stored k (b .tables .regions) r in′ (key-at k (b .tables .regions) in′) k,
+        place-stored k (b .tables .regions) r in′ (entry-at k (b .tables .regions) in′) k,
       )
       (sym (set-set (b .tables .regions) (placeOf k (b .tables .regions)) r (withSlots (written l (r .slots)) r)))
 
@@ -205,8 +205,8 @@ rest-wrote k l change b ths ow lo ol grow in′ en dn re =
     r′ : Region
     r′ = slotted k l b
 
-    key : r′ .key ≡ k
-    key = key-at k rs in′
+    key : isPlaced k r′ ≡ true
+    key = entry-at k rs in′
 
     rs′ : List Region
     rs′ = set rs (placeOf k rs) r′
@@ -254,7 +254,7 @@ write-joined {m} {b} {es} t l change rc i re op jo su inT inL so lo ro fr calm =
 slots-read : (k l : ℕ) (ts : Tables) → listed k (ts .regions) ≡ true → (q : ℕ) → regionAt q (read k l ts .regions) .slots ≡ regionAt q (ts .regions) .slots
 unfolding read
 slots-read k l ts in′ q =
-    part-stored ts k (withDeps (joined (dependence k l ts) (regionAt k (ts .regions) .deps)) (regionAt k (ts .regions))) in′ (key-at k (ts .regions) in′) (λ x. x .slots) refl q
+    part-stored ts k (withDeps (joined (dependence k l ts) (regionAt k (ts .regions) .deps)) (regionAt k (ts .regions))) in′ (entry-at k (ts .regions) in′) (λ x. x .slots) refl q
 
 pub write-keeps : (t l w mask y : ℕ) → Keeps (Write t l w mask y)
 unfolding apply testsOf read

@@ -13,10 +13,10 @@ use Rattle.tables.proofs.count_party.Statement.{statement}
 use Rattle.tables.proofs.count_party.Tie as tie
 
 abbrev Inv-loop : tie.InvT-loop
-Inv-loop regions s p c₀ i₀ c i = (i ≤ 32) × ((c ≤ i) × (c + count (isOfParty s p) (drop i (regionsOf regions)) ≡ count (isOfParty s p) (regionsOf regions)))
+Inv-loop regions s c p n₀ i₀ n i = (i ≤ 32) × ((n ≤ i) × (n + count (isOfParty s c p) (drop i (regionsOf regions)) ≡ count (isOfParty s c p) (regionsOf regions)))
 
 abbrev μ-loop : tie.MeasureT-loop
-μ-loop regions s p c₀ i₀ c i = 32 - i
+μ-loop regions s c p n₀ i₀ n i = 32 - i
 
 regions-length-requires : tie.Need-regions-length-requires Inv-loop μ-loop
 regions-length-requires c κs = search needs
@@ -30,8 +30,8 @@ is-of-party-requires c κs = search needs
 one-requires : tie.Need-one-requires Inv-loop μ-loop
 one-requires c κs = search needs
 
-add-c : tie.Need-add-c Inv-loop μ-loop
-add-c c = omega (arith, c .one .ensures, one-le (c .before .is-of-party .result))
+add-n : tie.Need-add-n Inv-loop μ-loop
+add-n c = omega (arith, c .one .ensures, one-le (c .before .is-of-party .result))
 
 add-i : tie.Need-add-i Inv-loop μ-loop
 add-i c = search needs
@@ -40,10 +40,10 @@ loop-less : tie.Need-loop-less Inv-loop μ-loop
 loop-less c = search needs
 
 loop-again : tie.Need-loop-again Inv-loop μ-loop
-loop-again c = let at = c .before .before .before in let s = at .before .before .args in let n = rows-length (s .regions .now) (at .before .regions-length .ensures) in (search needs, (omega (arith, c .one .ensures, one-le (c .before .is-of-party .result)), rw (c .one .ensures, c .before .is-of-party .ensures) (count-on (isOfParty (s .s) (s .p)) (at .loop .i) (regionsOf (s .regions .now)) noRegion (omega (arith, n)) (at .loop .c) ∙ at .loop .inv .1 .1)))
+loop-again c = let at = c .before .before .before in let s = at .before .before .args in let n = rows-length (s .regions .now) (at .before .regions-length .ensures) in (search needs, (omega (arith, c .one .ensures, one-le (c .before .is-of-party .result)), rw (c .one .ensures, c .before .is-of-party .ensures) (count-on (isOfParty (s .s) (s .c) (s .p)) (at .loop .i) (regionsOf (s .regions .now)) noRegion (omega (arith, n)) (at .loop .n) ∙ at .loop .inv .1 .1)))
 
 returns : tie.Need-returns Inv-loop μ-loop
-returns c = let at = c .before in let s = at .before .before .args in let n = rows-length (s .regions .now) (at .before .regions-length .ensures) in sym (count-end (isOfParty (s .s) (s .p)) (at .loop .c) (at .loop .i) (regionsOf (s .regions .now)) (omega (arith, n))) ∙ at .loop .inv .1 .1
+returns c = let at = c .before in let s = at .before .before .args in let n = rows-length (s .regions .now) (at .before .regions-length .ensures) in sym (count-end (isOfParty (s .s) (s .c) (s .p)) (at .loop .n) (at .loop .i) (regionsOf (s .regions .now)) (omega (arith, n))) ∙ at .loop .inv .1 .1
 
 pub count-party-spec : {M : Type 1} → statement M
 count-party-spec =
@@ -55,7 +55,7 @@ count-party-spec =
     loop-holds
     is-of-party-requires
     one-requires
-    add-c
+    add-n
     add-i
     loop-less
     loop-again
