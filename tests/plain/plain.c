@@ -29,7 +29,7 @@ static uint8_t channel_of(uint32_t number) { return number % PLAIN_CHANNELS; }
 static int find_listed(const plain_engine *e, plain_region r) {
     uint8_t channel = channel_of(r.number);
     for (uint32_t i = 0; i < e->listed_len; i++)
-        if (e->listed[i].channel == channel && same(e->listed[i].region, r)) return (int)i;
+        if (same(e->listed[i].region, r) && e->listed[i].channel == channel) return (int)i;
     return -1;
 }
 
