@@ -76,7 +76,7 @@ module _ (n : ℕ) (s : Shares) where
         low = λ t h. ltb-false 1 (partyOf t s) (two t h .0);
         absent = λ t h l. eqb-true (partyOf t s) 0
             (test (eqb (partyOf t s) 0) (λ d. d) (λ d. let y : true ≡ false = rw (le-leb n t l, d) at (two t h .1) in absurd (true≢false y)));
-        room = ltb-false 16 (reserveOf 0 s + reserveOf 1 s) (z .1);
+        room = let w = ltb-false 16 (reserveOf 0 s + reserveOf 1 s) (z .1) in omega arith;
       }
 
   not-unfit : Fit n s → isUnfit n s ≡ false

@@ -9,7 +9,7 @@ use lib.ListN.{List·getD-eq-default, getD, length, length-map, length-set, repl
 use native.Mathlib.Omega.{arith}
 use borrow.Author.Tests.{eqb-false, eqb-true, ltb-false, ltb-true, ne-eqb, not-true}
 use lib.Seq.{getD-set-other, getD-set-same}
-use Rattle.rules.proofs.Sim.State.{GoodRegion, GoodRegions, InChannels}
+use Rattle.rules.proofs.Sim.State.{GoodRegion, GoodRegions, SixteenEach}
 use Rattle.rules.specs.Commit.{afterCommit}
 use Rattle.rules.specs.Lists.{count, place}
 use Rattle.rules.specs.Measures.{mostInChannel}
@@ -58,13 +58,13 @@ place-listed k rs e = place-lt (isPlaced k) rs (listed-any k rs e)
 
 -- the entry of region k has its key, and stands in the channel of its number
 keyed : (k : ℕ) (r : Region) → isPlaced k r ≡ true → isKey k r ≡ true
-keyed k r e = and-true (eqb (r .key) k) (eqb (r .channel) (channelOf (numberOf k))) e .0
+keyed k r e = and-true (isKey k r) _ e .0
 
 pub key-of : (k : ℕ) (r : Region) → isPlaced k r ≡ true → r .key ≡ k
 key-of k r e = eqb-true (r .key) k (keyed k r e)
 
 channel-of : (k : ℕ) (r : Region) → isPlaced k r ≡ true → r .channel ≡ channelOf (numberOf k)
-channel-of k r e = eqb-true (r .channel) (channelOf (numberOf k)) (and-true (eqb (r .key) k) (eqb (r .channel) (channelOf (numberOf k))) e .1)
+channel-of k r e = eqb-true (r .channel) (channelOf (numberOf k)) (and-true (isKey k r) _ e .1)
 
 pub entry-at : (k : ℕ) (rs : List Region) → listed k rs ≡ true → isPlaced k (regionAt k rs) ≡ true
 entry-at k rs e = place-true (isPlaced k) rs noRegion (listed-any k rs e)
@@ -233,7 +233,7 @@ module _ (k : ℕ) (rs : List Region) (r : Region) (new : any (isPlaced k) rs �
       rw (q, old-place (getD rs i noRegion .key) x (ne-eqb (getD rs i noRegion .key) 0 m)) (un i m))
 
   -- the channel of the new entry has room for it
-  channels-new : count (inChannel (r .channel)) rs < mostInChannel → InChannels rs → InChannels (set rs (freePlace rs) r)
+  channels-new : count (inChannel (r .channel)) rs < mostInChannel → SixteenEach rs → SixteenEach (set rs (freePlace rs) r)
   channels-new l h c =
       test (eqb (r .channel) c)
       (λ d. rw (count-put (inChannel c) rs (freePlace rs) r noRegion free-place (rw (key, nz, d)) (rw free-key)) (rw (eqb-true (r .channel) c d) at l))

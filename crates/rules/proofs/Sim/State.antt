@@ -49,8 +49,8 @@ pub record GoodRegion (r : Region) : Type 0 where
   pub finished : r .done ≡ true → (r .ended ≡ true) × (hasSlot r ≡ false)
 
 -- "16 entries each"
-abbrev pub InChannels : List Region → Type 0
-InChannels rs = (c : ℕ) → count (inChannel c) rs ≤ mostInChannel
+abbrev pub SixteenEach : List Region → Type 0
+SixteenEach rs = (c : ℕ) → count (inChannel c) rs ≤ mostInChannel
 
 -- the list of regions
 pub record GoodRegions (rs : List Region) : Type 0 where
@@ -58,7 +58,7 @@ pub record GoodRegions (rs : List Region) : Type 0 where
   pub good : (i : ℕ) → GoodRegion (getD rs i noRegion)
   -- a key stands in one place only, where a lookup finds it: in the channel of its number
   pub unique : (i : ℕ) → getD rs i noRegion .key ≢ 0 → placeOf (getD rs i noRegion .key) rs ≡ i
-  pub channels : InChannels rs
+  pub channels : SixteenEach rs
   -- the dependences are a set
   pub deps-once : (i a b : ℕ) → getD (getD rs i noRegion .deps) a 0 ≢ 0 → getD (getD rs i noRegion .deps) a 0 ≡ getD (getD rs i noRegion .deps) b 0 → a ≡ b
 
