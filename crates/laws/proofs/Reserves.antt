@@ -21,7 +21,7 @@ use Rattle.laws.specs.Words.{opensIn}
 use Rattle.rules.proofs.Commits.{CommitsTold, commits-told}
 use Rattle.rules.proofs.Cuts.{settled-size}
 use Rattle.rules.proofs.Keys.{Keys, boardKeys, fewer, gone, held-keys, keys-after, keysIn, more as one-more, same}
-use Rattle.rules.proofs.Lists.{count-map, count-mono, count-put, count-room, count-set, place-lt, place-true}
+use Rattle.rules.proofs.Lists.{count-map, count-mono, count-none, count-put, count-room, count-set, place-lt, place-true}
 use Rattle.rules.proofs.Places.{Homes, homes, listed-at, room-left}
 use Rattle.rules.proofs.Sim.All.{every}
 use Rattle.rules.proofs.Sim.Base.{key-number, key-thread, threads-8}
@@ -287,9 +287,7 @@ after m b es Cut r kept k = after-other m b es Cut r kept k refl refl
 
 -- no place of the fresh list passes
 none-kept : (q : ℕ → Bool) → q 0 ≡ false → (n : ℕ) → count q (keysIn (replicate n noRegion)) ≡ 0
-unfolding count
-none-kept q z zero = refl
-none-kept q z (suc n) = rw z (none-kept q z n)
+none-kept q z n = count-map q (λ r. q (r .key)) (λ r. r .key) (replicate n noRegion) (λ r. refl) ∙ count-none (λ (r : Region). q (r .key)) noRegion z n
 
 at-start : (m : Memory) → Roomy (fresh m) []
 unfolding fresh sharesIn

@@ -1,12 +1,12 @@
 -- The values of cuts, fences, ends and acknowledgements, tied to the list.
 use Rattle.undo.specs.Machine as u
 use Rattle.undo.specs.History as v
-use Prim.Native.Nat.{_+_, _<_, suc, zero, ℕ}
+use Prim.Native.Nat.{_+_, _<_, suc, ℕ}
 use mathlib.Core.Path.{_∙_, _≡_, ap, refl, sym}
 use mathlib.Core.Bool.{Bool, _&&_, cond, false, false≢true, not, true, true≢false}
 use mathlib.Core.List.{List, [], _∷_}
 use lib.Dec.{eqb}
-use lib.ListN.{getD, length, replicate}
+use lib.ListN.{getD, length}
 use native.Mathlib.Omega.{arith}
 use borrow.Author.Tests.{eqb-false, eqb-true, ne-eqb, not-false, not-true}
 use Rattle.laws.proofs.Along.{along}
@@ -17,7 +17,7 @@ use Rattle.laws.specs.Laws.{CommitsAddUp, CommittedEnded, CutCounts, Fen
 use Rattle.laws.specs.Words.{isOtherIn, openRegionIn, opensIn, othersOf, toldIn, toldOf}
 use Rattle.rules.proofs.Commits.{CommitsTold, commits-told}
 use Rattle.rules.proofs.Recover.Expected.{committed-done, committed-ended}
-use Rattle.rules.proofs.Lists.{any-at, count-put, count-room, place-lt, place-true}
+use Rattle.rules.proofs.Lists.{any-at, count-none, count-put, count-room, place-lt, place-true}
 use Rattle.rules.proofs.Places.{key-at, listed-at, listed-key, place-listed, room-left}
 use Rattle.rules.proofs.Sim.State.{Kept, Sim, Simulated, by}
 use Rattle.rules.proofs.Sim.Ack.{log-ack}
@@ -106,14 +106,9 @@ balance m b es n (DataAck l) r k p = balance-settled b (dataAck l b) es (Nothing
 balance m b es n (Fence t) r k p = omega arith
 balance m b es n Cut r k p = omega arith
 
-none-held : (n : ℕ) → count isHeld (replicate n noRegion) ≡ 0
-unfolding count
-none-held zero = refl
-none-held (suc n) = none-held n
-
 fresh-held : (m : Memory) → held (fresh m) ≡ 0
 unfolding fresh
-fresh-held m = none-held 32
+fresh-held m = count-none isHeld noRegion refl 32
 
 balanced : (m : Memory) (rs : List (List ℕ)) → isByteMemory m ≡ true
     → toldIn rs (run (fresh m) rs .answers) + held (boardAfter m rs) ≡ length (opensIn (acceptedIn m rs))
@@ -153,7 +148,7 @@ module _ (m : Memory) (rs : List (List ℕ)) (told : CommitsTold m rs) {s : u.St
   pub uncommitted : (k : ℕ) → isIn k (opensIn (acceptedIn m rs)) ≡ true → not (committed m rs k) ≡ listed k (boardAfter m rs .tables .regions)
   uncommitted k e = let bo : s .born k ≡ true = sym (was-opened k) ∙ e in rw (committed-done m rs told rc i k, i .live k, bo)
 
-  pub held-uncommitted : held (boardAfter m rs) ≡ count (λ k. not (committed m rs k)) (opensIn (acceptedIn m rs))
+  held-uncommitted : held (boardAfter m rs) ≡ count (λ k. not (committed m rs k)) (opensIn (acceptedIn m rs))
   held-uncommitted =
       held-count (boardAfter m rs .tables .regions) (i .shape .regions .unique) (opens (acceptedIn m rs) (i .told .numbers) .1) in-list
       ∙ sym (count-in (λ k. not (committed m rs k)) (λ k. listed k (boardAfter m rs .tables .regions)) (opensIn (acceptedIn m rs)) uncommitted)

@@ -86,9 +86,6 @@ each-same : (g : ℕ → ℕ) (ks : List ℕ) → ((k : ℕ) → g k ≡ k) → 
 each-same g [] h = refl
 each-same g (k ∷ ks) h = rw (h k, each-same g ks h)
 
-keys-changed : (f : Region → Region) (rs : List Region) → ((r : Region) → f r .key ≡ r .key) → keysIn (map f rs) ≡ keysIn rs
-keys-changed f rs h = keys-mapped f (λ k. k) rs h ∙ each-same (λ k. k) (keysIn rs) (λ k. refl)
-
 -- ---- the rules, before what commits
 
 flown-names : (k : ℕ) (b : Board) → boardNames (flown k b) ≡ boardNames b
@@ -167,7 +164,7 @@ pub settled-keys : (ts : Tables) → keysIn (settled ts .tables .regions) ≡ ma
 unfolding settled doneRegion
 settled-keys ts =
     settle-keys (length (ts .regions)) (withRegions (map doneRegion (ts .regions)) ts)
-    ∙ ap (map (gone (settle (length (ts .regions)) (withRegions (map doneRegion (ts .regions)) ts) .keys))) (keys-changed doneRegion (ts .regions) (λ r. refl))
+    ∙ ap (map (gone (settle (length (ts .regions)) (withRegions (map doneRegion (ts .regions)) ts) .keys))) (keys-named (map doneRegion (ts .regions)) (ts .regions) (names-changed doneRegion (ts .regions) (λ r. refl)))
 
 -- ---- an accepted event
 

@@ -5,7 +5,7 @@ use mathlib.Core.Logic.{_≢_}
 use mathlib.Core.Bool.{_||_, Bool, cond, false, false≢true, not, true}
 use mathlib.Core.List.{List, [], _∷_, map}
 use lib.Dec.{eqb}
-use lib.ListN.{List·getD-map, getD, length, set}
+use lib.ListN.{List·getD-map, getD, length, replicate, set}
 use native.Mathlib.Omega.{arith}
 use borrow.Author.Tests.{eqb-false, eqb-true}
 use lib.Seq.{getD-set-other, getD-set-same, lt-length-set}
@@ -185,6 +185,12 @@ module _ {A : Type 0} where
 
   pub count-zero : (p : A → Bool) (xs : List A) → count p xs ≡ 0 → any p xs ≡ false
   count-zero p xs e = test (any p xs) (λ a. let z = count-pos p xs a in absurd (omega arith)) (λ a. a)
+
+  -- an element that does not pass, again and again
+  pub count-none : (p : A → Bool) (x : A) → p x ≡ false → (n : ℕ) → count p (replicate n x) ≡ 0
+  unfolding count
+  count-none p x e zero = refl
+  count-none p x e (suc n) = rw e (count-none p x e n)
 
   -- fewer pass the narrower test, and fewer still where one passes the wider alone
   pub count-mono : (p q : A → Bool) (xs : List A) → ((x : A) → p x ≡ true → q x ≡ true) → count p xs ≤ count q xs

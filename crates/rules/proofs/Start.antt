@@ -14,6 +14,7 @@ use Rattle.rules.proofs.Places.{getD-same, once-one}
 use Rattle.rules.proofs.Sim.State.{GoodRegions, Kept, Logs, Shape, Sim, Told, by}
 use Rattle.rules.proofs.Sim.Base.{clear-waits}
 use Rattle.rules.proofs.Sim.Begin.{free-slots, state-free}
+use Rattle.rules.proofs.Lists.{count-none}
 use Rattle.rules.specs.Claim.{isByte, isByteMemory}
 use Rattle.rules.specs.Commit.{commits}
 use Rattle.rules.specs.History.{depthIn, endsIn, lastWriter, linesIn, openedIn, usesIn, writesIn}
@@ -66,18 +67,13 @@ free-region j = getD-same 32 (placeOf j (replicate 32 noRegion)) noRegion
 none-listed : (j : ℕ) → listed j (replicate 32 noRegion) ≡ false
 none-listed j = test (eqb j 0) (λ z. rw z) (λ z. rw (z, flip j 0 z))
 
-none-in : (c n : ℕ) → count (inChannel c) (replicate n noRegion) ≡ 0
-unfolding count
-none-in c zero = refl
-none-in c (suc n) = none-in c n
-
 regions-fresh : GoodRegions (replicate 32 noRegion)
 regions-fresh =
     record {
       count = refl;
       good = λ j. rw (getD-same 32 j noRegion) (record { free = λ e. refl; deps = refl; slots = refl; distinct = free-slots 8; finished = λ e. absurd (false≢true e) });
       unique = λ j x. absurd (x (rw (getD-same 32 j noRegion)));
-      channels = λ c. omega (arith, none-in c 32);
+      channels = λ c. omega (arith, count-none (inChannel c) noRegion refl 32);
       deps-once = λ j. rw (getD-same 32 j noRegion) (once-one 0 3);
     }
 
