@@ -65,7 +65,7 @@ fn is_ripe(row: &RegionRow) -> bool
     if row[2] == 1 {
         return can_commit(row);
     }
-    row[1] % 2 == 1 && !has_slot(row)
+    rows::ended_in(row[1]) && !has_slot(row)
 }
 
 // The region is done if it has ended and has no slot.
@@ -73,7 +73,7 @@ fn become_done(row: &mut RegionRow)
     ensures { λ _. ⌜ regionOf (left row) ≡ doneRegion (regionOf (was row)) ⌝ }
 {
     rows::region_length(row);
-    if row[1] % 2 == 1 {
+    if rows::ended_in(row[1]) {
         if !has_slot(row) {
             row[2] = 1;
         }

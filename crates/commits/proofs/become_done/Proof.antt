@@ -1,7 +1,7 @@
 use mathlib.Core.Path.{_∙_, sym}
 use native.Mathlib.Omega.{arith}
 use borrow.Author.Needs.{needs}
-use borrow.Author.Tests.{eq-eqb, ne-eqb, not-false, not-true}
+use borrow.Author.Tests.{not-false, not-true}
 use Rattle.rows.specs.Row.{regionOf}
 use Rattle.commits.proofs.Row.{done-open, done-slot, done-yes}
 use Rattle.commits.proofs.become_done.Statement.{statement}
@@ -10,8 +10,11 @@ use Rattle.commits.proofs.become_done.Tie as tie
 region-length-requires : tie.Need-region-length-requires
 region-length-requires c κs = search needs
 
-element-copy-out-if1 : tie.Need-element-copy-out-if1
-element-copy-out-if1 c = search needs
+element-copy-out-ended-in : tie.Need-element-copy-out-ended-in
+element-copy-out-ended-in c = search needs
+
+ended-in-requires : tie.Need-ended-in-requires
+ended-in-requires c κs = search needs
 
 has-slot-requires : tie.Need-has-slot-requires
 has-slot-requires c κs = search needs
@@ -22,8 +25,8 @@ element-write-row c = search needs
 returns : tie.Need-returns
 unfolding regionOf
 returns c =
-    let w = c .before .before .before .before .before in
-    done-yes (w .before .before .args .row .now) (omega (arith, w .region-length .ensures)) (eq-eqb _ _ (c .before .before .before .if1 .taken))
+    let w = c .before .before .before .before .before .before in
+    done-yes (w .before .before .args .row .now) (omega (arith, w .region-length .ensures)) (sym (c .before .before .before .before .ended-in .ensures) ∙ c .before .before .before .if1 .taken)
     (sym (c .before .has-slot .ensures) ∙ not-true _ (c .if2 .taken))
 
 returns-2 : tie.Need-returns-2
@@ -31,14 +34,15 @@ returns-2 c = done-slot _ (sym (c .before .has-slot .ensures) ∙ not-false _ (c
 
 returns-3 : tie.Need-returns-3
 unfolding regionOf
-returns-3 c = done-open _ (ne-eqb _ _ (c .if1 .left))
+returns-3 c = done-open _ (sym (c .before .ended-in .ensures) ∙ c .if1 .left)
 
 pub become-done-spec : {M : Type 1} → statement M
 become-done-spec =
     tie.close
     (tie.spec
     region-length-requires
-    element-copy-out-if1
+    element-copy-out-ended-in
+    ended-in-requires
     has-slot-requires
     element-write-row
     returns

@@ -17,19 +17,22 @@ returns : tie.Need-returns
 unfolding regionOf
 returns c = c .can-commit .ensures ∙ sym (ripe-done (regionOf (c .before .before .before .args .row .now)) (eq-eqb _ _ (c .before .if1 .taken)))
 
-element-copy-out-if2 : tie.Need-element-copy-out-if2
-element-copy-out-if2 c = search needs
+element-copy-out-ended-in : tie.Need-element-copy-out-ended-in
+element-copy-out-ended-in c = search needs
+
+ended-in-requires : tie.Need-ended-in-requires
+ended-in-requires c κs = search needs
 
 has-slot-requires : tie.Need-has-slot-requires
 has-slot-requires c κs = search needs
 
 returns-2 : tie.Need-returns-2
 unfolding regionOf
-returns-2 c = simp (ne-eqb _ _ (c .before .before .before .if1 .left), eq-eqb _ _ (c .before .if2 .taken)) (ap not (c .has-slot .ensures))
+returns-2 c = simp (ne-eqb _ _ (c .before .before .before .before .if1 .left), sym (c .before .before .ended-in .ensures) ∙ c .before .if2 .taken) (ap not (c .has-slot .ensures))
 
 returns-3 : tie.Need-returns-3
 unfolding regionOf
-returns-3 c = simp (ne-eqb _ _ (c .before .before .if1 .left), ne-eqb _ _ (c .if2 .left))
+returns-3 c = simp (ne-eqb _ _ (c .before .before .before .if1 .left), sym (c .before .ended-in .ensures) ∙ c .if2 .left, c .if2 .left)
 
 pub is-ripe-spec : {M : Type 1} → statement M
 is-ripe-spec =
@@ -38,7 +41,8 @@ is-ripe-spec =
     element-copy-out-if1
     can-commit-requires
     returns
-    element-copy-out-if2
+    element-copy-out-ended-in
+    ended-in-requires
     has-slot-requires
     returns-2
     returns-3)
