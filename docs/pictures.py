@@ -12,7 +12,7 @@ from html import escape
 from pathlib import Path
 
 ROOT = Path(__file__).resolve().parent.parent
-COUNT = 4  # writes after which a waiting slot may fly
+COUNT = 4  # different other lines, written since the last write of its own, after which a waiting slot may fly
 
 
 # ---- what the board did ----
@@ -36,7 +36,7 @@ class Span:
 class Region(Span):
     def __init__(self, run, thread, number):
         super().__init__(run, 'region', f'{thread}.{number}')
-        self.thread, self.depends, self.slots, self.counts, self.log = thread, set(), {}, {}, []
+        self.thread, self.depends, self.slots, self.seen, self.log = thread, set(), {}, {}, []  # seen: by line, the other lines written since
         self.become('open')
 
 
@@ -99,18 +99,18 @@ class Run:
             self.logs.append(entry)
         for other, slot in region.slots.items():
             if other != line and slot.state == 'waiting':
-                region.counts[other] = min(COUNT, region.counts[other] + 1)
+                region.seen[other].add(line)
         if line not in region.slots:
             region.slots[line] = Span(self, 'slot', region.name, line)
             self.slots.append(region.slots[line])
         if not region.slots[line].states or region.slots[line].state != 'waiting':
             region.slots[line].become('waiting')
-        region.counts[line] = 0
+        region.seen[line] = set()
 
     def fly(self):
         for region in self.regions:
             for line, slot in region.slots.items():
-                if slot.state == 'waiting' and line not in self.locked and (region.counts[line] == COUNT or region.state != 'open'):
+                if slot.state == 'waiting' and line not in self.locked and (len(region.seen[line]) >= COUNT or region.state != 'open'):
                     slot.become('in flight')
 
     def flight(self, line, but=None):
@@ -355,7 +355,7 @@ def slot_states(picture, run, y):
     forward(picture, run, y, 2, ['line unlocked, and', 'count 4 or region ended'], [('slot', 'waiting', 'in flight')])
     middle, low = box_x(2) + BOX_WIDTH // 2, y + BOX_HEIGHT
     picture.arrow(f'M{middle - 22} {y}C{middle - 40} {y - 44} {middle + 40} {y - 44} {middle + 22} {y - 2}')
-    picture.text(middle, y - 42, 'write to its line: count 0; to another line: count + 1, to at most 4')
+    picture.text(middle, y - 42, 'write to its line: count 0; to a line not counted yet: count + 1, to at most 4')
     flying, waiting, empty = box_x(3) + BOX_WIDTH // 2, box_x(2) + 84, box_x(1) + BOX_WIDTH // 2
     picture.arrow(f'M{flying - 40} {low}C{flying - 70} {low + 36} {waiting + 60} {low + 36} {waiting} {low + 3}')
     label(picture, run, (flying + waiting) // 2 - 24, low + 44, ['write to its line: the flight is taken back'], [('slot', 'in flight', 'waiting')])

@@ -1,4 +1,4 @@
-/* The cases P1 to P11 of document 01, the 33rd logged line, counting, fences inside a region, writes of bytes, spent numbers, parties and reserves,
+/* The cases P1 to P11 of document 01, the 33rd logged line, counts, fences inside a region, writes of bytes, spent numbers, parties and reserves,
    channels, and the calls' own refusals. */
 #include <stdio.h>
 #include <string.h>
@@ -243,37 +243,245 @@ static void logged_33(void) {
     run();
 }
 
-/* What demand 3 does not tell: repeats count, a lock does not stop counting, a repeat starts its own slot anew. */
-static void counting(void) {
-    setup("repeats count", 1, 8);
+/* ---- Counts: four different other lines since the last write of this one ---- */
+
+/* A data acknowledgement tells whether the line has flown. */
+static void waits(uint8_t l) { data_ack(l, 22, 0); }
+static void flies(uint8_t l) { data_ack(l, 0, 0); }
+
+/* Writes of thread 0, to each of these lines. */
+static void write_lines(uint8_t from, uint8_t to) {
+    for (uint8_t l = from; l <= to; l++) write_word(0, l, 0, 1, 0);
+}
+
+/* Thread 0 writes line 0 first, and its log entry is persistent. */
+static void line_0(const char *title) {
+    setup(title, 2, 12);
     begin(0, 0, 0);
     write_word(0, 0, 0, 1, 0);
     log_ack(0, 0, 0);
-    for (int i = 0; i < 4; i++) write_word(0, 1, 0, 1, 0);
-    data_ack(0, 0, 0);
+}
+
+static void repeats(void) {
+    line_0("a repeat counts once");
+    for (int i = 0; i < 9; i++) write_word(0, 1, (uint8_t)(i % 8), 1, 0);
+    waits(0);
+    write_lines(2, 3);
+    write_lines(1, 3);
+    waits(0);
+    write_word(0, 4, 0, 1, 0);
+    flies(0);
     write_word(0, 0, 0, 2, 0); /* owned, not logged again: a new slot */
     log_ack(0, 22, 0);
+    waits(0);
     run();
-    setup("counts under a lock", 1, 8);
-    begin(0, 0, 0);
-    for (uint8_t l = 0; l <= 4; l++) write_word(0, l, 0, 1, 0);
-    data_ack(0, 22, 0);
-    log_ack(0, 0, 0);
-    data_ack(0, 0, 0);
-    run();
-    setup("a repeat counts from 0", 1, 8);
-    begin(0, 0, 0);
-    write_word(0, 0, 0, 1, 0);
-    log_ack(0, 0, 0);
-    for (uint8_t l = 1; l <= 3; l++) write_word(0, l, 0, 1, 0);
-    write_word(0, 0, 1, 1, 0);
-    for (uint8_t l = 4; l <= 6; l++) write_word(0, l, 0, 1, 0);
-    data_ack(0, 22, 0);
-    write_word(0, 7, 0, 1, 0);
-    write_word(0, 0, 2, 1, 0); /* takes the flight back */
-    data_ack(0, 22, 0);
+    line_0("two lines in turn count two");
+    for (int i = 0; i < 5; i++) write_lines(1, 2);
+    write_word(0, 3, 0, 1, 0);
+    waits(0);
+    write_lines(1, 2);
+    waits(0);
+    write_word(0, 4, 0, 1, 0);
+    flies(0);
     run();
 }
+
+/* A write of the line itself does not count: it begins anew, and lines that had counted count again. So it does where it takes a flight back, and it
+   counts for others as ever. */
+static void begun_anew(void) {
+    line_0("the line itself");
+    for (int i = 0; i < 5; i++) write_word(0, 0, 1, 1, 0);
+    write_lines(1, 3);
+    waits(0);
+    write_word(0, 0, 1, 1, 0);
+    write_lines(2, 4);
+    waits(0);
+    write_word(0, 1, 0, 1, 0); /* line 0 flies */
+    write_word(0, 0, 2, 1, 0);
+    waits(0);
+    log_ack(1, 0, 0);
+    write_word(0, 5, 0, 1, 0);
+    waits(0);
+    write_lines(2, 3);
+    waits(0);
+    flies(1); /* has counted the write that took the flight back */
+    write_word(0, 4, 0, 1, 0);
+    flies(0);
+    run();
+}
+
+/* Lines are written in one order and then in another; each has a set of its own. */
+static void sets_apart(void) {
+    setup("each its own", 1, 256);
+    begin(0, 0, 0);
+    write_lines(0, 2);
+    write_word(0, 255, 0, 1, 0);
+    for (uint8_t l = 0; l <= 2; l++) log_ack(l, 0, 0);
+    log_ack(255, 0, 0);
+    write_word(0, 1, 0, 1, 0); /* counted by line 0 before, and new to 2 and 255 */
+    waits(0);
+    write_word(0, 4, 0, 1, 0);
+    flies(0);
+    waits(2);
+    write_word(0, 5, 0, 1, 0);
+    waits(1);
+    flies(2);
+    waits(255);
+    write_word(0, 1, 0, 1, 0);
+    write_word(0, 6, 0, 1, 0);
+    waits(1);
+    flies(255);
+    run();
+}
+
+/* A lock does not stop the counting, and a repeat under it counts nothing either. */
+static void under_a_lock(void) {
+    setup("counts under a lock", 1, 8);
+    begin(0, 0, 0);
+    write_lines(0, 4);
+    waits(0);
+    log_ack(0, 0, 0);
+    flies(0);
+    log_ack(1, 0, 0); /* has counted three */
+    waits(1);
+    write_lines(2, 4);
+    waits(1);
+    write_word(0, 5, 0, 1, 0);
+    flies(1);
+    run();
+    setup("repeats under a lock", 1, 8);
+    begin(0, 0, 0);
+    write_word(0, 0, 0, 1, 0);
+    for (int i = 0; i < 5; i++) write_lines(1, 2);
+    log_ack(0, 0, 0);
+    waits(0);
+    write_word(0, 3, 0, 1, 0);
+    waits(0);
+    write_word(0, 4, 0, 1, 0);
+    flies(0);
+    run();
+}
+
+/* Line 0 is locked while its four neighbours fly and land: they count although their slots are empty. A line that gets a new slot counts as before. */
+static void landed(void) {
+    setup("landed lines count", 1, 12);
+    begin(0, 0, 0);
+    write_lines(0, 4);
+    for (uint8_t l = 1; l <= 4; l++) {
+        log_ack(l, 0, 0);
+        write_word(0, l + 4, 0, 1, 0);
+        flies(l);
+    }
+    log_ack(0, 0, 0);
+    flies(0);
+    log_ack(8, 0, 0);
+    for (int i = 0; i < 3; i++) write_lines(1, 3);
+    waits(8);
+    write_word(0, 0, 0, 1, 0);
+    flies(8);
+    run();
+    setup("one landed line counts", 1, 12);
+    begin(0, 0, 0);
+    write_lines(0, 4);
+    log_ack(1, 0, 0);
+    write_word(0, 5, 0, 1, 0);
+    flies(1);
+    log_ack(0, 0, 0);
+    flies(0);
+    run();
+}
+
+/* The fourth line comes in refused writes, and one of them is of the line itself. */
+static void refused_writes(void) {
+    line_0("refused writes");
+    begin(1, 0, 0);
+    write_word(1, 4, 0, 1, 0);
+    write_lines(1, 3);
+    write_word(0, 4, 0, 1, 17);
+    write_word(0, 5, 8, 1, 5);
+    write_word(0, 12, 0, 1, 4);
+    write_word(2, 5, 0, 1, 3);
+    write_bytes(0, 5, 0, 0, 1, 27);
+    waits(0);
+    end(1, 0, 0);
+    write_word(0, 4, 0, 1, 18);
+    waits(0);
+    write_bytes(0, 0, 0, 0, 1, 27);
+    write_word(0, 0, 8, 1, 5);
+    write_word(0, 5, 0, 1, 0);
+    flies(0);
+    run();
+    setup("no slot for the fourth", 1, 9);
+    begin(0, 0, 0);
+    write_lines(0, 7);
+    log_ack(4, 0, 0);
+    write_word(0, 8, 0, 1, 20);
+    waits(4);
+    write_word(0, 0, 0, 1, 0);
+    flies(4);
+    run();
+}
+
+/* Writes of bytes go by the line, whatever their word and mask, beside writes of words. */
+static void counted_bytes(void) {
+    line_0("bytes count by line");
+    for (uint8_t i = 0; i < 8; i++) write_bytes(0, 1, i, (uint8_t)(1 << i), 0, 0);
+    write_word(0, 1, 0, 1, 0);
+    write_word(0, 2, 0, 1, 0);
+    write_bytes(0, 2, 0, 255, 1, 0);
+    write_bytes(0, 3, 0, 1, 0, 0);
+    waits(0);
+    write_bytes(0, 0, 7, 128, 0, 0); /* begins anew */
+    for (uint8_t l = 1; l <= 3; l++) write_bytes(0, l, 0, 1, 0, 0);
+    waits(0);
+    write_bytes(0, 4, 0, 1, 0, 0); /* flies */
+    write_bytes(0, 0, 0, 1, 0, 0);
+    waits(0);
+    for (uint8_t l = 1; l <= 4; l++) write_bytes(0, l, 0, 1, 0, 0);
+    flies(0);
+    run();
+}
+
+/* Another thread's writes count nothing here, nor do those of the thread's region before; reads count nothing; nested begins go on with the region. */
+static void counted_elsewhere(void) {
+    line_0("another thread's writes");
+    begin(1, 0, 0);
+    for (uint8_t l = 4; l <= 8; l++) write_word(1, l, 0, 1, 0);
+    waits(0);
+    write_lines(1, 3);
+    waits(0);
+    write_word(1, 9, 0, 1, 0);
+    waits(0);
+    write_word(0, 10, 0, 1, 0);
+    flies(0);
+    run();
+    line_0("the region before");
+    write_lines(1, 3);
+    end(0, 0, 0);
+    for (uint8_t l = 1; l <= 3; l++) log_ack(l, 0, 0);
+    for (uint8_t l = 0; l <= 3; l++) data_ack(l, 0, l == 3);
+    begin(0, 0, 0);
+    write_lines(0, 1);
+    log_ack(0, 0, 0);
+    write_lines(4, 5);
+    waits(0);
+    write_word(0, 6, 0, 1, 0);
+    flies(0);
+    run();
+    line_0("reads, and nested begins");
+    write_lines(1, 2);
+    begin(0, 0, 0);
+    for (uint8_t l = 4; l <= 8; l++) read_word(0, l, 0, 0, 0);
+    write_word(0, 3, 0, 1, 0);
+    waits(0);
+    read_word(0, 0, 0, 0, 1);
+    end(0, 0, 0);
+    write_word(0, 4, 0, 1, 0);
+    flies(0);
+    run();
+}
+
+/* ---- Fences and bytes ---- */
 
 /* Inside a region, at any depth, a fence looks at the thread's other regions; outside at all of them. */
 static void fences(void) {
@@ -352,11 +560,11 @@ static void same_bytes(void) {
     begin(0, 0, 0);
     write_bytes(0, 0, 0, 1, 0, 0);
     log_ack(0, 0, 0);
-    for (int i = 0; i < 3; i++) write_bytes(0, 1, 0, 1, 0, 0);
-    data_ack(0, 22, 0);
-    write_bytes(0, 1, 0, 1, 0, 0);
-    data_ack(0, 0, 0);
-    for (uint8_t l = 2; l < 9; l++) write_bytes(0, l, 0, 1, 0, 0);
+    for (uint8_t l = 1; l <= 3; l++) write_bytes(0, l, 0, 1, 0, 0);
+    waits(0);
+    write_bytes(0, 4, 0, 1, 0, 0);
+    flies(0);
+    for (uint8_t l = 5; l < 9; l++) write_bytes(0, l, 0, 1, 0, 0);
     write_bytes(0, 0, 0, 1, 0, 20);
     end(0, 0, 0);
     begin(0, 0, 0);
@@ -717,7 +925,14 @@ int main(void) {
     p9_and_p10();
     p11();
     logged_33();
-    counting();
+    repeats();
+    begun_anew();
+    sets_apart();
+    under_a_lock();
+    landed();
+    refused_writes();
+    counted_bytes();
+    counted_elsewhere();
     fences();
     each_byte();
     shared_word("bytes of one word, both commit", 1);

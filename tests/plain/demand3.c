@@ -1,6 +1,7 @@
 /* Demand 3 tried on the plain engine: seeded event lists, a cut after any event, recovery steps with cuts between.
    What must be found is worked out of the list of accepted events and the set of committed regions. So is what a party holds in a channel: below its
-   reserve it never meets 16 at a begin whose number falls there. */
+   reserve it never meets 16 at a begin whose number falls there. So is the count of every slot: the different other lines that its region has written
+   since its last write of the slot's line. */
 #include <stdio.h>
 #include <stdlib.h>
 #include <string.h>
@@ -146,6 +147,38 @@ static void check_channel(const plain_engine *e, int channel) {
     }
 }
 
+/* ---- Counts ---- */
+
+enum { NEIGHBOURS = 4 }; /* the request's number, whatever the engine's is */
+
+static int index_of(plain_region r) {
+    for (int i = 0; i < history.regions; i++)
+        if (same(history.region[i].region, r)) return i;
+    return -1;
+}
+
+/* How many different other lines the region has written since its last write of the line, up to 4: its writes, newest first. Every one counts, whatever
+   became of its slot. -1 if the region has not written the line. */
+static int different_since(int region, uint8_t line) {
+    uint8_t is_counted[PLAIN_LINES] = {0};
+    int different = 0;
+    for (int i = history.writes - 1; i >= 0; i--) {
+        size_t written = history.write[i].at / PLAIN_LINE_BYTES;
+        if (history.write[i].region != region) continue;
+        if (written == line) return different < NEIGHBOURS ? different : NEIGHBOURS;
+        different += !is_counted[written];
+        is_counted[written] = 1;
+    }
+    return -1;
+}
+
+/* The count of a waiting slot is the definition's, locked or not, in an ended region too. Out of an open region only what has four flies. */
+static void check_count(plain_region r, const plain_modified *m, const plain_slot *s) {
+    int different = different_since(index_of(r), s->line);
+    if (s->state == SLOT_WAITING) require(s->count == different, "the count of a slot");
+    else require(m->ended || different == NEIGHBOURS, "a flight out of an open region");
+}
+
 /* ---- The tables after each event, rule by rule ---- */
 
 static void check_slots(const plain_engine *e, plain_region r, const plain_modified *m, int flights[PLAIN_LINES]) {
@@ -156,11 +189,12 @@ static void check_slots(const plain_engine *e, plain_region r, const plain_modif
         held++;
         for (int j = 0; j < i; j++)
             require(m->slot[j].state == SLOT_EMPTY || m->slot[j].line != s->line, "two slots name one line");
+        check_count(r, m, s);
         if (s->state == SLOT_IN_FLIGHT) {
             flights[s->line]++;
             require(same(e->flight[s->line], r), "the line's flight is another's");
         } else {
-            require(e->locked[s->line] || (s->count < PLAIN_COUNT && !m->ended), "a waiting slot that may fly");
+            require(e->locked[s->line] || (s->count < NEIGHBOURS && !m->ended), "a waiting slot that may fly");
         }
     }
     require(held > 0 || !m->ended, "an ended region without slots is not done");
@@ -305,7 +339,7 @@ static void try_list(void) {
     random_start(&events, seed, (random_mode)(seed % 3));
     random_source *source = &events.source;
     uint8_t threads = (uint8_t)(1 + random_below(source, seed % 16 == 0 ? 8 : 3));
-    uint16_t lines = (uint16_t)(1 + random_below(source, seed % 8 == 0 ? 40 : 4));
+    uint16_t lines = (uint16_t)(1 + random_below(source, seed % 8 == 0 ? 40 : seed % 2 == 0 ? 8 : 4)); /* below five none flies out of an open region */
     uint64_t count = 4 + random_below(source, MOST_EVENTS - 4);
     size_t lent = PLAIN_LINE_BYTES * (size_t)lines, length = PLAIN_RECORD_BYTES;
     int wild = random_chance(source, 4);

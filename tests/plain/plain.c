@@ -281,16 +281,24 @@ static uint64_t apply_read(plain_engine *e, const event *ev) {
     return e->current[ev->line].word[ev->word];
 }
 
+/* One more line for a waiting slot, if it is a different one and there are not four yet. */
+static void see(plain_slot *s, uint8_t line) {
+    if (s->count == PLAIN_COUNT) return;
+    for (int i = 0; i < s->count; i++)
+        if (s->seen[i] == line) return;
+    s->seen[s->count++] = line;
+}
+
 /* The written line's slot waits with count 0, a flight of it is taken back;
-   the region's other waiting slots count one more. */
+   the region's other waiting slots see the line, whether theirs are locked or not. */
 static void count_write(plain_engine *e, plain_region r, uint8_t line) {
     plain_modified *m = modified_of(e, r);
     int own = find_slot(m, line);
     if (own < 0) own = free_slot(m);
     else if (m->slot[own].state == SLOT_IN_FLIGHT) e->flight[line].number = 0;
     for (int i = 0; i < PLAIN_SLOTS; i++)
-        if (i != own && m->slot[i].state == SLOT_WAITING && m->slot[i].count < PLAIN_COUNT) m->slot[i].count++;
-    m->slot[own] = (plain_slot){line, SLOT_WAITING, 0};
+        if (i != own && m->slot[i].state == SLOT_WAITING) see(&m->slot[i], line);
+    m->slot[own] = (plain_slot){line, SLOT_WAITING, 0, {0}};
 }
 
 static uint64_t apply_write(plain_engine *e, const event *ev) {

@@ -20,7 +20,7 @@ enum {
     PLAIN_LOG = 32,        /* log entries of a thread */
     PLAIN_DEPTH = 15,      /* nesting depth */
     PLAIN_NUMBERS = 65535, /* region numbers of a thread */
-    PLAIN_COUNT = 4,       /* count at which a waiting slot may fly */
+    PLAIN_COUNT = 4,       /* different other lines after which a waiting slot may fly */
     PLAIN_PARTIES = 2,     /* parties that share each channel */
     PLAIN_SHARES = PLAIN_THREADS + PLAIN_PARTIES, /* bytes of a setup behind L: the party of each thread, the reserve of each party */
     PLAIN_ANSWER_BYTES = 9,
@@ -43,7 +43,10 @@ typedef struct { uint64_t word[PLAIN_WORDS]; } plain_line;
 typedef struct { uint8_t thread; uint16_t number; } plain_region;
 
 enum { SLOT_EMPTY, SLOT_WAITING, SLOT_IN_FLIGHT };
-typedef struct { uint8_t line, state, count; } plain_slot;
+
+/* While a slot waits, the first `count` lines of `seen` are the different other lines that the region has written since its last write of this line,
+   until there are four. */
+typedef struct { uint8_t line, state, count, seen[PLAIN_COUNT]; } plain_slot;
 
 /* An entry of the modified list; number 0 is a free one. */
 typedef struct { uint16_t number; uint8_t ended; plain_slot slot[PLAIN_SLOTS]; } plain_modified;

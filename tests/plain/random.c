@@ -112,6 +112,18 @@ static uint8_t random_awaiting(random_source *source, const plain_engine *e, uin
     return (uint8_t)from;
 }
 
+/* A slot of the thread's open region that names a line, searched from a random one on, or NULL. */
+static const plain_slot *random_slot(random_source *source, const plain_engine *e, uint8_t thread) {
+    uint64_t from = random_below(source, PLAIN_SLOTS);
+    for (int i = 0; i < PLAIN_MODIFIED; i++) {
+        const plain_modified *m = &e->modified[thread][i];
+        if (e->depth[thread] == 0 || m->number != e->last[thread]) continue;
+        for (uint64_t j = 0; j < PLAIN_SLOTS; j++)
+            if (m->slot[(from + j) % PLAIN_SLOTS].state != SLOT_EMPTY) return &m->slot[(from + j) % PLAIN_SLOTS];
+    }
+    return NULL;
+}
+
 /* A thread for the kind: a begin mostly goes to a thread without an open region. */
 static uint8_t random_thread(random_source *source, const plain_engine *e, uint8_t kind) {
     uint64_t from = random_below(source, e->threads);
@@ -168,12 +180,33 @@ static void move_phase(random_events *events) {
     events->phase_left = longest[events->phase] / 4 + (uint32_t)random_below(&events->source, longest[events->phase] * 3 / 4);
 }
 
+/* Now and then a data acknowledgement for a line that still waits in an open region: it tells whether the slot has flown too early. Gives whether there
+   is one. */
+static int ask_early(random_events *events, const plain_engine *e, uint8_t *record) {
+    if (events->mode > RANDOM_DAMAGED || !random_chance(&events->source, 32)) return 0;
+    fill_record(&events->source, e, EVENT_DATA_ACK, record);
+    const plain_slot *slot = random_slot(&events->source, e, random_thread(&events->source, e, EVENT_DATA_ACK));
+    if (slot == NULL || slot->state != SLOT_WAITING) return 0;
+    record[1] = slot->line;
+    return 1;
+}
+
+/* Now and then a write goes to a line that its region has a slot for, so that neighbours repeat. */
+static void repeat_line(random_events *events, const plain_engine *e, uint8_t *record) {
+    int write = record[0] == EVENT_WRITE || record[0] == EVENT_WRITE_BYTES;
+    if (!write || events->mode > RANDOM_DAMAGED || !random_chance(&events->source, 8)) return;
+    const plain_slot *slot = random_slot(&events->source, e, record[1]);
+    if (slot != NULL) record[2] = slot->line;
+}
+
 size_t random_record(random_events *events, const plain_engine *e, uint8_t record[PLAIN_RECORD_BYTES]) {
     random_source *source = &events->source;
     int tries = random_chance(source, events->phase == PHASE_LISTING ? 2 : 32) ? 1 : 24; /* full channels are to be met often */
     move_phase(events);
+    if (ask_early(events, e, record)) tries = 0;
     for (; tries > 0; tries--) {
         fill_record(source, e, random_kind(events), record);
+        repeat_line(events, e, record);
         if (plain_refusal(e, record, PLAIN_RECORD_BYTES) == 0) break;
     }
     if (events->mode == RANDOM_DAMAGED && random_chance(source, 12)) damage_record(source, e, record);

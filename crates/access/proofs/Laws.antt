@@ -5,11 +5,10 @@ use mathlib.Core.List.{List}
 use lib.ListN.{length-map, length-take, take}
 use native.Mathlib.Omega.{arith}
 use Rattle.rules.proofs.Lists.{place-le}
-use Rattle.rules.specs.Access.{dependence, isOf, joined, loggedOnce, stored, write, wrote}
+use Rattle.rules.specs.Access.{dependence, isOf, joined, loggedOnce, stored, write, wrote, wroteLine}
 use Rattle.rules.specs.Flight.{flown}
 use Rattle.rules.specs.Lists.{place}
-use Rattle.rules.specs.Slots.{written}
-use Rattle.rules.specs.Tables.{Board, current, noThread, regionAt, withDeps, withSlots}
+use Rattle.rules.specs.Tables.{Board, current, noThread, regionAt, withDeps}
 use Rattle.rules.specs.declared.Region.{Region}
 use Rattle.rows.specs.Row.{entryOf, logOf, threadOf}
 use Rattle.access.specs.Log.{freeIn}
@@ -19,7 +18,7 @@ pub write-law : (t l k d : ℕ) (change : List ℕ → List ℕ) (q : Region) (b
     → k ≡ current t (b .tables)
     → d ≡ dependence k l (b .tables)
     → b₁ ≡ loggedOnce t k l b
-    → q ≡ withSlots (written l (regionAt k (b .tables .regions) .slots)) (withDeps (joined d (regionAt k (b .tables .regions) .deps)) (regionAt k (b .tables .regions)))
+    → q ≡ wroteLine l (withDeps (joined d (regionAt k (b .tables .regions) .deps)) (regionAt k (b .tables .regions)))
     → b₂ ≡ stored k q l change b₁
     → b₃ ≡ flown k b₂
     → b₃ ≡ write t l change b

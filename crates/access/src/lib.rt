@@ -12,9 +12,8 @@ use measures::Threads;
 use rules::Region;
 ghost use mathlib.Core.Path.{_≡_};
 ghost use Rattle.measures.specs.Loan.{left, was};
-ghost use Rattle.rules.specs.Tables.{withDeps, withSlots};
-ghost use Rattle.rules.specs.Access.{changeLine, joined, logged, loggedOnce, read, storedIn, write};
-ghost use Rattle.rules.specs.Slots.{written};
+ghost use Rattle.rules.specs.Tables.{withDeps};
+ghost use Rattle.rules.specs.Access.{changeLine, joined, logged, loggedOnce, read, storedIn, write, wroteLine};
 ghost use Rattle.access.specs.Log.{Logs};
 ghost use Rattle.access.specs.Parts.{OnLog, OnRead, OnWrite};
 
@@ -98,11 +97,14 @@ fn joined_region(r: Region, d: u32) -> Region
 
 // The region after a write of line l that brings the dependence d.
 fn wrote_region(r: Region, d: u32, l: u8) -> Region
-    ensures { λ q. ⌜ q ≡ withSlots (written l (r .slots)) (withDeps (joined d (r .deps)) r) ⌝ }
+    ensures { λ q. ⌜ q ≡ wroteLine l (withDeps (joined d (r .deps)) r) ⌝ }
 {
+    let before = r.recent;
     let slots = r.slots;
-    let now = slots::written(slots, l);
+    let recent = slots::renewed(before, l);
+    let now = slots::written(slots, recent, l);
     let mut q = joined_region(r, d);
+    q.recent = recent;
     q.slots = now;
     q
 }

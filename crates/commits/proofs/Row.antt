@@ -1,5 +1,5 @@
 -- What the numbers of a row tell of its region, and what a store to them changes.
-use Prim.Native.Nat.{_+_, _/_, _<_, _≤_, ℕ}
+use Prim.Native.Nat.{_%_, _+_, _/_, _<_, _≤_, ℕ}
 use mathlib.Core.Bool.{Bool, _&&_, _||_, cond, false, not, true}
 use mathlib.Core.List.{List, [], _∷_}
 use mathlib.Core.Path.{_∙_, _≡_, ap, refl, sym}
@@ -50,17 +50,20 @@ no-deps w =
 pub ripe-done : (r : Region) → r .done ≡ true → ripe r ≡ commits r
 ripe-done r e = ap (λ d. cond d (commits r) (r .ended && not (hasSlot r))) e
 
-done-stored : (w : List ℕ) → 2 < length w → regionOf (set w 2 1) ≡ withDone true (regionOf w)
+-- the number x says what the row says of channel and end, and done
+abbrev Done : List ℕ → ℕ → Type 0
+Done w x = (x / 2 % 256 ≡ word w 1 / 2 % 256) × (x % 2 ≡ word w 1 % 2) × (x / 512 ≡ 1)
+
+done-stored : (w : List ℕ) (x : ℕ) → 1 < length w → Done w x → regionOf (set w 1 x) ≡ withDone true (regionOf w)
 unfolding regionOf
-done-stored (a ∷ b ∷ d ∷ w) h = refl
-done-stored [] h = absurd (omega arith)
-done-stored (a ∷ []) h = absurd (omega arith)
-done-stored (a ∷ b ∷ []) h = absurd (omega arith)
+done-stored (a ∷ b ∷ w) x h e = rw (e .0, e .1, e .2)
+done-stored [] x h e = absurd (omega arith)
+done-stored (a ∷ []) x h e = absurd (omega arith)
 
 -- an ended region without slots
-pub done-yes : (w : List ℕ) → 2 < length w → regionOf w .ended ≡ true → hasSlot (regionOf w) ≡ false → regionOf (set w 2 1) ≡ doneRegion (regionOf w)
+pub done-yes : (w : List ℕ) (x : ℕ) → 1 < length w → Done w x → regionOf w .ended ≡ true → hasSlot (regionOf w) ≡ false → regionOf (set w 1 x) ≡ doneRegion (regionOf w)
 unfolding doneRegion
-done-yes w h e f = done-stored w h ∙ ap (λ d. withDone d (regionOf w)) (sym (or-right (regionOf w .done) (rw (e, f))))
+done-yes w x h d e f = done-stored w x h d ∙ ap (λ y. withDone y (regionOf w)) (sym (or-right (regionOf w .done) (rw (e, f))))
 
 -- any other region stays as it is
 pub done-same : (r : Region) → (r .done || (r .ended && not (hasSlot r))) ≡ r .done → doneRegion r ≡ r

@@ -55,14 +55,14 @@ fn no_dependence(row: &RegionRow) -> bool
 fn can_commit(row: &RegionRow) -> bool
     ensures { λ r. ⌜ r ≡ commits (regionOf (was row)) ⌝ }
 {
-    row[0] != 0 && (row[2] == 1 && no_dependence(row))
+    row[0] != 0 && (rows::done_in(row[1]) && no_dependence(row))
 }
 
 // Whether the region can commit, or has yet to become done and can: it has ended and has no slot.
 fn is_ripe(row: &RegionRow) -> bool
     ensures { λ r. ⌜ r ≡ ripe (regionOf (was row)) ⌝ }
 {
-    if row[2] == 1 {
+    if rows::done_in(row[1]) {
         return can_commit(row);
     }
     rows::ended_in(row[1]) && !has_slot(row)
@@ -75,7 +75,7 @@ fn become_done(row: &mut RegionRow)
     rows::region_length(row);
     if rows::ended_in(row[1]) {
         if !has_slot(row) {
-            row[2] = 1;
+            row[1] = rows::done_word(row[1]);
         }
     }
 }
@@ -104,7 +104,7 @@ fn after_commit(row: &mut RegionRow, key: u32)
 
 // ---- all rows
 
-// Whether there is anything to settle. Most rows are left after two numbers.
+// Whether there is anything to settle. Most rows are left after one number.
 fn has_ripe(regions: &Regions) -> bool
     ensures { λ r. ⌜ r ≡ any ripe (regionsOf (was regions)) ⌝ }
 {

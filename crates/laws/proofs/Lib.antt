@@ -11,6 +11,8 @@ pub mod Values
 pub mod Shares
 pub mod Reserves
 pub mod Channels
+pub mod Different
+pub mod Neighbours
 pub mod Answers
 pub mod Circles
 pub mod Whole

@@ -1,8 +1,8 @@
 -- The regions that were opened: each once, and those by number.
 use Prim.Native.Nat.{_+_, _<_, _≤_, ℕ}
-use mathlib.Core.Path.{_∙_, _≡_, ap, sym}
+use mathlib.Core.Path.{_∙_, _≡_, ap, refl, sym}
 use mathlib.Core.Logic.{_≢_}
-use mathlib.Core.Bool.{_&&_, _||_, cond, false, not}
+use mathlib.Core.Bool.{Bool, _&&_, _||_, cond, false, not, true}
 use mathlib.Core.List.{List, [], _∷_}
 use lib.Dec.{eqb, leb}
 use native.Mathlib.Nat.{le-trans}
@@ -14,12 +14,31 @@ use Rattle.rules.proofs.Views.{isOpened}
 use Rattle.rules.specs.History.{Account, Closes, Cuts, Nothing, Opens, Sets, Stores, Uses, depthIn, openedIn}
 use Rattle.rules.specs.Tables.{keyOf, numberOf, threadOf}
 use Rattle.undo.proofs.Laws.{is-same, test}
-use Rattle.undo.specs.Table.{isIn}
+use Rattle.undo.specs.Table.{isIn, keep}
 
 -- no number stands twice
 pub data Once : List ℕ → Type 0 where
   nothing : Once []
   more : {x : ℕ} {xs : List ℕ} → isIn x xs ≡ false → Once xs → Once (x ∷ xs)
+
+-- a number among those of a list that pass a test
+pub is-kept : (q : ℕ → Bool) (k : ℕ) (xs : List ℕ) → isIn k (keep q xs) ≡ (isIn k xs && q k)
+is-kept q k [] = refl
+is-kept q k (x ∷ xs) =
+    let ih = is-kept q k xs in
+    test (eqb k x)
+    (λ e. test (q x)
+    (λ f. let g : q k ≡ true = rw (eqb-true k x e) f in rw (f, e, g))
+    (λ f. let g : q k ≡ false = rw (eqb-true k x e) f in rw (f, e, ih, g) (test (isIn k xs) (λ y. rw y) (λ y. rw y))))
+    (λ e. test (q x) (λ f. rw (f, e, ih)) (λ f. rw (f, e, ih)))
+
+-- of some of them none stands twice
+pub once-kept : (q : ℕ → Bool) {xs : List ℕ} → Once xs → Once (keep q xs)
+once-kept q nothing = nothing
+once-kept q (more {x} {xs} n o) =
+    test (q x)
+    (λ f. rw f (more (is-kept q x xs ∙ rw n) (once-kept q o)))
+    (λ f. rw f (once-kept q o))
 
 abbrev pub OpensOnce : List Account → Type 0
 OpensOnce es = ((k : ℕ) → isIn k (opensIn es) ≡ isOpened es k) × Once (opensIn es)
@@ -80,7 +99,7 @@ opens-begin t es h o =
     ))
     (λ d. rw d (λ k. rw (opened-begin t (threadOf k) es, d) (o .0 k), o .1))
 
-begin-more : (t j : ℕ) (es : List Account) → openedIn j es ≤ openedIn j (Opens t ∷ es)
+pub begin-more : (t j : ℕ) (es : List Account) → openedIn j es ≤ openedIn j (Opens t ∷ es)
 begin-more t j es = rw (opened-begin t j es) (test (eqb (depthIn t es) 0 && eqb t j) (λ d. rw d (omega arith)) (λ d. rw d (omega arith)))
 
 -- after every list of events with numbers of 16 bits

@@ -13,7 +13,7 @@ use native.Mathlib.Omega.{arith}
 use borrow.Author.Tests.{eq-eqb, eqb-false, eqb-true, leb-false, ltb-false, ltb-true, ne-eqb, not-false, not-true}
 use Rattle.laws.proofs.Along.{along}
 use Rattle.laws.proofs.Counts.{count-at, count-in, count-parts, listed-in}
-use Rattle.laws.proofs.Opened.{Once, more, nothing, opens}
+use Rattle.laws.proofs.Opened.{is-kept, once-kept, opens}
 use Rattle.laws.proofs.Shares.{is-fit, no-shares}
 use Rattle.laws.proofs.Values.{in-list, uncommitted}
 use Rattle.laws.specs.Reserves.{Begins, Fit, Reserved, Reserving, channelIn, holdsIn, lives, partyIn, reserveIn, sharesIn, uncommittedIn, wantedIn}
@@ -346,23 +346,6 @@ full-for ts t r =
     }
 
 -- ---- the regions of a party, by the list
-
-is-kept : (q : ℕ → Bool) (k : ℕ) (xs : List ℕ) → isIn k (keep q xs) ≡ (isIn k xs && q k)
-is-kept q k [] = refl
-is-kept q k (x ∷ xs) =
-    let ih = is-kept q k xs in
-    test (eqb k x)
-    (λ e. test (q x)
-    (λ f. let g : q k ≡ true = rw (eqb-true k x e) f in rw (f, e, g))
-    (λ f. let g : q k ≡ false = rw (eqb-true k x e) f in rw (f, e, ih, g) (test (isIn k xs) (λ y. rw y) (λ y. rw y))))
-    (λ e. test (q x) (λ f. rw (f, e, ih)) (λ f. rw (f, e, ih)))
-
-once-kept : (q : ℕ → Bool) {xs : List ℕ} → Once xs → Once (keep q xs)
-once-kept q nothing = nothing
-once-kept q (more {x} {xs} n o) =
-    test (q x)
-    (λ f. rw f (more (is-kept q x xs ∙ rw n) (once-kept q o)))
-    (λ f. rw f (once-kept q o))
 
 module _ (m : Memory) (rs : List (List ℕ)) (told : CommitsTold m rs) (k : Roomy (boardAfter m rs) (acceptedIn m rs)) {s : u.State (List ℕ)} {h : v.History (List ℕ)}
     (rc : Reach (λ l. lineOf l (startLines m)) s h) (i : Sim (boardAfter m rs) (acceptedIn m rs) s h) where

@@ -3,6 +3,7 @@ pub mod Laws
 pub mod Stores
 pub mod Reserves
 pub mod Channels
+pub mod Neighbours
 pub mod Images
 pub mod Causes
 pub mod Bench

@@ -5,6 +5,7 @@ ghost use Rattle.laws.specs.Causes.{CausesMatter};
 ghost use Rattle.laws.specs.Images.{FinishedLast, RecoveryAnswers, WalkWhole};
 ghost use Rattle.laws.specs.Laws.{CommitsAddUp, CommittedEnded, CutCounts, FenceOutside, FenceTells, NothingLeft, OneFlight, ReadGives};
 ghost use Rattle.laws.specs.Channels.{TwoChannels};
+ghost use Rattle.laws.specs.Neighbours.{FourNeighbours};
 ghost use Rattle.laws.specs.Reserves.{NoReserves, Reserved, SetupRead, SharesTested};
 ghost use Rattle.laws.specs.Stores.{MaskTested, StoresBytes, WholeWord, WritesRead};
 
@@ -89,6 +90,12 @@ pub fn reserves_hold()
 // accepted has a free place; a cut counts both channels, and no byte of an image is of a channel.
 pub fn channels_are_kept()
     ensures { λ r. ⌜ TwoChannels ⌝ }
+{}
+
+// The count of every waiting slot is the number of different other lines that its region has written since its last write of the slot's line, up to 4; a line
+// of a region that has not ended flies after four only. The different lines of a region are each line that it wrote once, last written first.
+pub fn counts_are_kept()
+    ensures { λ r. ⌜ FourNeighbours ⌝ }
 {}
 
 // The committed regions are the ended ones that are listed no more.

@@ -41,9 +41,12 @@ pub const MOST_IN_CHANNEL: usize = 16;
 // "A waiting slot flies when its line is unlocked and its count is 4"
 pub const RIPE_COUNT: u8 = 4;
 
+// Request 2: a count goes up to 4, so that it is told by the last four different lines.
+pub const MOST_RECENT: usize = 4;
+
 // ---- what is lent
 
-// A region as a row of numbers: key, channel and ended in one, done, stamp, its dependences, its slots from SLOTS_AT on.
+// A region as a row of numbers: key; channel, ended and done in one; its recent lines in one; stamp; its dependences; its slots from SLOTS_AT on.
 pub const SLOTS_AT: usize = 4 + MOST_DEPS;
 
 pub const REGION_NUMBERS: usize = SLOTS_AT + MOST_SLOTS;

@@ -26,7 +26,7 @@ use Rattle.rules.specs.declared.SlotState.the-variants.{Waiting}
 use Rattle.rules.specs.declared.Thread.{Thread}
 use Rattle.undo.proofs.Laws.{test}
 use Rattle.undo.specs.Table.{any}
-use Rattle.rows.specs.Row.{entryOf, logOf, regionNumbers, regionOf, regionsOf, slotOf, stateOf, suits, threadNumbers, threadOf, threadsOf, word}
+use Rattle.rows.specs.Row.{entryOf, logOf, recentOf, regionNumbers, regionOf, regionsOf, slotOf, stateOf, suits, threadNumbers, threadOf, threadsOf, word}
 
 -- ---- a list of rows
 
@@ -93,8 +93,8 @@ carries-word n l h =
 
 -- ---- a region
 
--- a region by the elements of its two lists
-pub whole : (r : Region) → length (r .deps) ≡ 4 → length (r .slots) ≡ 8
+-- a region by the elements of its three lists
+pub whole : (r : Region) → length (r .deps) ≡ 4 → length (r .recent) ≡ 4 → length (r .slots) ≡ 8
     → _≡_ {A = Region}
     (record {
       key = r .key;
@@ -103,6 +103,7 @@ pub whole : (r : Region) → length (r .deps) ≡ 4 → length (r .slots) ≡ 8
       done = r .done;
       stamp = r .stamp;
       deps = getD (r .deps) 0 0 ∷ getD (r .deps) 1 0 ∷ getD (r .deps) 2 0 ∷ getD (r .deps) 3 0 ∷ [];
+      recent = getD (r .recent) 0 0 ∷ getD (r .recent) 1 0 ∷ getD (r .recent) 2 0 ∷ getD (r .recent) 3 0 ∷ [];
       slots =
           getD (r .slots) 0 noSlot
           ∷ getD (r .slots) 1 noSlot
@@ -115,13 +116,13 @@ pub whole : (r : Region) → length (r .deps) ≡ 4 → length (r .slots) ≡ 8
           ∷ [];
     })
     r
-whole r h e = rw (four 0 (r .deps) h, eight noSlot (r .slots) e)
+whole r h g e = rw (four 0 (r .deps) h, four 0 (r .recent) g, eight noSlot (r .slots) e)
 
 -- a row whose numbers are those of the region r holds r
-pub packed : (r : Region) (w : List ℕ) → length (r .deps) ≡ 4 → length (r .slots) ≡ 8
+pub packed : (r : Region) (w : List ℕ) → length (r .deps) ≡ 4 → length (r .recent) ≡ 4 → length (r .slots) ≡ 8
     → word w 0 ≡ r .key
-    → (word w 1 / 2 % 256 ≡ r .channel) × (eqb (word w 1 % 2) 1 ≡ r .ended)
-    → eqb (word w 2) 1 ≡ r .done
+    → (word w 1 / 2 % 256 ≡ r .channel) × (eqb (word w 1 % 2) 1 ≡ r .ended) × (eqb (word w 1 / 512) 1 ≡ r .done)
+    → recentOf (word w 2) ≡ getD (r .recent) 0 0 ∷ getD (r .recent) 1 0 ∷ getD (r .recent) 2 0 ∷ getD (r .recent) 3 0 ∷ []
     → word w 3 ≡ r .stamp
     → word w 4 ≡ getD (r .deps) 0 0
     → word w 5 ≡ getD (r .deps) 1 0
@@ -137,12 +138,25 @@ pub packed : (r : Region) (w : List ℕ) → length (r .deps) ≡ 4 → length (
     → slotOf (word w 15) ≡ getD (r .slots) 7 noSlot
     → regionOf w ≡ r
 unfolding regionOf
-packed r w h k e0 e1 e2 e3 e4 e5 e6 e7 e8 e9 e10 e11 e12 e13 e14 e15 =
-    rw (e0, e1 .0, e1 .1, e2, e3, e4, e5, e6, e7, e8, e9, e10, e11, e12, e13, e14, e15) (whole r h k)
+packed r w h g k e0 e1 e2 e3 e4 e5 e6 e7 e8 e9 e10 e11 e12 e13 e14 e15 =
+    rw (e0, e1 .0, e1 .1, e1 .2, e2, e3, e4, e5, e6, e7, e8, e9, e10, e11, e12, e13, e14, e15) (whole r h g k)
 
--- a number of a channel and whether the region has ended gives both back
-pub channel-back : (c f : ℕ) → c < 256 → f < 2 → ((2 * c + f) / 2 % 256 ≡ c) × ((2 * c + f) % 2 ≡ f)
-channel-back c f h l = (omega arith, omega arith)
+-- a number of a channel, whether the region has ended and whether it is done gives all three back
+pub channel-back : (c f d : ℕ) → c < 256 → f < 2 → ((512 * d + (2 * c + f)) / 2 % 256 ≡ c) × ((512 * d + (2 * c + f)) % 2 ≡ f) × ((512 * d + (2 * c + f)) / 512 ≡ d)
+channel-back c f d h l = (omega arith, omega arith, omega arith)
+
+-- four lines in a number, and back
+pub recent-back : (a b e f : ℕ) → a < 256 → b < 256 → e < 256 → f < 256 → recentOf (((f * 256 + e) * 256 + b) * 256 + a) ≡ a ∷ b ∷ e ∷ f ∷ []
+recent-back a b e f ha hb he hf =
+    rw (
+      digits-mod ((f * 256 + e) * 256 + b) {m = 256} {r = a} ha,
+      digits-div ((f * 256 + e) * 256 + b) {m = 256} {r = a} ha,
+      digits-mod (f * 256 + e) {m = 256} {r = b} hb,
+      digits-div (f * 256 + e) {m = 256} {r = b} hb,
+      digits-mod f {m = 256} {r = e} he,
+      digits-div f {m = 256} {r = e} he,
+      mod-eq-of-lt {n = f} {m = 256} hf,
+    )
 
 -- ---- a log entry
 

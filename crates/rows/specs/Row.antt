@@ -1,5 +1,5 @@
--- A region as a row of numbers: key, channel and ended in one, done, stamp, four dependences, eight slots. A thread as a row: 32 log entries, depth, last number. Every row is a
--- region, and every row a thread.
+-- A region as a row of numbers: key; channel, ended and done in one; its recent lines in one; stamp; four dependences; eight slots. A thread as a row: 32 log
+-- entries, depth, last number. Every row is a region, and every row a thread.
 use Prim.Native.Nat.{_%_, _+_, _/_, ℕ}
 use mathlib.Core.Bool.{Bool, _||_, cond}
 use mathlib.Core.List.{List, [], _∷_, map}
@@ -39,6 +39,10 @@ suits l s = names l (s .state) (s .line) || isEmpty (s .state)
 
 -- ---- a region
 
+-- four lines in one number, the newest in the low byte
+abbrev pub recentOf : ℕ → List ℕ
+recentOf n = n % 256 ∷ n / 256 % 256 ∷ n / 256 / 256 % 256 ∷ n / 256 / 256 / 256 % 256 ∷ []
+
 abbrev pub depsOf : List ℕ → List ℕ
 depsOf w = word w 4 ∷ word w 5 ∷ word w 6 ∷ word w 7 ∷ []
 
@@ -60,9 +64,10 @@ regionOf w =
       key = word w 0;
       channel = word w 1 / 2 % 256;
       ended = eqb (word w 1 % 2) 1;
-      done = eqb (word w 2) 1;
+      done = eqb (word w 1 / 512) 1;
       stamp = word w 3;
       deps = depsOf w;
+      recent = recentOf (word w 2);
       slots = slotsOf w;
     }
 

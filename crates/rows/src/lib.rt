@@ -4,6 +4,7 @@ use measures::LAST_AT;
 use measures::LINE_WORDS;
 use measures::Lines;
 use measures::MOST_ENTRIES;
+use measures::MOST_RECENT;
 use measures::MOST_SLOTS;
 use measures::OldLines;
 use measures::REGION_NUMBERS;
@@ -20,6 +21,7 @@ use rules::SlotState;
 ghost use Prim.Native.Nat.{_%_, _/_, _<_};
 ghost use mathlib.Core.Path.{_≡_};
 ghost use mathlib.Core.Bool.{_||_, cond, false};
+ghost use mathlib.Core.List.{[], _∷_};
 ghost use lib.Dec.{eqb};
 ghost use lib.ListN.{length, set};
 ghost use Rattle.undo.specs.Table.{any};
@@ -32,7 +34,7 @@ ghost use Rattle.rules.specs.Commit.{freed, freedEntry};
 ghost use Rattle.rules.specs.Refusal.{noRoomForDep};
 ghost use Rattle.rules.specs.Tables.{noEntry, noRegion, withDepth, withLast, withLog};
 ghost use Rattle.measures.specs.Loan.{left, was};
-ghost use Rattle.rows.specs.Row.{entryOf, regionNumbers, regionOf, slotOf, stateOf, suits, threadNumbers, threadOf};
+ghost use Rattle.rows.specs.Row.{entryOf, recentOf, regionNumbers, regionOf, slotOf, stateOf, suits, threadNumbers, threadOf};
 
 // The few numbers beside the lists.
 pub struct Head {
@@ -154,7 +156,7 @@ fn slot_word(s: Slot) -> u32
 
 // ---- a region
 
-// The channel, and whether the region has ended, in the number of both.
+// The channel, whether the region has ended, and whether it is done, in the number of all three.
 pub fn channel_in(n: u32) -> u8
     ensures { λ c. ⌜ c ≡ n / 2 % 256 ⌝ }
 {
@@ -165,6 +167,37 @@ pub fn ended_in(n: u32) -> bool
     ensures { λ b. ⌜ b ≡ eqb (n % 2) 1 ⌝ }
 {
     n % 2 == 1
+}
+
+pub fn done_in(n: u32) -> bool
+    ensures { λ b. ⌜ b ≡ eqb (n / 512) 1 ⌝ }
+{
+    n / 512 == 1
+}
+
+// The number of a region that is done.
+pub fn done_word(n: u32) -> u32
+    ensures { λ r. ⌜ (r / 2 % 256 ≡ n / 2 % 256) × (r % 2 ≡ n % 2) × (r / 512 ≡ 1) ⌝ }
+{
+    512 + n % 512
+}
+
+// The recent lines in their number.
+fn recent_in(n: u32) -> [u8; MOST_RECENT]
+    ensures { λ r. ⌜ r ≡ recentOf n ⌝ }
+{
+    [
+        (n % 256) as u8,
+        (n / 256 % 256) as u8,
+        (n / 256 / 256 % 256) as u8,
+        (n / 256 / 256 / 256 % 256) as u8,
+    ]
+}
+
+fn recent_word(a: u8, b: u8, c: u8, d: u8) -> u32
+    ensures { λ r. ⌜ recentOf r ≡ a ∷ b ∷ c ∷ d ∷ [] ⌝ }
+{
+    (((d as u32) * 256 + (c as u32)) * 256 + (b as u32)) * 256 + (a as u32)
 }
 
 // The region that a row holds.
@@ -183,9 +216,10 @@ pub fn region_of(w: RegionRow) -> Region
         key: w[0],
         channel: channel_in(w[1]),
         ended: ended_in(w[1]),
-        done: w[2] == 1,
+        done: done_in(w[1]),
         stamp: w[3],
         deps: [w[4], w[5], w[6], w[7]],
+        recent: recent_in(w[2]),
         slots: [s0, s1, s2, s3, s4, s5, s6, s7],
     }
 }
@@ -204,19 +238,19 @@ fn flag(b: bool) -> u32
     if b { 1 } else { 0 }
 }
 
-fn channel_word(c: u8, ended: bool) -> u32
-    ensures { λ r. ⌜ (r / 2 % 256 ≡ c) × (eqb (r % 2) 1 ≡ ended) ⌝ }
+fn channel_word(c: u8, ended: bool, done: bool) -> u32
+    ensures { λ r. ⌜ (r / 2 % 256 ≡ c) × (eqb (r % 2) 1 ≡ ended) × (eqb (r / 512) 1 ≡ done) ⌝ }
 {
-    2 * (c as u32) + flag(ended)
+    512 * flag(done) + (2 * (c as u32) + flag(ended))
 }
 
 fn eight(s: [Slot; MOST_SLOTS])
     ensures { λ _. ⌜ length s ≡ 8 ⌝ }
 {}
 
-// A region's two lists have their lengths: no code.
+// A region's three lists have their lengths: no code.
 fn lengths(r: Region)
-    ensures { λ _. ⌜ (length (r .deps) ≡ 4) × (length (r .slots) ≡ 8) ⌝ }
+    ensures { λ _. ⌜ (length (r .deps) ≡ 4) × (length (r .recent) ≡ 4) × (length (r .slots) ≡ 8) ⌝ }
 {
     let s = r.slots;
     eight(s);
@@ -228,6 +262,7 @@ pub fn row_of(r: Region) -> RegionRow
 {
     lengths(r);
     let d = r.deps;
+    let ls = r.recent;
     let s = r.slots;
     let s0 = s[0];
     let s1 = s[1];
@@ -239,8 +274,8 @@ pub fn row_of(r: Region) -> RegionRow
     let s7 = s[7];
     [
         r.key,
-        channel_word(r.channel, r.ended),
-        flag(r.done),
+        channel_word(r.channel, r.ended, r.done),
+        recent_word(ls[0], ls[1], ls[2], ls[3]),
         r.stamp,
         d[0],
         d[1],

@@ -21,7 +21,7 @@ use Rattle.rules.specs.Record.{eventOf, readRecord}
 use Rattle.rules.specs.Recovery.{act, acts, lineStart, restore, restoreBy}
 use Rattle.rules.specs.Refusal.{refusal, testsOf}
 use Rattle.rules.specs.Run.{run}
-use Rattle.rules.specs.Slots.{carried, flownSlots, slotFrom, written}
+use Rattle.rules.specs.Slots.{carried, flownSlots, renewed, slotFrom, withoutLine, written}
 use Rattle.rules.specs.Step.{apply, fence, settledBoard, setup, step, stepBy, stepEvent}
 use Rattle.rules.specs.Tables.{Zero, fresh, lentFrom, lentLine, ownerOf, startLines}
 use Rattle.rules.specs.Walk.{entriesFrom, entriesOf, nextPlace, walk, walkEntries, walkFrom, without}
@@ -223,5 +223,5 @@ holds c =
 
 -- every case P1 to P11 and the 33rd logged line
 pub table : T (all holds cases)
-unfolding holds holdsCut acts recovered foundWords lineWords same cases p1 p2 p3 joined read logged wrote stored write dropped keptEntry kept unlocked logAck landed dataAck opened begin bytesOf numOf wordsBytes wordsOf entriesIn restores doneRegion commits earlier earliestFrom afterCommit freed commit settle settled inOrder anyBroken reachesIn reaches anyClash contradicts closed endRegion flown savedRegion savedRegions savedEntry savedThread savedLog saved headRecord lineRecord regionRecord entryRecord encode image count place flat aboveFrom risingFrom headTurn lineTurn listedAt listedTurn loggedAt loggedTurn endTurn fieldsTurn turnBy readBy readImage eventOf readRecord restoreBy restore act testsOf refusal run slotFrom written flownSlots carried settledBoard setup fence apply stepBy stepEvent step lentLine lentFrom startLines fresh ownerOf nextPlace without walkFrom walk entriesOf entriesFrom walkEntries kindAt wordAfter
+unfolding holds holdsCut acts recovered foundWords lineWords same cases p1 p2 p3 joined read logged wrote stored write dropped keptEntry kept unlocked logAck landed dataAck opened begin bytesOf numOf wordsBytes wordsOf entriesIn restores doneRegion commits earlier earliestFrom afterCommit freed commit settle settled inOrder anyBroken reachesIn reaches anyClash contradicts closed endRegion flown savedRegion savedRegions savedEntry savedThread savedLog saved headRecord lineRecord regionRecord entryRecord encode image count place flat aboveFrom risingFrom headTurn lineTurn listedAt listedTurn loggedAt loggedTurn endTurn fieldsTurn turnBy readBy readImage eventOf readRecord restoreBy restore act testsOf refusal run slotFrom withoutLine renewed written flownSlots carried settledBoard setup fence apply stepBy stepEvent step lentLine lentFrom startLines fresh ownerOf nextPlace without walkFrom walk entriesOf entriesFrom walkEntries kindAt wordAfter
 table = tt

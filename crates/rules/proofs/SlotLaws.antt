@@ -174,32 +174,34 @@ pub mend-none : {f : Slot → Slot} (ss : List Slot) → Mends f → any (λ s. 
     → any (λ s. not (isEmpty (s .state))) (map f ss) ≡ false
 mend-none ss m e = all-clear (map _ ss) (λ l. mend-absent l ss m (no-slots l ss e))
 
--- ---- counting
+-- ---- counting, by the last four different lines ls of the region
 
-pub counted-empty : (st : SlotState) → isEmpty (counted st) ≡ isEmpty st
-counted-empty Empty = refl
-counted-empty (Waiting c) = refl
-counted-empty InFlight = refl
+pub counted-empty : (ls : List ℕ) (k : ℕ) (st : SlotState) → isEmpty (counted ls k st) ≡ isEmpty st
+counted-empty ls k Empty = refl
+counted-empty ls k (Waiting c) = refl
+counted-empty ls k InFlight = refl
 
-pub counted-names : (l : ℕ) (st : SlotState) (k : ℕ) → names l (counted st) k ≡ names l st k
-counted-names l Empty k = refl
-counted-names l (Waiting c) k = refl
-counted-names l InFlight k = refl
+pub counted-names : (ls : List ℕ) (l : ℕ) (st : SlotState) (k : ℕ) → names l (counted ls k st) k ≡ names l st k
+counted-names ls l Empty k = refl
+counted-names ls l (Waiting c) k = refl
+counted-names ls l InFlight k = refl
 
-pub counted-view : (car : List (List ℕ)) (l : ℕ) (st : SlotState) → carryOf car l (counted st) ≡ carryOf car l st
-counted-view car l Empty = refl
-counted-view car l (Waiting c) = refl
-counted-view car l InFlight = refl
+pub counted-view : (ls : List ℕ) (car : List (List ℕ)) (l : ℕ) (st : SlotState) → carryOf car l (counted ls l st) ≡ carryOf car l st
+counted-view ls car l Empty = refl
+counted-view ls car l (Waiting c) = refl
+counted-view ls car l InFlight = refl
 
-pub counted-mends : Mends countedSlot
-counted-mends =
+pub counted-mends : (ls : List ℕ) → Mends (countedSlot ls)
+counted-mends ls =
     record {
-      lines = λ s e. (sym (counted-empty (s .state)) ∙ e, refl);
-      whole = λ s a e. rw (a (sym (counted-empty (s .state)) ∙ e));
+      lines = λ s e. (sym (counted-empty ls (s .line) (s .state)) ∙ e, refl);
+      whole = λ s a e. rw (a (sym (counted-empty ls (s .line) (s .state)) ∙ e));
     }
 
-pub state-counted : (l : ℕ) (ss : List Slot) → stateOf l (map countedSlot ss) ≡ counted (stateOf l ss)
-state-counted l ss = state-map l countedSlot counted ss (λ s. counted-names l (s .state) (s .line)) (λ s d. refl) refl
+pub state-counted : (ls : List ℕ) (l : ℕ) (ss : List Slot) → stateOf l (map (countedSlot ls) ss) ≡ counted ls l (stateOf l ss)
+state-counted ls l ss =
+    state-map l (countedSlot ls) (counted ls l) ss (λ s. counted-names ls l (s .state) (s .line))
+    (λ s d. ap (λ x. counted ls x (s .state)) (names-true l (s .state) (s .line) d .1)) refl
 
 -- ---- flights
 

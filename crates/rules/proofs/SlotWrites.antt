@@ -28,10 +28,10 @@ data Fits (l : ℕ) : List Slot → ℕ → Type 0 where
   is-free : {s : Slot} {ss : List Slot} → isEmpty (s .state) ≡ true → stateOf l ss ≡ Empty → Fits l (s ∷ ss) 0
   later : {s : Slot} {ss : List Slot} {p : ℕ} → named l s ≡ false → Fits l ss p → Fits l (s ∷ ss) (suc p)
 
-fits-counted : {l p : ℕ} {ss : List Slot} → Fits l ss p → Fits l (map countedSlot ss) p
-fits-counted {l} (is-named {s = s} e) = is-named (counted-names l (s .state) (s .line) ∙ e)
-fits-counted {l} (is-free {s = s} {ss = ss} e n) = is-free (counted-empty (s .state) ∙ e) (mend-absent l ss counted-mends n)
-fits-counted {l} (later {s = s} e f) = later (counted-names l (s .state) (s .line) ∙ e) (fits-counted f)
+fits-counted : (ls : List ℕ) {l p : ℕ} {ss : List Slot} → Fits l ss p → Fits l (map (countedSlot ls) ss) p
+fits-counted ls {l} (is-named {s = s} e) = is-named (counted-names ls l (s .state) (s .line) ∙ e)
+fits-counted ls {l} (is-free {s = s} {ss = ss} e n) = is-free (counted-empty ls (s .line) (s .state) ∙ e) (mend-absent l ss (counted-mends ls) n)
+fits-counted ls {l} (later {s = s} e f) = later (counted-names ls l (s .state) (s .line) ∙ e) (fits-counted ls f)
 
 module _ {l : ℕ} (x : Slot) (own : named l x ≡ true) where
   state-at : {p : ℕ} {ss : List Slot} → Fits l ss p → stateOf l (set ss p x) ≡ x .state
@@ -109,42 +109,42 @@ search-free l i (s ∷ ss) e =
 abbrev pub waiting : ℕ → Slot
 waiting l = withState (Waiting 0) (withLine l noSlot)
 
--- the slots after a write
-data Wrote (l : ℕ) (ss : List Slot) : Type 0 where
-  at : (p : ℕ) → Fits l ss p → written l ss ≡ set (map countedSlot ss) p (waiting l) → Wrote l ss
+-- the slots after a write, where ls are the last four different lines of the region
+data Wrote (ls : List ℕ) (l : ℕ) (ss : List Slot) : Type 0 where
+  at : (p : ℕ) → Fits l ss p → written ls l ss ≡ set (map (countedSlot ls) ss) p (waiting l) → Wrote ls l ss
 
-wrote-at : (l : ℕ) (ss : List Slot) → isFull (slotFor l ss) ≡ false → Wrote l ss
+wrote-at : (ls : List ℕ) (l : ℕ) (ss : List Slot) → isFull (slotFor l ss) ≡ false → Wrote ls l ss
 unfolding written
-wrote-at l ss e =
+wrote-at ls l ss e =
     test (any (named l) ss)
     (λ d. at (place (named l) ss) (fits-named l ss d) (rw (search-named l Full 0 ss d, zero-add (place (named l) ss))))
     (λ d. test (any empties ss)
     (λ f. at (place empties ss) (fits-free l ss d f) (rw (search-free l 0 ss d, f, zero-add (place empties ss))))
     (λ f. absurd (true≢false (rw (search-free l 0 ss d, f) at e))))
 
-pub length-written : (l : ℕ) (ss : List Slot) → length (written l ss) ≡ length ss
+pub length-written : (ls : List ℕ) (l : ℕ) (ss : List Slot) → length (written ls l ss) ≡ length ss
 unfolding written
-length-written l ss = go (slotFor l ss)
+length-written ls l ss = go (slotFor l ss)
   where
-    go : (f : Found) → length (writtenAt l f ss) ≡ length ss
-    go (At p) = length-set (map countedSlot ss) p (waiting l) ∙ length-map ss countedSlot
+    go : (f : Found) → length (writtenAt ls l f ss) ≡ length ss
+    go (At p) = length-set (map (countedSlot ls) ss) p (waiting l) ∙ length-map ss (countedSlot ls)
     go Full = refl
 
-module _ (ss : List Slot) (l : ℕ) (room : isFull (slotFor l ss) ≡ false) where
-  pub state-written : stateOf l (written l ss) ≡ Waiting 0
-  state-written = go (wrote-at l ss room)
+module _ (ls : List ℕ) (ss : List Slot) (l : ℕ) (room : isFull (slotFor l ss) ≡ false) where
+  pub state-written : stateOf l (written ls l ss) ≡ Waiting 0
+  state-written = go (wrote-at ls l ss room)
     where
-      go : Wrote l ss → stateOf l (written l ss) ≡ Waiting 0
-      go (at p f e) = rw e (state-at (waiting l) (is-same l) (fits-counted f))
+      go : Wrote ls l ss → stateOf l (written ls l ss) ≡ Waiting 0
+      go (at p f e) = rw e (state-at (waiting l) (is-same l) (fits-counted ls f))
 
-  pub state-written-other : (k : ℕ) → eqb k l ≡ false → stateOf k (written l ss) ≡ counted (stateOf k ss)
-  state-written-other k n = go (wrote-at l ss room)
+  pub state-written-other : (k : ℕ) → eqb k l ≡ false → stateOf k (written ls l ss) ≡ counted ls k (stateOf k ss)
+  state-written-other k n = go (wrote-at ls l ss room)
     where
-      go : Wrote l ss → stateOf k (written l ss) ≡ counted (stateOf k ss)
-      go (at p f e) = rw e (state-beside (waiting l) (is-same l) k n (fits-counted f) ∙ state-counted k ss)
+      go : Wrote ls l ss → stateOf k (written ls l ss) ≡ counted ls k (stateOf k ss)
+      go (at p f e) = rw e (state-beside (waiting l) (is-same l) k n (fits-counted ls f) ∙ state-counted ls k ss)
 
-  pub distinct-written : l < 256 → Distinct ss → Distinct (written l ss)
-  distinct-written i ds = go (wrote-at l ss room)
+  pub distinct-written : l < 256 → Distinct ss → Distinct (written ls l ss)
+  distinct-written i ds = go (wrote-at ls l ss room)
     where
-      go : Wrote l ss → Distinct (written l ss)
-      go (at p f e) = rw e (distinct-set (waiting l) (is-same l) i (fits-counted f) (distinct-map counted-mends ds))
+      go : Wrote ls l ss → Distinct (written ls l ss)
+      go (at p f e) = rw e (distinct-set (waiting l) (is-same l) i (fits-counted ls f) (distinct-map (counted-mends ls) ds))

@@ -7,9 +7,9 @@ use lib.ListN.{getD, set}
 use Rattle.rules.specs.Bytes.{byteOf, numOf}
 use Rattle.rules.specs.Flight.{flown}
 use Rattle.rules.specs.Lists.{count, place}
-use Rattle.rules.specs.Slots.{written}
+use Rattle.rules.specs.Slots.{renewed, written}
 use Rattle.rules.specs.Measures.{mostEntries}
-use Rattle.rules.specs.Tables.{Board, current, lineOf, noEntry, ownerOf, regionAt, threadAt, withCur, withDeps, withLock, withLog, withOld, withOwner, withRegion, withSlots, withTables, withThread, withWrite}
+use Rattle.rules.specs.Tables.{Board, current, lineOf, noEntry, ownerOf, regionAt, threadAt, withCur, withDeps, withLock, withLog, withOld, withOwner, withRecent, withRegion, withSlots, withTables, withThread, withWrite}
 use Rattle.rules.specs.declared.Entry.{Entry}
 use Rattle.rules.specs.declared.Region.{Region}
 use Rattle.rules.specs.declared.Tables.{Tables}
@@ -86,9 +86,13 @@ storedIn w mask v x = set x w (wordAfter mask v (getD x w 0))
 abbrev pub changeLine : ℕ → (List ℕ → List ℕ) → List (List ℕ) → List (List ℕ)
 changeLine l f m = set m l (f (lineOf l m))
 
--- region k after a write of line l: its dependences as the tables ts had them before, and its slots
+-- a region after a write of line l: its last four different lines, and its slots
+abbrev pub wroteLine : ℕ → Region → Region
+wroteLine l r = withSlots (written (renewed l (r .recent)) l (r .slots)) (withRecent (renewed l (r .recent)) r)
+
+-- region k after a write of line l: its dependences as the tables ts had them before, its last lines and its slots
 unfoldable pub wrote : ℕ → ℕ → Tables → Region → Region
-wrote k l ts r = withSlots (written l (r .slots)) (withDeps (joined (dependence k l ts) (r .deps)) r)
+wrote k l ts r = wroteLine l (withDeps (joined (dependence k l ts) (r .deps)) r)
 
 -- line l is changed and region k gets the record r
 unfoldable pub stored : ℕ → Region → ℕ → (List ℕ → List ℕ) → Board → Board

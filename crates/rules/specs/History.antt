@@ -9,7 +9,7 @@ use Rattle.rules.specs.Acknowledge.{dataAck, logAck}
 use Rattle.rules.specs.Bytes.{lineBytes, numOf}
 use Rattle.rules.specs.Commit.{settled}
 use Rattle.rules.specs.End.{endRegion}
-use Rattle.rules.specs.Lists.{flat}
+use Rattle.rules.specs.Lists.{different, flat}
 use Rattle.rules.specs.Record.{readRecord}
 use Rattle.rules.specs.Recovery.{lineStart}
 use Rattle.rules.specs.Refusal.{depthOf}
@@ -132,6 +132,15 @@ changeOf Nothing es ws = ws
 unfoldable pub writesIn : List Account → List Change
 writesIn [] = []
 writesIn (e ∷ es) = changeOf e es (writesIn es)
+
+-- the lines of region k's writes, newest first
+unfoldable pub linesWritten : ℕ → List Change → List ℕ
+linesWritten k [] = []
+linesWritten k (w ∷ ws) = cond (eqb (w .region) k) (w .line ∷ linesWritten k ws) (linesWritten k ws)
+
+-- the different lines of region k, last written first
+abbrev pub linesLast : ℕ → List Change → List ℕ
+linesLast k ws = different (linesWritten k ws)
 
 abbrev pub endOf : Account → List Account → List ℕ → List ℕ
 endOf (Sets l s) es ks = ks

@@ -1,9 +1,10 @@
--- Searches in lists: how many, which one is first, and numbers in rising order.
+-- Searches in lists: how many, which one is first, which are different, and numbers in rising order.
 use Prim.Native.Nat.{suc, zero, ℕ}
-use mathlib.Core.Bool.{Bool, _&&_, _||_, cond, false, true}
+use mathlib.Core.Bool.{Bool, _&&_, _||_, cond, false, not, true}
 use mathlib.Core.List.{List, [], _++_, _∷_}
 use lib.Dec.{eqb, ltb}
 use lib.ListN.{length}
+use Rattle.undo.specs.Table.{keep}
 
 module _ {A : Type 0} where
   -- how many elements pass a test
@@ -20,6 +21,11 @@ module _ {A : Type 0} where
   abbrev pub all : (A → Bool) → List A → Bool
   all p [] = true
   all p (x ∷ xs) = p x && all p xs
+
+-- the different numbers of a list, each where it stands first
+unfoldable pub different : List ℕ → List ℕ
+different [] = []
+different (x ∷ xs) = x ∷ keep (λ y. not (eqb y x)) (different xs)
 
 -- the bytes of each element, one behind the other
 unfoldable pub flat : {A : Type 0} → (A → List ℕ) → List A → List ℕ

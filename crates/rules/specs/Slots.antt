@@ -1,9 +1,10 @@
 -- The slots of a region: "each slot is empty, waiting with its count, or in flight".
-use Prim.Native.Nat.{_+_, min, suc, ℕ}
+use Prim.Native.Nat.{suc, ℕ}
 use mathlib.Core.Bool.{Bool, _&&_, _||_, cond, false, not, true}
 use mathlib.Core.List.{List, [], _∷_, map}
 use lib.Dec.{eqb}
-use lib.ListN.{getD, set}
+use lib.ListN.{getD, set, take}
+use Rattle.rules.specs.Lists.{place}
 use Rattle.rules.specs.Measures.{ripeCount}
 use Rattle.rules.specs.Tables.{lineOf, noSlot, withLine, withState}
 use Rattle.rules.specs.declared.Found.{Found}
@@ -57,24 +58,36 @@ abbrev pub isFull : Found → Bool
 isFull (At k) = false
 isFull Full = true
 
--- ---- "Every other waiting slot of the region counts one more, to at most 4"
+-- ---- request 2: "A slot's count is the number of different other lines the region has written since its last write of this line, up to 4. This replaces the
+-- counting in document 01."
 
-abbrev pub counted : SlotState → SlotState
-counted Empty = Empty
-counted (Waiting c) = Waiting (min (c + 1) ripeCount)
-counted InFlight = InFlight
+-- lines without the first of them that is l
+unfoldable pub withoutLine : ℕ → List ℕ → List ℕ
+withoutLine l [] = []
+withoutLine l (x ∷ xs) = cond (eqb x l) xs (x ∷ withoutLine l xs)
 
-abbrev pub countedSlot : Slot → Slot
-countedSlot s = withState (counted (s .state)) s
+-- the last four different lines of a region after a write of line l, where they were ls before it: l is the newest, and its former place, or the oldest
+-- line, goes
+unfoldable pub renewed : ℕ → List ℕ → List ℕ
+renewed l ls = take ripeCount (l ∷ withoutLine l ls)
+
+-- the other lines written since stand before the line itself; four at least, if it is not among the last four
+abbrev pub counted : List ℕ → ℕ → SlotState → SlotState
+counted ls l Empty = Empty
+counted ls l (Waiting c) = Waiting (place (eqb l) ls)
+counted ls l InFlight = InFlight
+
+abbrev pub countedSlot : List ℕ → Slot → Slot
+countedSlot ls s = withState (counted ls (s .line) (s .state)) s
 
 -- "that slot waits with count 0, and if it was in flight the flight is taken back"
-abbrev pub writtenAt : ℕ → Found → List Slot → List Slot
-writtenAt l (At k) ss = set (map countedSlot ss) k (withState (Waiting 0) (withLine l noSlot))
-writtenAt l Full ss = ss
+abbrev pub writtenAt : List ℕ → ℕ → Found → List Slot → List Slot
+writtenAt ls l (At k) ss = set (map (countedSlot ls) ss) k (withState (Waiting 0) (withLine l noSlot))
+writtenAt ls l Full ss = ss
 
--- the slots after a write of line l
-unfoldable pub written : ℕ → List Slot → List Slot
-written l ss = writtenAt l (slotFor l ss) ss
+-- the slots after a write of line l, where ls are the region's last four different lines, l the newest
+unfoldable pub written : List ℕ → ℕ → List Slot → List Slot
+written ls l ss = writtenAt ls l (slotFor l ss) ss
 
 -- ---- "A waiting slot flies when its line is unlocked and its count is 4 or its region has ended"
 

@@ -6,7 +6,7 @@ use lib.Dec.{eqb, leb}
 use lib.ListN.{getD, length, replicate, set}
 use Rattle.rules.specs.Bytes.{lineAt}
 use Rattle.rules.specs.Lists.{place}
-use Rattle.rules.specs.Measures.{lineWords, mostDeps, mostEntries, mostLines, mostLogged, mostRegions, mostSlots, mostThreads}
+use Rattle.rules.specs.Measures.{lineWords, mostDeps, mostEntries, mostLines, mostLogged, mostRegions, mostSlots, mostThreads, ripeCount}
 use Rattle.rules.specs.declared.Entry.{Entry}
 use Rattle.rules.specs.declared.Region.{Region}
 use Rattle.rules.specs.declared.Shares.{Shares}
@@ -36,7 +36,7 @@ abbrev pub noSlot : Slot
 noSlot = record { line = 0; state = Empty }
 
 abbrev pub noRegion : Region
-noRegion = record { key = 0; channel = 0; ended = false; done = false; stamp = 0; deps = replicate mostDeps 0; slots = replicate mostSlots noSlot }
+noRegion = record { key = 0; channel = 0; ended = false; done = false; stamp = 0; deps = replicate mostDeps 0; recent = replicate ripeCount 0; slots = replicate mostSlots noSlot }
 
 abbrev pub noEntry : Entry
 noEntry = record { key = 0; line = 0; rank = 0; persistent = false }
@@ -189,22 +189,25 @@ abbrev pub withNumbers : ℕ → ℕ → Shares → Size → Size
 withNumbers n l s z = record { threads = n; lines = l; shares = s; zero = z .zero; lent = z .lent }
 
 abbrev pub withKey : ℕ → Region → Region
-withKey k r = record { key = k; channel = r .channel; ended = r .ended; done = r .done; stamp = r .stamp; deps = r .deps; slots = r .slots }
+withKey k r = record { key = k; channel = r .channel; ended = r .ended; done = r .done; stamp = r .stamp; deps = r .deps; recent = r .recent; slots = r .slots }
 
 abbrev pub withChannel : ℕ → Region → Region
-withChannel c r = record { key = r .key; channel = c; ended = r .ended; done = r .done; stamp = r .stamp; deps = r .deps; slots = r .slots }
+withChannel c r = record { key = r .key; channel = c; ended = r .ended; done = r .done; stamp = r .stamp; deps = r .deps; recent = r .recent; slots = r .slots }
 
 abbrev pub withEnd : ℕ → Region → Region
-withEnd c r = record { key = r .key; channel = r .channel; ended = true; done = r .done; stamp = c; deps = r .deps; slots = r .slots }
+withEnd c r = record { key = r .key; channel = r .channel; ended = true; done = r .done; stamp = c; deps = r .deps; recent = r .recent; slots = r .slots }
 
 abbrev pub withDone : Bool → Region → Region
-withDone d r = record { key = r .key; channel = r .channel; ended = r .ended; done = d; stamp = r .stamp; deps = r .deps; slots = r .slots }
+withDone d r = record { key = r .key; channel = r .channel; ended = r .ended; done = d; stamp = r .stamp; deps = r .deps; recent = r .recent; slots = r .slots }
 
 abbrev pub withDeps : List ℕ → Region → Region
-withDeps ds r = record { key = r .key; channel = r .channel; ended = r .ended; done = r .done; stamp = r .stamp; deps = ds; slots = r .slots }
+withDeps ds r = record { key = r .key; channel = r .channel; ended = r .ended; done = r .done; stamp = r .stamp; deps = ds; recent = r .recent; slots = r .slots }
 
 abbrev pub withSlots : List Slot → Region → Region
-withSlots ss r = record { key = r .key; channel = r .channel; ended = r .ended; done = r .done; stamp = r .stamp; deps = r .deps; slots = ss }
+withSlots ss r = record { key = r .key; channel = r .channel; ended = r .ended; done = r .done; stamp = r .stamp; deps = r .deps; recent = r .recent; slots = ss }
+
+abbrev pub withRecent : List ℕ → Region → Region
+withRecent ls r = record { key = r .key; channel = r .channel; ended = r .ended; done = r .done; stamp = r .stamp; deps = r .deps; recent = ls; slots = r .slots }
 
 abbrev pub withState : SlotState → Slot → Slot
 withState x s = record { line = s .line; state = x }

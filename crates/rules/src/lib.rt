@@ -17,7 +17,8 @@ pub struct Slot {
 }
 
 // An uncommitted region. Every region listed here is in the dependence list; those that are not done are the modified list. Its entry is in `channel`.
-// `stamp` tells which region ended first. `deps` are the keys of the regions on which it depends, 0 for a free place.
+// `stamp` tells which region ended first. `deps` are the keys of the regions on which it depends, 0 for a free place. `recent` are the last four different
+// lines that it wrote, the newest first; a place behind them holds 0.
 pub struct Region {
     pub key: u32,
     pub channel: u8,
@@ -25,6 +26,7 @@ pub struct Region {
     pub done: bool,
     pub stamp: u32,
     pub deps: [u32; measures::MOST_DEPS],
+    pub recent: [u8; measures::MOST_RECENT],
     pub slots: [Slot; measures::MOST_SLOTS],
 }
 

@@ -1,15 +1,46 @@
--- One turn of the flight, at an index of the array.
+-- The last four different lines one by one, and one turn of the flight, at an index of the array.
 use Prim.Native.Nat.{_+_, _<_, _≤_, suc, ℕ}
 use mathlib.Core.Path.{_≡_}
-use mathlib.Core.Bool.{Bool, cond}
-use mathlib.Core.List.{List}
+use mathlib.Core.Bool.{Bool, _||_, cond}
+use mathlib.Core.List.{List, [], _∷_}
+use lib.Dec.{eqb}
 use lib.ListN.{drop, drop-of-length-le, getD, length, set}
 use native.Mathlib.Omega.{arith}
 use native.Mathlib.Numerals.{add-one}
 use lib.Seq.{drop-cons, drop-set-lt}
-use Rattle.rules.specs.Slots.{carried, flies}
+use Rattle.lookup.proofs.Search.{four}
+use Rattle.rules.specs.Lists.{place}
+use Rattle.rules.specs.Slots.{carried, flies, renewed, withoutLine}
 use Rattle.rules.specs.Tables.{lineOf}
 use Rattle.rules.specs.declared.Slot.{Slot}
+use Rattle.undo.proofs.Laws.{test}
+
+-- The last four lines, by where line l stands among them
+
+module _ (ls : List ℕ) (l : ℕ) (h : length ls ≡ 4) where
+  abbrev at : ℕ → ℕ
+  at i = getD ls i 0
+
+  pub renewed-is :
+      l
+      ∷ cond (eqb (at 0) l) (at 1) (at 0)
+      ∷ cond (eqb (at 0) l || eqb (at 1) l) (at 2) (at 1)
+      ∷ cond ((eqb (at 0) l || eqb (at 1) l) || eqb (at 2) l) (at 3) (at 2)
+      ∷ []
+      ≡ renewed l ls
+  unfolding renewed withoutLine
+  renewed-is =
+      rw (four 0 ls h)
+      (test (eqb (at 0) l) (λ a. rw a)
+      (λ a. rw a (test (eqb (at 1) l) (λ b. rw b) (λ b. rw b (test (eqb (at 2) l) (λ e. rw e) (λ e. rw e))))))
+
+  pub place-is : cond (eqb l (at 0)) 0 (cond (eqb l (at 1)) 1 (cond (eqb l (at 2)) 2 (cond (eqb l (at 3)) 3 4))) ≡ place (eqb l) ls
+  unfolding place
+  place-is =
+      rw (four 0 ls h)
+      (test (eqb l (at 0)) (λ a. rw a)
+      (λ a. rw a (test (eqb l (at 1)) (λ b. rw b)
+      (λ b. rw b (test (eqb l (at 2)) (λ e. rw e) (λ e. rw e (test (eqb l (at 3)) (λ f. rw f) (λ f. rw f))))))))
 
 -- The lines that the flights carry: the slots below i have flown, and q differs from the slots at the start only there
 

@@ -1,6 +1,7 @@
 // A region's slots, by value: the counts, the drop and the flight.
 use measures::Lines;
 use measures::Locks;
+use measures::MOST_RECENT;
 use measures::MOST_SLOTS;
 use measures::RIPE_COUNT;
 use rules::Found;
@@ -10,60 +11,89 @@ use rules::SlotState;
 ghost use mathlib.Core.Path.{_≡_};
 ghost use mathlib.Core.Bool.{_&&_, cond, not};
 ghost use mathlib.Core.List.{map};
+ghost use lib.Dec.{eqb};
 ghost use lib.ListN.{set};
 ghost use Rattle.measures.specs.Loan.{left, was};
+ghost use Rattle.rules.specs.Lists.{place};
 ghost use Rattle.rules.specs.Tables.{lineOf, withState};
-ghost use Rattle.rules.specs.Slots.{carried, counted, countedSlot, flownSlots, isRipe, written};
+ghost use Rattle.rules.specs.Slots.{carried, counted, countedSlot, flownSlots, isRipe, renewed, written};
 ghost use Rattle.rules.specs.Acknowledge.{dropped, droppedSlot};
 ghost use Rattle.rules.specs.declared.SlotState.the-variants.{InFlight};
 
-// ---- "Every other waiting slot of the region counts one more, to at most 4"
+// ---- "the number of different other lines the region has written since its last write of this line, up to 4"
 
-fn counted(st: SlotState) -> SlotState
-    ensures { λ r. ⌜ r ≡ counted st ⌝ }
+// One of two numbers, without a branch.
+fn either(b: bool, x: u8, y: u8) -> u8
+    ensures { λ r. ⌜ r ≡ cond b x y ⌝ }
+{
+    if b { x } else { y }
+}
+
+// The last four different lines after a write of line l: l goes to the front, and its former place, or the last, goes. A line moves back by one place
+// unless l stood before it.
+pub fn renewed(ls: [u8; MOST_RECENT], l: u8) -> [u8; MOST_RECENT]
+    ensures { λ r. ⌜ r ≡ renewed l ls ⌝ }
+{
+    let first = ls[0] == l;
+    let second = first | (ls[1] == l);
+    let third = second | (ls[2] == l);
+    [
+        l,
+        either(first, ls[1], ls[0]),
+        either(second, ls[2], ls[1]),
+        either(third, ls[3], ls[2]),
+    ]
+}
+
+// The place of a line among the last four, 4 if it is not there: how many other lines were written since.
+fn place_in(ls: [u8; MOST_RECENT], l: u8) -> u8
+    ensures { λ r. ⌜ r ≡ place (eqb l) ls ⌝ }
+{
+    let last = either(l == ls[3], 3, RIPE_COUNT);
+    let third = either(l == ls[2], 2, last);
+    let second = either(l == ls[1], 1, third);
+    either(l == ls[0], 0, second)
+}
+
+// What a slot of line l is when the last four different lines are these.
+fn counted(st: SlotState, ls: [u8; MOST_RECENT], l: u8) -> SlotState
+    ensures { λ r. ⌜ r ≡ counted ls l st ⌝ }
 {
     match st {
         SlotState::Empty => SlotState::Empty,
-        SlotState::Waiting(c) => {
-            if c < RIPE_COUNT {
-                SlotState::Waiting(c + 1)
-            } else {
-                SlotState::Waiting(RIPE_COUNT)
-            }
-        }
+        SlotState::Waiting(c) => SlotState::Waiting(place_in(ls, l)),
         SlotState::InFlight => SlotState::InFlight,
     }
 }
 
-// A waiting slot counts one more, to at most 4.
-fn counted_slot(s: Slot) -> Slot
-    ensures { λ r. ⌜ r ≡ countedSlot s ⌝ }
+fn counted_slot(s: Slot, ls: [u8; MOST_RECENT]) -> Slot
+    ensures { λ r. ⌜ r ≡ countedSlot ls s ⌝ }
 {
     let st = s.state;
-    lookup::slot(s.line, counted(st))
+    lookup::slot(s.line, counted(st, ls, s.line))
 }
 
-// Every waiting slot counts one more.
-fn counted_slots(slots: [Slot; MOST_SLOTS]) -> [Slot; MOST_SLOTS]
-    ensures { λ r. ⌜ r ≡ map countedSlot slots ⌝ }
+// Every waiting slot has its count.
+fn counted_slots(slots: [Slot; MOST_SLOTS], ls: [u8; MOST_RECENT]) -> [Slot; MOST_SLOTS]
+    ensures { λ r. ⌜ r ≡ map (countedSlot ls) slots ⌝ }
 {
     let mut q = slots;
     let mut i: usize = 0;
     while i < MOST_SLOTS {
         let s = q[i];
-        q[i] = counted_slot(s);
+        q[i] = counted_slot(s, ls);
         i += 1;
     }
     q
 }
 
-// The slots after a write of line l: its slot waits with count 0, every other waiting slot counts.
-pub fn written(slots: [Slot; MOST_SLOTS], l: u8) -> [Slot; MOST_SLOTS]
-    ensures { λ r. ⌜ r ≡ written l slots ⌝ }
+// The slots after a write of line l, the newest of the last four different lines: its slot waits with count 0, every other waiting slot has its count.
+pub fn written(slots: [Slot; MOST_SLOTS], ls: [u8; MOST_RECENT], l: u8) -> [Slot; MOST_SLOTS]
+    ensures { λ r. ⌜ r ≡ written ls l slots ⌝ }
 {
     match lookup::slot_for(slots, l) {
         Found::At(k) => {
-            let mut q = counted_slots(slots);
+            let mut q = counted_slots(slots, ls);
             q[k] = lookup::slot(l, SlotState::Waiting(0));
             q
         }

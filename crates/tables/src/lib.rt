@@ -90,7 +90,7 @@ fn done_at(regions: &Regions, i: usize) -> bool
 {
     rows::regions_length(regions);
     if i < MOST_REGIONS {
-        regions[i][2] == 1
+        rows::done_in(regions[i][1])
     } else {
         false
     }

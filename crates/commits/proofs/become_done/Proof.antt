@@ -1,9 +1,9 @@
 use mathlib.Core.Path.{_∙_, sym}
 use native.Mathlib.Omega.{arith}
-use borrow.Author.Needs.{needs}
 use borrow.Author.Tests.{not-false, not-true}
 use Rattle.rows.specs.Row.{regionOf}
 use Rattle.commits.proofs.Row.{done-open, done-slot, done-yes}
+use borrow.Author.Needs.{needs}
 use Rattle.commits.proofs.become_done.Statement.{statement}
 use Rattle.commits.proofs.become_done.Tie as tie
 
@@ -19,15 +19,23 @@ ended-in-requires c κs = search needs
 has-slot-requires : tie.Need-has-slot-requires
 has-slot-requires c κs = search needs
 
+element-copy-out-done-word : tie.Need-element-copy-out-done-word
+element-copy-out-done-word c = search needs
+
+done-word-requires : tie.Need-done-word-requires
+done-word-requires c κs = search needs
+
 element-write-row : tie.Need-element-write-row
 element-write-row c = search needs
 
 returns : tie.Need-returns
 unfolding regionOf
 returns c =
-    let w = c .before .before .before .before .before .before in
-    done-yes (w .before .before .args .row .now) (omega (arith, w .region-length .ensures)) (sym (c .before .before .before .before .ended-in .ensures) ∙ c .before .before .before .if1 .taken)
-    (sym (c .before .has-slot .ensures) ∙ not-true _ (c .if2 .taken))
+    let e = c .before .before .before .before .before .before in
+    let w = e .before .before in
+    done-yes (w .before .before .args .row .now) (c .done-word .result) (omega (arith, w .region-length .ensures)) (c .done-word .ensures)
+    (sym (e .ended-in .ensures) ∙ c .before .before .before .before .before .if1 .taken)
+    (sym (c .before .before .before .has-slot .ensures) ∙ not-true _ (c .before .before .if2 .taken))
 
 returns-2 : tie.Need-returns-2
 returns-2 c = done-slot _ (sym (c .before .has-slot .ensures) ∙ not-false _ (c .if2 .left))
@@ -44,6 +52,8 @@ become-done-spec =
     element-copy-out-ended-in
     ended-in-requires
     has-slot-requires
+    element-copy-out-done-word
+    done-word-requires
     element-write-row
     returns
     returns-2

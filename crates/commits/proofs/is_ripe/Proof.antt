@@ -1,21 +1,23 @@
 use mathlib.Core.Bool.{not}
 use mathlib.Core.Path.{_∙_, ap, sym}
-use borrow.Author.Needs.{needs}
-use borrow.Author.Tests.{eq-eqb, ne-eqb}
 use Rattle.rows.specs.Row.{regionOf}
 use Rattle.commits.proofs.Row.{ripe-done}
+use borrow.Author.Needs.{needs}
 use Rattle.commits.proofs.is_ripe.Statement.{statement}
 use Rattle.commits.proofs.is_ripe.Tie as tie
 
-element-copy-out-if1 : tie.Need-element-copy-out-if1
-element-copy-out-if1 c = search needs
+element-copy-out-done-in : tie.Need-element-copy-out-done-in
+element-copy-out-done-in c = search needs
+
+done-in-requires : tie.Need-done-in-requires
+done-in-requires c κs = search needs
 
 can-commit-requires : tie.Need-can-commit-requires
 can-commit-requires c κs = search needs
 
 returns : tie.Need-returns
 unfolding regionOf
-returns c = c .can-commit .ensures ∙ sym (ripe-done (regionOf (c .before .before .before .args .row .now)) (eq-eqb _ _ (c .before .if1 .taken)))
+returns c = c .can-commit .ensures ∙ sym (ripe-done (regionOf (c .before .before .before .before .args .row .now)) (sym (c .before .before .done-in .ensures) ∙ c .before .if1 .taken))
 
 element-copy-out-ended-in : tie.Need-element-copy-out-ended-in
 element-copy-out-ended-in c = search needs
@@ -28,17 +30,18 @@ has-slot-requires c κs = search needs
 
 returns-2 : tie.Need-returns-2
 unfolding regionOf
-returns-2 c = simp (ne-eqb _ _ (c .before .before .before .before .if1 .left), sym (c .before .before .ended-in .ensures) ∙ c .before .if2 .taken) (ap not (c .has-slot .ensures))
+returns-2 c = simp (sym (c .before .before .before .before .before .done-in .ensures) ∙ c .before .before .before .before .if1 .left, sym (c .before .before .ended-in .ensures) ∙ c .before .if2 .taken) (ap not (c .has-slot .ensures))
 
 returns-3 : tie.Need-returns-3
 unfolding regionOf
-returns-3 c = simp (ne-eqb _ _ (c .before .before .before .if1 .left), sym (c .before .ended-in .ensures) ∙ c .if2 .left, c .if2 .left)
+returns-3 c = simp (sym (c .before .before .before .before .done-in .ensures) ∙ c .before .before .before .if1 .left, sym (c .before .ended-in .ensures) ∙ c .if2 .left, c .if2 .left)
 
 pub is-ripe-spec : {M : Type 1} → statement M
 is-ripe-spec =
     tie.close
     (tie.spec
-    element-copy-out-if1
+    element-copy-out-done-in
+    done-in-requires
     can-commit-requires
     returns
     element-copy-out-ended-in

@@ -66,8 +66,11 @@ array-read-ended-in c = search needs
 ended-in-requires : tie.Need-ended-in-requires
 ended-in-requires c κs = search needs
 
-array-read-t40 : tie.Need-array-read-t40
-array-read-t40 c = search needs
+array-read-done-in : tie.Need-array-read-done-in
+array-read-done-in c = search needs
+
+done-in-requires : tie.Need-done-in-requires
+done-in-requires c κs = search needs
 
 array-read-t44 : tie.Need-array-read-t44
 array-read-t44 c = search needs
@@ -84,9 +87,15 @@ array-read-t53 c = search needs
 array-read-t56 : tie.Need-array-read-t56
 array-read-t56 c = search needs
 
+array-read-recent-in : tie.Need-array-read-recent-in
+array-read-recent-in c = search needs
+
+recent-in-requires : tie.Need-recent-in-requires
+recent-in-requires c κs = search needs
+
 returns : tie.Need-returns
 unfolding regionOf
-returns c = simp (c .ended-in .ensures, c .before .channel-in .ensures, c .before .before .slot-of8 .ensures, c .before .before .before .slot-of7 .ensures, c .before .before .before .before .slot-of6 .ensures, c .before .before .before .before .before .slot-of5 .ensures, c .before .before .before .before .before .before .slot-of4 .ensures, c .before .before .before .before .before .before .before .slot-of3 .ensures, c .before .before .before .before .before .before .before .before .slot-of2 .ensures, c .before .before .before .before .before .before .before .before .before .slot-of .ensures)
+returns c = simp (c .recent-in .ensures, c .before .done-in .ensures, c .before .before .ended-in .ensures, c .before .before .before .channel-in .ensures, c .before .before .before .before .slot-of8 .ensures, c .before .before .before .before .before .slot-of7 .ensures, c .before .before .before .before .before .before .slot-of6 .ensures, c .before .before .before .before .before .before .before .slot-of5 .ensures, c .before .before .before .before .before .before .before .before .slot-of4 .ensures, c .before .before .before .before .before .before .before .before .before .slot-of3 .ensures, c .before .before .before .before .before .before .before .before .before .before .slot-of2 .ensures, c .before .before .before .before .before .before .before .before .before .before .before .slot-of .ensures)
 
 pub region-of-spec : {M : Type 1} → statement M
 region-of-spec =
@@ -113,10 +122,13 @@ region-of-spec =
     channel-in-requires
     array-read-ended-in
     ended-in-requires
-    array-read-t40
+    array-read-done-in
+    done-in-requires
     array-read-t44
     array-read-t47
     array-read-t50
     array-read-t53
     array-read-t56
+    array-read-recent-in
+    recent-in-requires
     returns)

@@ -34,20 +34,32 @@ array-copy-out-s7 c = search needs
 channel-word-requires : tie.Need-channel-word-requires
 channel-word-requires c κs = search needs
 
-flag-requires : tie.Need-flag-requires
-flag-requires c κs = search needs
+array-read-recent-word : tie.Need-array-read-recent-word
+array-read-recent-word c = search needs
 
-array-read-t34 : tie.Need-array-read-t34
-array-read-t34 c = search needs
+array-read-recent-word-2 : tie.Need-array-read-recent-word-2
+array-read-recent-word-2 c = search needs
 
-array-read-t37 : tie.Need-array-read-t37
-array-read-t37 c = search needs
+array-read-recent-word-3 : tie.Need-array-read-recent-word-3
+array-read-recent-word-3 c = search needs
 
-array-read-t40 : tie.Need-array-read-t40
-array-read-t40 c = search needs
+array-read-recent-word-4 : tie.Need-array-read-recent-word-4
+array-read-recent-word-4 c = search needs
 
-array-read-t43 : tie.Need-array-read-t43
-array-read-t43 c = search needs
+recent-word-requires : tie.Need-recent-word-requires
+recent-word-requires c κs = search needs
+
+array-read-t47 : tie.Need-array-read-t47
+array-read-t47 c = search needs
+
+array-read-t50 : tie.Need-array-read-t50
+array-read-t50 c = search needs
+
+array-read-t53 : tie.Need-array-read-t53
+array-read-t53 c = search needs
+
+array-read-t56 : tie.Need-array-read-t56
+array-read-t56 c = search needs
 
 slot-word-requires : tie.Need-slot-word-requires
 slot-word-requires c κs = search needs
@@ -74,7 +86,7 @@ slot-word-requires-8 : tie.Need-slot-word-requires-8
 slot-word-requires-8 c κs = search needs
 
 returns : tie.Need-returns
-returns c = let e = c .before .before .before .before .before .before .before .before .before .before .before .before .before .before .before .before .before .before .before .before .lengths .ensures in packed _ _ (e .0) (e .1) refl (c .before .before .before .before .before .before .before .before .before .channel-word .ensures) (c .before .before .before .before .before .before .before .before .flag .ensures .0) refl refl refl refl refl (c .before .before .before .before .before .before .before .slot-word .ensures) (c .before .before .before .before .before .before .slot-word2 .ensures) (c .before .before .before .before .before .slot-word3 .ensures) (c .before .before .before .before .slot-word4 .ensures) (c .before .before .before .slot-word5 .ensures) (c .before .before .slot-word6 .ensures) (c .before .slot-word7 .ensures) (c .slot-word8 .ensures)
+returns c = let e = c .before .before .before .before .before .before .before .before .before .before .before .before .before .before .before .before .before .before .before .before .before .lengths .ensures in packed _ _ (e .0) (e .1) (e .2) refl (c .before .before .before .before .before .before .before .before .before .channel-word .ensures) (c .before .before .before .before .before .before .before .before .recent-word .ensures) refl refl refl refl refl (c .before .before .before .before .before .before .before .slot-word .ensures) (c .before .before .before .before .before .before .slot-word2 .ensures) (c .before .before .before .before .before .slot-word3 .ensures) (c .before .before .before .before .slot-word4 .ensures) (c .before .before .before .slot-word5 .ensures) (c .before .before .slot-word6 .ensures) (c .before .slot-word7 .ensures) (c .slot-word8 .ensures)
 
 pub row-of-spec : {M : Type 1} → statement M
 row-of-spec =
@@ -90,11 +102,15 @@ row-of-spec =
     array-copy-out-s6
     array-copy-out-s7
     channel-word-requires
-    flag-requires
-    array-read-t34
-    array-read-t37
-    array-read-t40
-    array-read-t43
+    array-read-recent-word
+    array-read-recent-word-2
+    array-read-recent-word-3
+    array-read-recent-word-4
+    recent-word-requires
+    array-read-t47
+    array-read-t50
+    array-read-t53
+    array-read-t56
     slot-word-requires
     slot-word-requires-2
     slot-word-requires-3

@@ -20,10 +20,10 @@ use Rattle.rules.proofs.SlotLaws.{counted-view}
 use Rattle.rules.proofs.SlotWrites.{distinct-written, length-written, state-written, state-written-other}
 use Rattle.rules.proofs.Words.{line-set, word-small}
 use Rattle.rules.proofs.Views.{carryOf, newest, stateOf}
-use Rattle.rules.specs.Access.{changeLine, stored, storedIn, wordAfter}
+use Rattle.rules.specs.Access.{changeLine, stored, storedIn, wordAfter, wroteLine}
 use Rattle.rules.specs.History.{Account, Stores, depthIn, endsIn, lastWriter, linesIn, openedIn, regionIn, usesIn, writesIn}
-use Rattle.rules.specs.Slots.{isFull, slotFor, written}
-use Rattle.rules.specs.Tables.{Board, isPlaced, lineOf, listed, ownerOf, placeOf, regionAt, threadAt, withLocks, withOld, withOwners, withSlots, withTables, withThreads}
+use Rattle.rules.specs.Slots.{isFull, renewed, slotFor}
+use Rattle.rules.specs.Tables.{Board, isPlaced, lineOf, listed, ownerOf, placeOf, regionAt, threadAt, withLocks, withOld, withOwners, withTables, withThreads}
 use Rattle.rules.specs.declared.Region.{Region}
 use Rattle.rules.specs.declared.Thread.{Thread}
 use Rattle.undo.proofs.Laws.{and-true, never, test}
@@ -42,9 +42,9 @@ abbrev pub relogged : List Thread → List ℕ → List Bool → List (List ℕ)
 relogged ths ow lo ol b =
     withOld ol (withTables (withThreads ths (withOwners ow (withLocks lo (b .tables)))) b)
 
--- region k's record with its slots after a write of line l
+-- region k's record with its last lines and its slots after a write of line l
 abbrev pub slotted : ℕ → ℕ → Board → Region
-slotted k l b = withSlots (written l (regionAt k (b .tables .regions) .slots)) (regionAt k (b .tables .regions))
+slotted k l b = wroteLine l (regionAt k (b .tables .regions))
 
 -- the state of the undo log after a write: chains and locks are as they are given
 abbrev pub after : (ℕ → List (u.Entry (List ℕ))) → (ℕ → Bool) → ℕ → ℕ → (List ℕ → List ℕ) → u.State (List ℕ) → u.State (List ℕ)
@@ -69,6 +69,10 @@ module _ {b : Board} {es : List Account} {s : u.State (List ℕ)} {h : v.History
     (in′ : listed (regionIn t es) (b .tables .regions) ≡ true)
     (room : isFull (slotFor l (regionAt (regionIn t es) (b .tables .regions) .slots)) ≡ false) (inside : l < 256) (kl : KeepsLine change)
     (op : u.Open s (regionIn t es)) where
+  -- the region's last lines after the write
+  abbrev last : List ℕ
+  last = renewed l (regionAt (regionIn t es) (b .tables .regions) .recent)
+
   store-told : Told (stored (regionIn t es) (slotted (regionIn t es) l b) l change (relogged ths ow lo ol b)) (Stores t l change ∷ es)
       (after ch lk (regionIn t es) l change s) (v.wrote (regionIn t es) l change h)
   unfolding stored depthIn openedIn linesIn endsIn writesIn usesIn lastWriter
@@ -83,8 +87,8 @@ module _ {b : Board} {es : List Account} {s : u.State (List ℕ)} {h : v.History
         free = λ e. absurd (eqb-false (regionIn t es) 0 (listed-key (regionIn t es) (b .tables .regions) in′)
             (sym (key-at (regionIn t es) (b .tables .regions) in′) ∙ e));
         deps = g .deps;
-        slots = length-written l (regionAt (regionIn t es) (b .tables .regions) .slots) ∙ g .slots;
-        distinct = distinct-written (regionAt (regionIn t es) (b .tables .regions) .slots) l room inside (g .distinct);
+        slots = length-written last l (regionAt (regionIn t es) (b .tables .regions) .slots) ∙ g .slots;
+        distinct = distinct-written last (regionAt (regionIn t es) (b .tables .regions) .slots) l room inside (g .distinct);
         finished = λ d. never d (open-undone (regionIn t es) i op in′);
       }
 
@@ -114,9 +118,9 @@ module _ {b : Board} {es : List Account} {s : u.State (List ℕ)} {h : v.History
       rw (region-stored (regionIn t es) (b .tables .regions) (slotted (regionIn t es) l b) in′ (entry-at (regionIn t es) (b .tables .regions) in′) q)
       (test (eqb q (regionIn t es))
       (λ d. test (eqb x l)
-      (λ f. rw (f, d, eqb-true x l f, state-written (regionAt (regionIn t es) (b .tables .regions) .slots) l room))
-      (λ f. rw (f, d, eqb-true q (regionIn t es) d, state-written-other (regionAt (regionIn t es) (b .tables .regions) .slots) l room x f)
-      (i .slot x (regionIn t es) ∙ sym (counted-view (b .car) x (stateOf x (regionAt (regionIn t es) (b .tables .regions) .slots))))))
+      (λ f. rw (f, d, eqb-true x l f, state-written last (regionAt (regionIn t es) (b .tables .regions) .slots) l room))
+      (λ f. rw (f, d, eqb-true q (regionIn t es) d, state-written-other last (regionAt (regionIn t es) (b .tables .regions) .slots) l room x f)
+      (i .slot x (regionIn t es) ∙ sym (counted-view last (b .car) x (stateOf x (regionAt (regionIn t es) (b .tables .regions) .slots))))))
       (λ d. test (eqb x l)
       (λ f. rw (f, d, eqb-true x l f) (i .slot l q))
       (λ f. rw (f, d) (i .slot x q))))

@@ -23,13 +23,13 @@ use Rattle.rules.proofs.Sim.Base.{lines-256}
 use Rattle.rules.proofs.Sim.Flight.{flights, flown-rest}
 use Rattle.rules.proofs.Sim.Parts.{Owner, logged-live, open-listed, owned, owner-is, part-stored, rebuilt, unowned}
 use Rattle.rules.proofs.Views.{carryOf, newest, stateOf}
-use Rattle.rules.specs.Access.{changeLine, dependence, isOf, joined, logged, loggedOnce, needsLog, read, stored, storedIn, write, wrote}
+use Rattle.rules.specs.Access.{changeLine, dependence, isOf, joined, logged, loggedOnce, needsLog, read, stored, storedIn, write, wrote, wroteLine}
 use Rattle.rules.specs.Acknowledge.{kept}
 use Rattle.rules.specs.Commit.{commits}
 use Rattle.rules.specs.Flight.{flown}
 use Rattle.rules.specs.History.{Account, Stores, regionIn}
 use Rattle.rules.specs.Refusal.{depthOf, isForeignOpen, isSetUp, testsOf}
-use Rattle.rules.specs.Slots.{flownSlots, isFull, slotFor, written}
+use Rattle.rules.specs.Slots.{flownSlots, isFull, slotFor}
 use Rattle.rules.specs.Step.{apply, setup}
 use Rattle.rules.specs.Tables.{Board, Memory, current, isPlaced, lineOf, listed, locked, noRegion, ownerOf, placeOf, regionAt, startLines, threadAt, withDeps, withSlots, withTables}
 use Rattle.rules.specs.declared.Event.the-variants.{Write}
@@ -146,7 +146,7 @@ module _ (t l k : ℕ) (change : List ℕ → List ℕ) (b : Board) (cur : curre
         is-same k,
         place-stored k (b .tables .regions) r in′ (entry-at k (b .tables .regions) in′) k,
       )
-      (sym (set-set (b .tables .regions) (placeOf k (b .tables .regions)) r (withSlots (written l (r .slots)) r)))
+      (sym (set-set (b .tables .regions) (placeOf k (b .tables .regions)) r (wroteLine l r)))
 
   write-is : write t l change b ≡ flown k (stored k (slotted k l (withTables (read k l (b .tables)) b)) l change (loggedOnce t k l (withTables (read k l (b .tables)) b)))
   unfolding write stored logged read

@@ -1,6 +1,6 @@
+use borrow.Author.Needs.{needs}
 use Rattle.slots.proofs.counted_slot.Statement.{statement}
 use Rattle.slots.proofs.counted_slot.Tie as tie
-use borrow.Author.Needs.{needs}
 
 counted-requires : tie.Need-counted-requires
 counted-requires c κs = search needs

@@ -9,10 +9,10 @@ use Rattle.rules.specs.Slots.{countedSlot}
 use Rattle.lookup.proofs.Map.{map-end, map-more, mapped}
 
 abbrev Inv-loop : tie.InvT-loop
-Inv-loop q₀ i₀ q i = (i ≤ 8) × ((length q ≡ 8) × (mapped countedSlot i q ≡ map countedSlot q₀))
+Inv-loop ls q₀ i₀ q i = (i ≤ 8) × ((length q ≡ 8) × (mapped (countedSlot ls) i q ≡ map (countedSlot ls) q₀))
 
 abbrev μ-loop : tie.MeasureT-loop
-μ-loop q₀ i₀ q i = 8 - i
+μ-loop ls q₀ i₀ q i = 8 - i
 
 loop-holds : tie.Need-loop-holds Inv-loop μ-loop
 loop-holds c = (search needs, (search needs, refl))
@@ -40,10 +40,10 @@ loop-less c = search needs
 
 loop-again : tie.Need-loop-again Inv-loop μ-loop
 loop-again c = let at = c .before .before .before .loop in
-    (search needs, (simp length-set (at .inv .1 .0), rw (c .counted-slot .ensures) (sym (map-more countedSlot (at .i) (at .q) _ (search needs)) ∙ at .inv .1 .1)))
+    (search needs, (simp length-set (at .inv .1 .0), rw (c .counted-slot .ensures) (sym (map-more (countedSlot (c .before .before .before .before .args .ls)) (at .i) (at .q) _ (search needs)) ∙ at .inv .1 .1)))
 
 returns : tie.Need-returns Inv-loop μ-loop
-returns c = sym (map-end countedSlot (c .before .loop .i) (c .before .loop .q) (search needs)) ∙ c .before .loop .inv .1 .1
+returns c = sym (map-end (countedSlot (c .before .before .args .ls)) (c .before .loop .i) (c .before .loop .q) (search needs)) ∙ c .before .loop .inv .1 .1
 
 pub counted-slots-spec : {M : Type 1} → statement M
 counted-slots-spec =
