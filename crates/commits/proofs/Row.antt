@@ -2,7 +2,7 @@
 use Prim.Native.Nat.{_%_, _+_, _/_, _<_, _≤_, ℕ}
 use mathlib.Core.Bool.{Bool, _&&_, _||_, cond, false, not, true}
 use mathlib.Core.List.{List, [], _∷_}
-use mathlib.Core.Path.{_∙_, _≡_, ap, refl, sym}
+use mathlib.Core.Path.{_∙_, _≡_, ap, sym}
 use lib.Dec.{eqb, ltb}
 use lib.ListN.{getD, length, length-map, replicate, set}
 use native.Mathlib.Omega.{arith}

@@ -1,21 +1,19 @@
 -- The different lines of a list: each once, in their order; and the last four of them, as a region keeps them.
 use Prim.Native.Nat.{min, suc, zero, ℕ}
 use mathlib.Core.Path.{_∙_, _≡_, ap, refl, sym}
-use mathlib.Core.Bool.{Bool, _&&_, cond, false, false≢true, not, true}
+use mathlib.Core.Bool.{cond, false, false≢true, not, true}
 use mathlib.Core.List.{List, [], _∷_}
 use lib.Dec.{eqb}
 use lib.ListN.{length, take}
 use native.Mathlib.Nat.{min-zero, suc-min-suc, zero-min}
-use native.Mathlib.Omega.{arith}
 use borrow.Author.Tests.{eqb-true}
 use Rattle.laws.proofs.Opened.{Once, is-kept, more, nothing, once-kept}
 use Rattle.laws.specs.Neighbours.{since}
-use Rattle.rules.proofs.Lists.{place-none}
 use Rattle.rules.proofs.Places.{eqb-swap}
 use Rattle.rules.specs.Lists.{count, different, place}
 use Rattle.rules.specs.Slots.{renewed, withoutLine}
-use Rattle.undo.proofs.Laws.{flip, is-same, never, or-false, test}
-use Rattle.undo.specs.Table.{any, isIn, keep}
+use Rattle.undo.proofs.Laws.{flip, is-same, or-false, test}
+use Rattle.undo.specs.Table.{isIn, keep}
 
 abbrev others : ℕ → List ℕ → List ℕ
 others x xs = keep (λ y. not (eqb y x)) xs

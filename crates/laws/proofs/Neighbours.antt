@@ -6,7 +6,7 @@ use mathlib.Core.Logic.{_≢_, _⊎_, inl, inr, ⊎-elim}
 use mathlib.Core.Bool.{Bool, _&&_, _||_, cond, false, false≢true, not, true, true≢false}
 use mathlib.Core.List.{List, [], _∷_, map}
 use lib.Dec.{eqb}
-use lib.ListN.{getD, length, replicate, set}
+use lib.ListN.{getD, length, set}
 use lib.Seq.{set-out}
 use native.Mathlib.Nat.{le-trans}
 use native.Mathlib.Omega.{arith}
@@ -32,15 +32,15 @@ use Rattle.rules.specs.Access.{dependence, joined, logged, needsLog, read, stor
 use Rattle.rules.specs.Acknowledge.{dataAck, dropped, droppedSlot, flightPlace, landed, logAck, unlocked}
 use Rattle.rules.specs.Begin.{begin, begun, opened}
 use Rattle.rules.specs.Claim.{boardAfter, isByteMemory}
-use Rattle.rules.specs.Commit.{Settled, afterCommit, before, commit, commits, doneRegion, earliest, settle, settled}
+use Rattle.rules.specs.Commit.{Settled, afterCommit, before, commit, commits, doneRegion, earliest, settle, settled, withoutDep}
 use Rattle.rules.specs.End.{closed, endRegion}
 use Rattle.rules.specs.Flight.{flown}
 use Rattle.rules.specs.History.{Account, Change, Closes, Cuts, Nothing, Opens, Sets, Stores, Uses, acceptedIn, accountOf, linesWritten, openedIn, regionIn, writesIn}
 use Rattle.rules.specs.Lists.{different, place}
 use Rattle.rules.specs.Refusal.{depthOf, refusal, testsOf}
-use Rattle.rules.specs.Slots.{carries, counted, flownSlots, isEmpty, isFlight, isFull, isRipe, renewed, slotFor}
+use Rattle.rules.specs.Slots.{carries, counted, flownSlots, isEmpty, isFlight, isFull, renewed, slotFor}
 use Rattle.rules.specs.Step.{apply, settledBoard, setup}
-use Rattle.rules.specs.Tables.{Board, Memory, current, freePlace, fresh, isKey, keyOf, listed, noRegion, noSlot, numberOf, placeOf, regionAt, threadAt, threadOf, withDeps, withRegions, withSlots}
+use Rattle.rules.specs.Tables.{Board, Memory, current, freePlace, fresh, isKey, keyOf, listed, noRegion, noSlot, numberOf, placeOf, regionAt, threadAt, threadOf, withDeps, withDone, withEnd, withRegions, withSlots}
 use Rattle.rules.specs.declared.Event.{Event}
 use Rattle.rules.specs.declared.Event.the-variants.{Begin, Cut, DataAck, End, Fence, LogAck, Read, Setup, Write}
 use Rattle.rules.specs.declared.Region.{Region}
@@ -48,7 +48,7 @@ use Rattle.rules.specs.declared.Slot.{Slot}
 use Rattle.rules.specs.declared.SlotState.{SlotState}
 use Rattle.rules.specs.declared.SlotState.the-variants.{Empty, InFlight, Waiting}
 use Rattle.rules.specs.declared.Tables.{Tables}
-use Rattle.undo.proofs.Laws.{and-true, is-same, never, or-right, test}
+use Rattle.undo.proofs.Laws.{and-true, or-right, test}
 use Rattle.undo.specs.Table.{any, isIn}
 
 -- ---- one region, whose writes were of the lines ls
@@ -136,6 +136,15 @@ later-slots r l ds = record { key = refl; recent = refl; ended = λ e. e; slot =
 later-same : (r : Region) → Later r r
 later-same r = record { key = refl; recent = refl; ended = λ e. e; slot = λ x. stays }
 
+later-deps : (ds : List ℕ) (r : Region) → Later r (withDeps ds r)
+later-deps ds r = record { key = refl; recent = refl; ended = λ e. e; slot = λ x. stays }
+
+later-done : (d : Bool) (r : Region) → Later r (withDone d r)
+later-done d r = record { key = refl; recent = refl; ended = λ e. e; slot = λ x. stays }
+
+later-ended : (n : ℕ) (r : Region) → Later r (withEnd n r)
+later-ended n r = record { key = refl; recent = refl; ended = λ e. absurd (true≢false e); slot = λ x. stays }
+
 later-dropped : (k l : ℕ) (r : Region) → Distinct (r .slots) → Later r (dropped k l r)
 unfolding dropped
 later-dropped k l r ds = test (isKey k r) (λ d. rw d (later-same r)) (λ d. rw d (later-slots r l ds))
@@ -216,7 +225,7 @@ unfolding afterCommit
 fits-commit ws k r f =
     test (isKey k r)
     (λ d. rw d (λ n. absurd (n refl)))
-    (λ d. rw d (fits-later ws (record { key = refl; recent = refl; ended = λ e. e; slot = λ x. stays }) f))
+    (λ d. rw d (fits-later ws (later-deps (map (withoutDep k) (r .deps)) r) f))
 
 none-commits : (k : ℕ) → afterCommit k noRegion ≡ noRegion
 unfolding afterCommit
@@ -244,7 +253,7 @@ unfolding settledBoard settled doneRegion
 counts-settled ws b c =
     counts-settle ws (length (b .tables .regions)) (withRegions (map doneRegion (b .tables .regions)) (b .tables))
     (counts-map ws doneRegion (b .tables .regions) refl
-    (λ i f. fits-later ws (record { key = refl; recent = refl; ended = λ e. e; slot = λ x. stays }) f) c)
+    (λ i f. fits-later ws (later-done _ (getD (b .tables .regions) i noRegion)) f) c)
 
 -- ---- a begin: a region that was not opened has written nothing
 
@@ -311,14 +320,13 @@ module _ (m : Memory) (b : Board) (es : List Account) (kept : Kept m b es) (c : 
   after-read : (k l : ℕ) → Counts (writesIn es) (read k l ts .regions)
   unfolding read
   after-read k l =
-      counts-later (writesIn es) rs (placeOf k rs) _ (record { key = refl; recent = refl; ended = λ e. e; slot = λ x. stays }) c
+      counts-later (writesIn es) rs (placeOf k rs) _ (later-deps (joined (dependence k l ts) (regionAt k rs .deps)) (regionAt k rs)) c
 
   after-end : (t : ℕ) → Counts (writesIn es) (endRegion t b .tables .regions)
   unfolding endRegion closed
   after-end t =
       counts-flown (writesIn es) (current t ts) _
-      (counts-later (writesIn es) rs (placeOf (current t ts) rs) _
-      (record { key = refl; recent = refl; ended = λ e. absurd (true≢false e); slot = λ x. stays }) c)
+      (counts-later (writesIn es) rs (placeOf (current t ts) rs) _ (later-ended _ (regionAt (current t ts) rs)) c)
 
   after-log : (l : ℕ) → Counts (writesIn es) (logAck l b .tables .regions)
   unfolding logAck unlocked dropped
@@ -348,7 +356,7 @@ module _ (m : Memory) (b : Board) (es : List Account) (kept : Kept m b es) (c : 
         let q : regionAt k rs .key ≡ k = key-at k rs in′ in
         let r : Region = withDeps (joined (dependence k l ts) (regionAt k rs .deps)) (regionAt k rs) in
         let z : Counted (linesWritten (regionAt k rs .key) (writesIn es)) r
-        = later-counted (linesWritten (regionAt k rs .key) (writesIn es)) (record { key = refl; recent = refl; ended = λ e. e; slot = λ x. stays }) (c (placeOf k rs) n) in
+        = later-counted (linesWritten (regionAt k rs .key) (writesIn es)) (later-deps _ (regionAt k rs)) (c (placeOf k rs) n) in
         let y : linesWritten (regionAt k rs .key) ws ≡ l ∷ linesWritten (regionAt k rs .key) (writesIn es)
         = rw (eq-eqb (regionIn t es) (regionAt k rs .key) (sym own ∙ sym q)) in
         subst (λ xs. Counted xs (wroteLine l r)) (sym y) (counted-wrote l (linesWritten (regionAt k rs .key) (writesIn es)) r room z)

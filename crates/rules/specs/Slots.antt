@@ -66,8 +66,8 @@ unfoldable pub withoutLine : ℕ → List ℕ → List ℕ
 withoutLine l [] = []
 withoutLine l (x ∷ xs) = cond (eqb x l) xs (x ∷ withoutLine l xs)
 
--- the last four different lines of a region after a write of line l, where they were ls before it: l is the newest, and its former place, or the oldest
--- line, goes
+-- the last four different lines of a region, the newest first, after a write of line l, where they were ls before it: l is the newest, and its former place,
+-- or the oldest line, goes. Until there are four, the places behind them hold 0
 unfoldable pub renewed : ℕ → List ℕ → List ℕ
 renewed l ls = take ripeCount (l ∷ withoutLine l ls)
 

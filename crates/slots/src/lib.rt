@@ -22,7 +22,7 @@ ghost use Rattle.rules.specs.declared.SlotState.the-variants.{InFlight};
 
 // ---- "the number of different other lines the region has written since its last write of this line, up to 4"
 
-// One of two numbers, without a branch.
+// One of two numbers: the compiler makes no branch of it.
 fn either(b: bool, x: u8, y: u8) -> u8
     ensures { λ r. ⌜ r ≡ cond b x y ⌝ }
 {
