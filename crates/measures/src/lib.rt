@@ -42,7 +42,7 @@ pub const MOST_IN_CHANNEL: usize = 16;
 pub const RIPE_COUNT: u8 = 4;
 
 // Request 2: a count goes up to 4, so that it is told by the last four different lines.
-pub const MOST_RECENT: usize = 4;
+pub const MOST_RECENT: usize = RIPE_COUNT as usize;
 
 // ---- what is lent
 

@@ -238,6 +238,7 @@ fn flag(b: bool) -> u32
     if b { 1 } else { 0 }
 }
 
+// The number of channel, ended and done.
 fn channel_word(c: u8, ended: bool, done: bool) -> u32
     ensures { λ r. ⌜ (r / 2 % 256 ≡ c) × (eqb (r % 2) 1 ≡ ended) × (eqb (r / 512) 1 ≡ done) ⌝ }
 {
