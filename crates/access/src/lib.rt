@@ -1,19 +1,24 @@
-// What an accepted read and an accepted write do, in place. Each function has the rule of document 01 for its contract, for every number and every
-// content of the rows.
+// What an accepted read does and what a write does behind its tests before 20, in place. Each function has the rule of document 01 for its contract, for
+// every number and every content of the rows.
 use measures::Lines;
 use measures::Locks;
 use measures::MOST_ENTRIES;
 use measures::MOST_LOGGED;
+use measures::MOST_RECENT;
+use measures::MOST_SLOTS;
 use measures::MOST_THREADS;
 use measures::OldLines;
 use measures::Owners;
 use measures::Regions;
 use measures::Threads;
+use rules::Found;
 use rules::Region;
+use rules::Slot;
 ghost use mathlib.Core.Path.{_≡_};
 ghost use Rattle.measures.specs.Loan.{left, was};
-ghost use Rattle.rules.specs.Tables.{withDeps};
-ghost use Rattle.rules.specs.Access.{changeLine, joined, logged, loggedOnce, read, storedIn, write, wroteLine};
+ghost use Rattle.rules.specs.Tables.{withDeps, withRecent, withSlots};
+ghost use Rattle.rules.specs.Access.{changeLine, joined, logged, loggedOnce, read, storedIn};
+ghost use Rattle.rules.specs.declared.Event.the-variants.{Write};
 ghost use Rattle.access.specs.Log.{Logs};
 ghost use Rattle.access.specs.Parts.{OnLog, OnRead, OnWrite};
 
@@ -95,17 +100,13 @@ fn joined_region(r: Region, d: u32) -> Region
     q
 }
 
-// The region after a write of line l that brings the dependence d.
-fn wrote_region(r: Region, d: u32, l: u8) -> Region
-    ensures { λ q. ⌜ q ≡ wroteLine l (withDeps (joined d (r .deps)) r) ⌝ }
+// The region after a write that brings the dependence d, with its last four different lines and its slots.
+fn wrote_region(r: Region, d: u32, recent: [u8; MOST_RECENT], slots: [Slot; MOST_SLOTS]) -> Region
+    ensures { λ q. ⌜ q ≡ withSlots slots (withRecent recent (withDeps (joined d (r .deps)) r)) ⌝ }
 {
-    let before = r.recent;
-    let slots = r.slots;
-    let recent = slots::renewed(before, l);
-    let now = slots::written(slots, recent, l);
     let mut q = joined_region(r, d);
     q.recent = recent;
-    q.slots = now;
+    q.slots = slots;
     q
 }
 
@@ -120,7 +121,8 @@ fn store(cur: &mut Lines, l: u8, w: u8, mask: u8, v: u64)
     lines::set_line(cur, l, y);
 }
 
-// A write of thread t to word w of line l.
+// A write of thread t to word w of line l that has passed the tests before 20: the refusal of the other two, or 0 and the write is done. One pass over the
+// region's slots gives test 20 its answer and the region its slots.
 pub fn write(
     threads: &mut Threads,
     regions: &mut Regions,
@@ -134,17 +136,32 @@ pub fn write(
     w: u8,
     mask: u8,
     v: u64,
-)
-    ensures { λ _. ⌜ OnWrite (write t l (storedIn w mask v)) threads regions owner lock cur old car ⌝ }
+) -> u8
+    ensures { λ n. ⌜ OnWrite n (Write t l w mask v) threads regions owner lock cur old car ⌝ }
 {
     let k = tables::current(threads, t);
-    let d = tables::dependence(regions, owner[l as usize], k);
-    log_once(threads, owner, lock, cur, old, t, k, l);
     let i = tables::place_of(regions, k);
     let r = tables::get(regions, i);
-    let q = wrote_region(r, d, l);
+    let before = r.recent;
+    let slots = r.slots;
+    let recent = slots::renewed(before, l);
+    let pass = slots::one_pass(slots, recent, l);
+    let found = pass.slot;
+    let Found::At(at) = found else {
+        return 20;
+    };
+    let o = owner[l as usize];
+    if refusals::lacks_entry(threads, t, o != k) {
+        return 21;
+    }
+    let d = tables::dependence(regions, o, k);
+    log_once(threads, owner, lock, cur, old, t, k, l);
+    let counted = pass.slots;
+    let now = slots::taken(counted, at, l);
+    let q = wrote_region(r, d, recent, now);
     store(cur, l, w, mask, v);
     tables::put_flown(regions, lock, cur, car, i, q);
+    0
 }
 
 // A read of line l by region k: the dependence that it brings.

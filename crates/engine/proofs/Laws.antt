@@ -1,6 +1,6 @@
 -- An event of document 01 from its rule, and its answer.
 use Prim.Native.Nat.{suc, zero, ℕ}
-use mathlib.Core.Path.{_≡_, refl}
+use mathlib.Core.Path.{_≡_, ap, refl, sym}
 use mathlib.Core.Bool.{true}
 use mathlib.Core.List.{List}
 use lib.ListN.{getD, length}
@@ -13,7 +13,10 @@ use Rattle.rules.specs.Commit.{settled}
 use Rattle.rules.specs.End.{endRegion, shallower}
 use Rattle.rules.specs.Lists.{count}
 use Rattle.rules.specs.Record.{readRecord}
-use Rattle.rules.specs.Refusal.{depthOf, refusal}
+use Rattle.refusals.proofs.Order.{goes, stops}
+use Rattle.refusals.specs.Order.{before, from, stepFrom}
+use Rattle.rules.proofs.Tests.{tests-numbered}
+use Rattle.rules.specs.Refusal.{depthOf, firstBad, refusal, testsOf}
 use Rattle.rules.specs.Step.{Stepped, apply, did, fence, settledBoard, step, stepBy, stepEvent}
 use Rattle.rules.specs.Tables.{Board, current, isHeld, lineOf, withCut, withTables}
 use Rattle.rules.specs.declared.Event.{Event}
@@ -60,15 +63,25 @@ module _ (b : Board) where
   unfolding apply
   cut-law v ts ev e = rw (ev, e)
 
-  pub refused-law : (n : ℕ) (e : Event) → n ≡ refusal (b .tables) e → (n ≡ 0 → ⊥) → _≡_ {A = Stepped} (record { board = b; answer = record { refusal = n; value = 0 } }) (stepEvent b e)
-  unfolding stepEvent stepBy
-  refused-law zero e r z = absurd (z refl)
-  refused-law (suc n) e r z = rw (← r)
-
-  pub accepted-law : (v : ℕ) (b₂ : Board) (e : Event) → refusal (b .tables) e ≡ 0 → did v b₂ ≡ apply b e
-      → _≡_ {A = Stepped} (record { board = b₂; answer = record { refusal = 0; value = v } }) (stepEvent b e)
-  unfolding stepEvent stepBy
+  -- an event without a test from 20 on
+  pub accepted-law : (v : ℕ) (b₂ : Board) (e : Event) → firstBad (from 20 (testsOf (b .tables) e)) ≡ 0 → did v b₂ ≡ apply b e
+      → stepped (record { refusal = 0; value = v }) b₂ ≡ stepFrom 20 b e
+  unfolding stepBy
   accepted-law v b₂ e r d = rw (r, ← d)
+
+  -- n is what the tests before 20 say
+  module _ (n : ℕ) (e : Event) (en : n ≡ firstBad (before 20 (testsOf (b .tables) e))) where
+    pub refused-law : (n ≡ 0 → ⊥) → stepped (record { refusal = n; value = 0 }) b ≡ stepEvent b e
+    unfolding stepEvent stepBy refusal
+    refused-law z = rw (← stops 20 n (testsOf (b .tables) e) en z) (go n z)
+      where
+        go : (k : ℕ) → (k ≡ 0 → ⊥) → stepped (record { refusal = k; value = 0 }) b ≡ stepBy k b e
+        go zero z′ = absurd (z′ refl)
+        go (suc k) z′ = refl
+
+    pub goes-on : n ≡ 0 → stepFrom 20 b e ≡ stepEvent b e
+    unfolding stepEvent refusal
+    goes-on z = ap (λ k. stepBy k b e) (sym (goes 20 n (testsOf (b .tables) e) en (tests-numbered (b .tables) e) z))
 
 -- ---- an event by its record
 

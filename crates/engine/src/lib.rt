@@ -19,13 +19,15 @@ ghost use lib.ListN.{set};
 ghost use Rattle.measures.specs.Loan.{was};
 ghost use Rattle.rules.specs.Tables.{channelOf, noRegion, numberOf, withChannel, withDeps, withKey};
 ghost use Rattle.rules.specs.Begin.{begin, opened};
-ghost use Rattle.rules.specs.Refusal.{refusal};
+ghost use Rattle.rules.specs.Refusal.{firstBad, testsOf};
 ghost use Rattle.rules.specs.Step.{apply, did, fence, step, stepEvent};
 ghost use Rattle.rules.specs.declared.Event.the-variants.{DataAck, End, LogAck, Read, Setup};
 ghost use Rattle.rows.specs.Whole.{OnTables, stepped, tablesOf};
 ghost use Rattle.tables.specs.Held.{threadHeld};
+ghost use Rattle.refusals.specs.Order.{before, stepFrom};
 ghost use Rattle.refusals.specs.Told.{ByRows};
 ghost use Rattle.ends.specs.Parts.{OnEnd, OnLogAck};
+ghost use Rattle.engine.specs.declared.Outcome.{Outcome};
 ghost use Rattle.engine.specs.Parts.{Deepens, OnBoard, OnDataAcked, OnNumbers, OnReadWord};
 
 // ---- begin
@@ -186,7 +188,27 @@ fn cut(h: Head) -> Head
     head
 }
 
-// What an accepted event does.
+// ---- an event
+
+// What an event leaves beside the lists: the numbers, and its answer.
+pub struct Outcome {
+    pub head: Head,
+    pub answer: Answer,
+}
+
+fn answered(head: Head, refusal: u8, value: u64) -> Outcome
+    ensures { λ r. ⌜ _≡_ {A = Outcome} r (record { head = head; answer = record { refusal = refusal; value = value } }) ⌝ }
+{
+    Outcome {
+        head: head,
+        answer: Answer {
+            refusal: refusal,
+            value: value,
+        },
+    }
+}
+
+// What an event does that has passed its tests before 20; a write has two more.
 fn apply(
     h: Head,
     threads: &mut Threads,
@@ -198,26 +220,31 @@ fn apply(
     old: &mut OldLines,
     car: &mut Lines,
     e: Event,
-) -> Effect
-    requires { ⌜ refusal (tablesOf h (now threads) (now regions) (now owner) (now lock)) e ≡ 0 ⌝ }
-    ensures { λ r. ⌜ OnBoard (did (r .value)) (λ b. apply b e) (r .head) h threads regions owner lock cur med old car ⌝ }
+) -> Outcome
+    requires { ⌜ firstBad (before 20 (testsOf (tablesOf h (now threads) (now regions) (now owner) (now lock)) e)) ≡ 0 ⌝ }
+    ensures { λ r. ⌜ OnBoard (stepped (r .answer)) (λ b. stepFrom 20 b e) (r .head) h threads regions owner lock cur med old car ⌝ }
 {
     match e {
-        Event::Setup(n, l, s) => set_up(h, n, l, s),
+        Event::Setup(n, l, s) => {
+            let done = set_up(h, n, l, s);
+            let head = done.head;
+            answered(head, 0, done.value)
+        }
         Event::Begin(t) => {
             begin(threads, regions, t);
-            Effect { head: h, value: 0 }
+            answered(h, 0, 0)
         }
-        Event::End(t) => end(h, threads, regions, lock, cur, car, t),
+        Event::End(t) => {
+            let done = end(h, threads, regions, lock, cur, car, t);
+            let head = done.head;
+            answered(head, 0, done.value)
+        }
         Event::Read(t, l, w) => {
             let value = read_word(threads, regions, owner, cur, t, l, w);
-            Effect {
-                head: h,
-                value: value,
-            }
+            answered(h, 0, value)
         }
         Event::Write(t, l, w, mask, v) => {
-            access::write(
+            let n = access::write(
                 threads,
                 regions,
                 owner,
@@ -231,39 +258,25 @@ fn apply(
                 mask,
                 v,
             );
-            Effect { head: h, value: 0 }
+            answered(h, n, 0)
         }
         Event::LogAck(l) => {
             let value = log_acked(threads, regions, owner, lock, cur, car, l);
-            Effect {
-                head: h,
-                value: value,
-            }
+            answered(h, 0, value)
         }
         Event::DataAck(l) => {
             let value = data_acked(threads, regions, med, car, l);
-            Effect {
-                head: h,
-                value: value,
-            }
+            answered(h, 0, value)
         }
-        Event::Fence(t) => Effect {
-            head: h,
-            value: fence(threads, regions, t),
-        },
-        Event::Cut => Effect {
-            head: cut(h),
-            value: tables::count_held(regions) as u64,
-        },
+        Event::Fence(t) => {
+            let value = fence(threads, regions, t);
+            answered(h, 0, value)
+        }
+        Event::Cut => {
+            let value = tables::count_held(regions) as u64;
+            answered(cut(h), 0, value)
+        }
     }
-}
-
-// ---- an event
-
-// What an event leaves beside the lists: the numbers, and its answer.
-pub struct Outcome {
-    pub head: Head,
-    pub answer: Answer,
 }
 
 // One event of any content. A refusal changes nothing, and its value is 0.
@@ -281,25 +294,11 @@ fn step(
 ) -> Outcome
     ensures { λ r. ⌜ OnBoard (stepped (r .answer)) (λ b. stepEvent b e) (r .head) h threads regions owner lock cur med old car ⌝ }
 {
-    let n = refusals::refusal(h, threads, regions, owner, lock, e);
+    let n = refusals::first_refusal(h, threads, regions, owner, lock, e);
     if n != 0 {
-        return Outcome {
-            head: h,
-            answer: Answer {
-                refusal: n,
-                value: 0,
-            },
-        };
+        return answered(h, n, 0);
     }
-    let done = apply(h, threads, regions, owner, lock, cur, med, old, car, e);
-    let head = done.head;
-    Outcome {
-        head: head,
-        answer: Answer {
-            refusal: 0,
-            value: done.value,
-        },
-    }
+    apply(h, threads, regions, owner, lock, cur, med, old, car, e)
 }
 
 // One event call: a record of any content. A refusal changes nothing; bytes behind a whole record are not looked at.
@@ -319,13 +318,7 @@ pub fn event(
 {
     let reading = events::read_record(bytes);
     let Reading::Whole(e) = reading else {
-        return Outcome {
-            head: h,
-            answer: Answer {
-                refusal: events::number_of(reading),
-                value: 0,
-            },
-        };
+        return answered(h, events::number_of(reading), 0);
     };
     step(h, threads, regions, owner, lock, cur, med, old, car, e)
 }

@@ -10,10 +10,6 @@ use native.Mathlib.Numerals.{add-one}
 use borrow.Author.Tests.{lt-ltb}
 use lib.Seq.{drop-cons}
 use Rattle.rules.specs.Lists.{count, place}
-use Rattle.rules.specs.Slots.{isEmpty, names, orAt, slotFrom}
-use Rattle.rules.specs.declared.Found.{Found}
-use Rattle.rules.specs.declared.Found.the-variants.{At}
-use Rattle.rules.specs.declared.Slot.{Slot}
 use Rattle.undo.proofs.Laws.{test}
 use Rattle.undo.specs.Table.{any}
 
@@ -67,24 +63,6 @@ module _ {A : Type 0} (p : A → Bool) where
 pub one-le : (b : Bool) → cond b 1 0 ≤ 1
 one-le true = omega arith
 one-le false = omega arith
-
--- ---- the slot for a line
-
-module _ (l : ℕ) (free : Found) (i : ℕ) (ss : List Slot) (d : Slot) (h : i < length ss) where
-  -- the slot at i does not name the line: the walk goes on
-  pub slot-on : names l (getD ss i d .state) (getD ss i d .line) ≡ false → slotFrom l free i (drop i ss) ≡ slotFrom l (orAt free (isEmpty (getD ss i d .state)) i) (i + 1) (drop (i + 1) ss)
-  unfolding slotFrom
-  slot-on e = rw (add-one i, drop-cons ss i d h, e)
-
-  -- it does: the walk ends there
-  pub slot-hit : names l (getD ss i d .state) (getD ss i d .line) ≡ true → slotFrom l free i (drop i ss) ≡ At i
-  unfolding slotFrom
-  slot-hit e = rw (drop-cons ss i d h, e)
-
--- past the last slot the answer is the empty one that was seen
-pub slot-end : (l : ℕ) (free : Found) (i : ℕ) (ss : List Slot) → length ss ≤ i → slotFrom l free i (drop i ss) ≡ free
-unfolding slotFrom
-slot-end l free i ss h = rw (drop-of-length-le ss h)
 
 -- ---- lists of four
 

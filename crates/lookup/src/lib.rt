@@ -3,9 +3,7 @@
 use measures::MOST_DEPS;
 use measures::MOST_IN_CHANNEL;
 use measures::MOST_LINES;
-use measures::MOST_SLOTS;
 use measures::MOST_THREADS;
-use rules::Found;
 use rules::Shares;
 use rules::Slot;
 use rules::SlotState;
@@ -13,7 +11,7 @@ ghost use mathlib.Core.Path.{_≡_};
 ghost use lib.Dec.{eqb};
 ghost use Rattle.rules.specs.Lists.{place};
 ghost use Rattle.rules.specs.Tables.{channelOf, noSlot, withLine, withState};
-ghost use Rattle.rules.specs.Slots.{carries, isEmpty, names, orAt, slotFor};
+ghost use Rattle.rules.specs.Slots.{carries, isEmpty, names};
 ghost use Rattle.rules.specs.Access.{isHad, joined, wordPlaces};
 ghost use Rattle.rules.specs.Bytes.{byteOf};
 ghost use Rattle.rules.specs.Refusal.{inRange, isNoParty, isUnfit, partyOf, reserveOf};
@@ -182,7 +180,7 @@ pub fn slot_carries(s: Slot, l: u8) -> bool
 }
 
 // Whether the slot is in use for the line l.
-fn names_line(s: Slot, l: u8) -> bool
+pub fn names_line(s: Slot, l: u8) -> bool
     ensures { λ r. ⌜ r ≡ names l (s .state) (s .line) ⌝ }
 {
     let st = s.state;
@@ -193,39 +191,14 @@ fn names_line(s: Slot, l: u8) -> bool
     }
 }
 
-// The first empty slot seen: i, if the slot s at i is empty and none was before.
-fn or_empty(free: Found, s: Slot, i: usize) -> Found
-    ensures { λ r. ⌜ r ≡ orAt free (isEmpty (s .state)) i ⌝ }
+// Whether the slot is free.
+pub fn is_empty(s: Slot) -> bool
+    ensures { λ r. ⌜ r ≡ isEmpty (s .state) ⌝ }
 {
-    match free {
-        Found::At(k) => Found::At(k),
-        Found::Full => {
-            let st = s.state;
-            match st {
-                SlotState::Empty => Found::At(i),
-                SlotState::Waiting(_) => Found::Full,
-                SlotState::InFlight => Found::Full,
-            }
-        }
+    let st = s.state;
+    match st {
+        SlotState::Empty => true,
+        SlotState::Waiting(_) => false,
+        SlotState::InFlight => false,
     }
-}
-
-// The slot that names the line, else the first empty one.
-pub fn slot_for(slots: [Slot; MOST_SLOTS], l: u8) -> Found
-    ensures { λ r. ⌜ r ≡ slotFor l slots ⌝ }
-{
-    let mut free = Found::Full;
-    let mut k: usize = 0;
-    let at = loop {
-        if MOST_SLOTS <= k {
-            break free;
-        }
-        let s = slots[k];
-        if names_line(s, l) {
-            break Found::At(k);
-        }
-        free = or_empty(free, s, k);
-        k += 1;
-    };
-    at
 }

@@ -11,8 +11,7 @@ use Rattle.undo.proofs.Laws.{test}
 use Rattle.undo.specs.Table.{any}
 use Rattle.rules.specs.Access.{dependence, needsLog}
 use Rattle.rules.specs.Refusal.{isForeignOpen, noRoomForDep}
-use Rattle.rules.specs.Slots.{isFull, slotFor}
-use Rattle.rules.specs.Tables.{current, isPlaced, keyOf, listed, noRegion, noThread, ownerOf, placeOf, regionAt, threadAt, threadOf}
+use Rattle.rules.specs.Tables.{current, isPlaced, keyOf, listed, noThread, ownerOf, regionAt, threadAt, threadOf}
 use Rattle.rules.specs.declared.Region.{Region}
 use Rattle.rules.specs.declared.Tables.{Tables}
 use Rattle.rows.specs.Row.{threadOf as threadIn, threadsOf}
@@ -46,28 +45,22 @@ foreign-of t n o e h =
     (λ q. let m : threadOf o ≡ t = omega (arith, eqb-true o (keyOf t n) q) in rw (q, eq-eqb _ _ m) (none (eqb o 0) (not (e o))))
     (λ q. rw q (shuffle (eqb o 0) (eqb (threadOf o) t) (e o)))
 
--- the tests of an access to line l where k is the current region of thread t, x what it sees of the line's last writer, and i its place in the list
+-- the tests of an access to line l where k is the current region of thread t, and x what it sees of the line's last writer
 module _ (t l k : ℕ) (ts : Tables) (ek : k ≡ current t ts) where
   pub logs : (b : Bool) → needsLog (current t ts) l ts && b ≡ not (eqb (getD (ts .owner) l 0) k) && b
   logs b = rw ek
-
-  pub no-slot : (i : ℕ) → i ≡ placeOf k (ts .regions)
-      → isFull (slotFor l (regionAt (current t ts) (ts .regions) .slots)) ≡ isFull (slotFor l (getD (ts .regions) i noRegion .slots))
-  no-slot i ei = rw (ei, ek)
 
   module _ (x : Writer) (ex : x ≡ writerOf (getD (ts .owner) l 0) k (ts .regions)) where
     pub foreign : threadAt t ts .last < 65536 → isForeignOpen t (ownerOf l ts) ts ≡ not (x .ended) && not (eqb (threadOf (x .key)) t)
     unfolding writerOf ownerOf
     foreign h = foreign-of t (threadAt t ts .last) (ownerOf l ts) (λ o. regionAt o (ts .regions) .ended) h ∙ rw (ex, ek)
 
-    pub depends : dependence (current t ts) l ts ≡ x .key
+    depends : dependence (current t ts) l ts ≡ x .key
     unfolding writerOf ownerOf
     depends = rw (ex, ek)
 
-    pub no-dep : (i : ℕ) → i ≡ placeOf k (ts .regions)
-        → noRoomForDep (dependence (current t ts) l ts) (regionAt (current t ts) (ts .regions) .deps)
-        ≡ noRoomForDep (x .key) (getD (ts .regions) i noRegion .deps)
-    no-dep i ei = rw (depends, ei, ek)
+    pub no-dep : noRoomForDep (dependence (current t ts) l ts) (regionAt (current t ts) (ts .regions) .deps) ≡ noRoomForDep (x .key) (regionAt k (ts .regions) .deps)
+    no-dep = rw (depends, ek)
 
 -- ---- the last writer of a line
 

@@ -8,13 +8,8 @@ use native.Mathlib.Omega.{arith}
 use borrow.Author.Tests.{leb-false, leb-true}
 use Rattle.undo.proofs.Laws.{and-true, test}
 use Rattle.rules.specs.Refusal.{Test, firstBad, inRange}
-use Rattle.refusals.specs.Order.{before}
+use Rattle.refusals.specs.Order.{before, from}
 use Rattle.rules.proofs.Tests.{numbered, unnumbered}
-
--- the tests from number n on
-abbrev pub from : ℕ → List Test → List Test
-from n [] = []
-from n (x ∷ xs) = cond (eqb (x .code) n) (x ∷ xs) (from n xs)
 
 -- those before number n refuse nothing: the refusal is that of the others
 abbrev pub Passed : ℕ → List Test → Type 0

@@ -1,6 +1,7 @@
 // The reading half of an event: its tests on the lent rows, in the order of document 01. The refusal is the number of the first test that fails, or 0.
 // Nothing here changes a row, and every function has its answer for every content of the rows. A function takes the rows that its tests look at;
-// its contract says that the others make no difference.
+// its contract says that the others make no difference. The last two tests of a write, 20 and 21, stand with its step, which makes the one pass over
+// the slots.
 use measures::LINE_BYTES;
 use measures::LINE_WORDS;
 use measures::Locks;
@@ -28,7 +29,8 @@ ghost use lib.Dec.{eqb, leb};
 ghost use Rattle.measures.specs.Loan.{was};
 ghost use Rattle.undo.specs.Table.{any};
 ghost use Rattle.rules.specs.Access.{isOf};
-ghost use Rattle.rules.specs.Refusal.{firstBad, fits, inRange, noRoomFor, noRoomIn, otherParty, refusal, testsOf};
+ghost use Rattle.rules.specs.Refusal.{firstBad, fits, inRange, noRoomFor, noRoomForDep, noRoomIn, otherParty, refusal, testsOf};
+ghost use Rattle.rules.specs.Tables.{regionAt};
 ghost use Rattle.rules.specs.declared.Tables.{Tables};
 ghost use Rattle.rules.specs.declared.Event.the-variants.{Begin, Cut, DataAck, End, LogAck, Read, Setup, Write};
 ghost use Rattle.rows.specs.Row.{regionsOf, threadOf};
@@ -163,7 +165,7 @@ fn has_free(row: &ThreadRow) -> bool
 }
 
 // A write of thread t that needs a log entry, and no place for it.
-fn lacks_entry(threads: &Threads, t: u8, logs: bool) -> bool
+pub fn lacks_entry(threads: &Threads, t: u8, logs: bool) -> bool
     ensures { λ r. ⌜ r ≡ (logs && not (any (isOf 0) (threadHeld (was threads) t .log))) ⌝ }
 {
     rows::threads_length(threads);
@@ -288,6 +290,17 @@ fn end_refusal(h: Head, threads: &Threads, t: u8) -> u8
     if depth == 0 { 12 } else { 0 }
 }
 
+// The dependence on x, if there is one, and no place for it in region k.
+fn lacks_dep(regions: &Regions, k: u32, x: Writer) -> bool
+    ensures { λ r. ⌜ r ≡ noRoomForDep (x .key) (regionAt k (regionsOf (was regions)) .deps) ⌝ }
+{
+    if x.key == 0 {
+        return false;
+    }
+    let i = tables::place_of(regions, k);
+    tables::lacks_dep(regions, i, x.key)
+}
+
 fn read_refusal(
     h: Head,
     threads: &Threads,
@@ -308,17 +321,10 @@ fn read_refusal(
     if is_foreign(x, t) {
         return 17;
     }
-    if x.key == 0 {
-        return 0;
-    }
-    let i = tables::place_of(regions, k);
-    if tables::lacks_dep(regions, i, x.key) {
-        19
-    } else {
-        0
-    }
+    if lacks_dep(regions, k, x) { 19 } else { 0 }
 }
 
+// The tests of a write before 20.
 fn write_refusal(
     h: Head,
     threads: &Threads,
@@ -330,7 +336,7 @@ fn write_refusal(
     w: u8,
     mask: u8,
 ) -> u8
-    ensures { λ r. ⌜ ((v : ℕ) → r ≡ refusal (tablesOf h (was threads) (was regions) (was owner) (was lock)) (Write t l w mask v)) ⌝ }
+    ensures { λ r. ⌜ ((v : ℕ) → r ≡ firstBad (before 20 (testsOf (tablesOf h (was threads) (was regions) (was owner) (was lock)) (Write t l w mask v)))) ⌝ }
 {
     let c = access_refusal(h, threads, t, l, w, mask);
     if c != 0 {
@@ -342,18 +348,10 @@ fn write_refusal(
     if is_foreign(x, t) {
         return 17;
     }
-    let logs = o != k;
-    if waits(logs, lock[l as usize]) {
+    if waits(o != k, lock[l as usize]) {
         return 18;
     }
-    let i = tables::place_of(regions, k);
-    if tables::lacks_dep(regions, i, x.key) {
-        return 19;
-    }
-    if tables::lacks_slot(regions, i, l) {
-        return 20;
-    }
-    if lacks_entry(threads, t, logs) { 21 } else { 0 }
+    if lacks_dep(regions, k, x) { 19 } else { 0 }
 }
 
 fn log_ack_refusal(h: Head, lock: &Locks, l: u8) -> u8
@@ -387,8 +385,8 @@ fn cut_refusal(h: Head) -> u8
     if h.cut { 11 } else { 0 }
 }
 
-// The refusal of an event; 0 for accepted.
-pub fn refusal(
+// The refusal of an event by its tests before 20, which are all tests of every event but a write; 0 if it passes them.
+pub fn first_refusal(
     h: Head,
     threads: &Threads,
     regions: &Regions,
@@ -396,7 +394,7 @@ pub fn refusal(
     lock: &Locks,
     e: Event,
 ) -> u8
-    ensures { λ r. ⌜ r ≡ refusal (tablesOf h (was threads) (was regions) (was owner) (was lock)) e ⌝ }
+    ensures { λ r. ⌜ r ≡ firstBad (before 20 (testsOf (tablesOf h (was threads) (was regions) (was owner) (was lock)) e)) ⌝ }
 {
     match e {
         Event::Setup(n, l, s) => {

@@ -15,18 +15,16 @@ use Rattle.rules.proofs.Lists.{or-none, place-lt}
 use Rattle.rules.specs.Access.{isHad, isOf}
 use Rattle.rules.specs.Lists.{place}
 use Rattle.rules.specs.Refusal.{noRoomForDep}
-use Rattle.rules.specs.Slots.{carries, isEmpty, isFull, names, orAt, slotFor, slotFrom}
+use Rattle.rules.specs.Slots.{carries}
 use Rattle.rules.specs.Tables.{noEntry, noRegion, noSlot, noThread, withDepth, withLast, withLog, withSlots}
 use Rattle.rules.specs.declared.Entry.{Entry}
-use Rattle.rules.specs.declared.Found.the-variants.{At, Full}
-use Rattle.rules.specs.declared.Found.{Found}
 use Rattle.rules.specs.declared.Region.{Region}
 use Rattle.rules.specs.declared.Slot.{Slot}
 use Rattle.rules.specs.declared.SlotState.the-variants.{Waiting}
 use Rattle.rules.specs.declared.Thread.{Thread}
 use Rattle.undo.proofs.Laws.{test}
 use Rattle.undo.specs.Table.{any}
-use Rattle.rows.specs.Row.{entryOf, logOf, recentOf, regionNumbers, regionOf, regionsOf, slotOf, stateOf, suits, threadNumbers, threadOf, threadsOf, word}
+use Rattle.rows.specs.Row.{entryOf, logOf, recentOf, regionNumbers, regionOf, regionsOf, slotOf, stateOf, threadNumbers, threadOf, threadsOf, word}
 
 -- ---- a list of rows
 
@@ -248,32 +246,6 @@ free-below ws t h e =
     omega (arith, g, length-map (take 32 (getD ws t [])) entryOf, length-take 32 (getD ws t []))
 
 -- ---- the numbers of a row
-
--- a number of a slot that can be that of line l: one below 256 is empty
-pub suits-word : (n l : ℕ) → l < 256 → (ltb n 256 || eqb (n % 256) l) ≡ suits l (slotOf n)
-suits-word n l h =
-    test (ltb n 256)
-    (λ e. let z : n / 256 ≡ 0 = omega (arith, ltb-true n 256 e) in rw (e, z))
-    (λ e. test (eqb (n / 256) 0)
-    (λ z. absurd (omega (arith, ltb-false n 256 e, eqb-true (n / 256) 0 z)))
-    (λ z. test (eqb (n / 256) 1) (λ f. rw (e, z, f, or-none (eqb (n % 256) l))) (λ f. rw (e, z, f, or-none (eqb (n % 256) l)))))
-
--- no slot is left for a line where none can be that of the line
-from-lacks : (l : ℕ) (f : Found) (i : ℕ) (ss : List Slot) → isFull (slotFrom l f i ss) ≡ (isFull f && not (any (suits l) ss))
-unfolding slotFrom
-from-lacks l f i [] = test (isFull f) (λ e. rw e) (λ e. rw e)
-from-lacks l f i (s ∷ ss) =
-    test (names l (s .state) (s .line))
-    (λ e. rw e (test (isFull f) (λ g. rw g) (λ g. rw g)))
-    (λ e. rw e (from-lacks l (orAt f (isEmpty (s .state)) i) (suc i) ss ∙ go f (isEmpty (s .state))))
-  where
-    go : (g : Found) (b : Bool) → (isFull (orAt g b i) && not (any (suits l) ss)) ≡ (isFull g && not (b || any (suits l) ss))
-    go (At k) b = refl
-    go Full true = refl
-    go Full false = refl
-
-pub lacks : (l : ℕ) (ss : List Slot) → isFull (slotFor l ss) ≡ not (any (suits l) ss)
-lacks l ss = from-lacks l Full 0 ss
 
 -- a dependence that is not 0 is new and has no place
 pub no-room : (d a b e f : ℕ) → (d ≡ 0 → ⊥)

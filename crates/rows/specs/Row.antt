@@ -1,12 +1,11 @@
 -- A region as a row of numbers: key; channel, ended and done in one; its recent lines in one; stamp; four dependences; eight slots. A thread as a row: 32 log
 -- entries, depth, last number. Every row is a region, and every row a thread.
 use Prim.Native.Nat.{_%_, _+_, _/_, ℕ}
-use mathlib.Core.Bool.{Bool, _||_, cond}
+use mathlib.Core.Bool.{cond}
 use mathlib.Core.List.{List, [], _∷_, map}
 use lib.Dec.{eqb}
 use lib.ListN.{getD, take}
 use Rattle.rules.specs.Measures.{mostDeps, mostEntries, mostSlots}
-use Rattle.rules.specs.Slots.{isEmpty, names}
 use Rattle.rules.specs.declared.Entry.{Entry}
 use Rattle.rules.specs.declared.Region.{Region}
 use Rattle.rules.specs.declared.Slot.{Slot}
@@ -32,10 +31,6 @@ stateOf n = cond (eqb n 0) Empty (cond (eqb n 1) InFlight (Waiting (n % 256)))
 
 abbrev pub slotOf : ℕ → Slot
 slotOf n = record { line = n % 256; state = stateOf (n / 256) }
-
--- a slot that can be that of line l: it names the line, or is empty
-abbrev pub suits : ℕ → Slot → Bool
-suits l s = names l (s .state) (s .line) || isEmpty (s .state)
 
 -- ---- a region
 

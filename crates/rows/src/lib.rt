@@ -27,14 +27,14 @@ ghost use lib.ListN.{length, set};
 ghost use Rattle.undo.specs.Table.{any};
 ghost use Rattle.rules.specs.Lists.{count, place};
 ghost use Rattle.rules.specs.Measures.{mostLines, mostLogged, mostRegions, mostThreads};
-ghost use Rattle.rules.specs.Slots.{carries, isFull, slotFor};
+ghost use Rattle.rules.specs.Slots.{carries};
 ghost use Rattle.rules.specs.Access.{isOf};
 ghost use Rattle.rules.specs.Acknowledge.{kept, keptEntry, landed};
 ghost use Rattle.rules.specs.Commit.{freed, freedEntry};
 ghost use Rattle.rules.specs.Refusal.{noRoomForDep};
 ghost use Rattle.rules.specs.Tables.{noEntry, noRegion, withDepth, withLast, withLog};
 ghost use Rattle.measures.specs.Loan.{left, was};
-ghost use Rattle.rows.specs.Row.{entryOf, recentOf, regionNumbers, regionOf, slotOf, stateOf, suits, threadNumbers, threadOf};
+ghost use Rattle.rows.specs.Row.{entryOf, recentOf, regionNumbers, regionOf, slotOf, stateOf, threadNumbers, threadOf};
 
 // The few numbers beside the lists.
 pub struct Head {
@@ -352,29 +352,6 @@ pub fn land(row: &mut RegionRow, l: u8)
     if i < MOST_SLOTS {
         row[SLOTS_AT + i] = 0;
     }
-}
-
-// A slot that names the line l or is empty can be that of the line.
-fn suits_word(n: u32, l: u8) -> bool
-    ensures { λ r. ⌜ r ≡ suits l (slotOf n) ⌝ }
-{
-    (n < 256) | (n % 256 == l as u32)
-}
-
-// Whether no slot of a row names the line l, and none is empty.
-pub fn row_lacks_slot(w: &RegionRow, l: u8) -> bool
-    ensures { λ r. ⌜ r ≡ isFull (slotFor l (regionOf (was w) .slots)) ⌝ }
-{
-    !one_of(
-        suits_word(w[8], l),
-        suits_word(w[9], l),
-        suits_word(w[10], l),
-        suits_word(w[11], l),
-        suits_word(w[12], l),
-        suits_word(w[13], l),
-        suits_word(w[14], l),
-        suits_word(w[15], l),
-    )
 }
 
 // Whether the dependence d is new in a row and has no place there.

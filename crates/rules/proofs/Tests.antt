@@ -36,7 +36,7 @@ passes n (x ∷ xs) h z =
     (λ b. unnumbered x xs h (rw b at z))
     (λ b. test (eqb (x .code) n) (λ e. rw (e, b)) (λ e. rw e (passes n xs (and-true (not (eqb (x .code) 0)) (numbered xs) h .1) (rw b at z))))
 
-tests-numbered : (ts : Tables) (e : Event) → numbered (testsOf ts e) ≡ true
+pub tests-numbered : (ts : Tables) (e : Event) → numbered (testsOf ts e) ≡ true
 unfolding testsOf
 tests-numbered ts (Setup n l s) = refl
 tests-numbered ts (Begin t) = refl

@@ -1,7 +1,7 @@
--- The last four different lines one by one, and one turn of the flight, at an index of the array.
+-- The last four different lines one by one, and one turn of the pass and of the flight, at an index of the array.
 use Prim.Native.Nat.{_+_, _<_, _≤_, suc, ℕ}
-use mathlib.Core.Path.{_≡_}
-use mathlib.Core.Bool.{Bool, _||_, cond}
+use mathlib.Core.Path.{_≡_, refl}
+use mathlib.Core.Bool.{Bool, _||_, cond, false, true}
 use mathlib.Core.List.{List, [], _∷_}
 use lib.Dec.{eqb}
 use lib.ListN.{drop, drop-of-length-le, getD, length, set}
@@ -10,9 +10,12 @@ use native.Mathlib.Numerals.{add-one}
 use lib.Seq.{drop-cons, drop-set-lt}
 use Rattle.lookup.proofs.Search.{four}
 use Rattle.rules.specs.Lists.{place}
-use Rattle.rules.specs.Slots.{carried, flies, renewed, withoutLine}
+use Rattle.rules.specs.Slots.{carried, flies, isEmpty, names, orAt, renewed, slotFrom, withoutLine}
 use Rattle.rules.specs.Tables.{lineOf}
+use Rattle.rules.specs.declared.Found.{Found}
+use Rattle.rules.specs.declared.Found.the-variants.{At, Full}
 use Rattle.rules.specs.declared.Slot.{Slot}
+use Rattle.slots.specs.Pass.{orElse}
 use Rattle.undo.proofs.Laws.{test}
 
 -- The last four lines, by where line l stands among them
@@ -41,6 +44,25 @@ module _ (ls : List ℕ) (l : ℕ) (h : length ls ≡ 4) where
       (test (eqb l (at 0)) (λ a. rw a)
       (λ a. rw a (test (eqb l (at 1)) (λ b. rw b)
       (λ b. rw b (test (eqb l (at 2)) (λ e. rw e) (λ e. rw e (test (eqb l (at 3)) (λ f. rw f) (λ f. rw f))))))))
+
+-- The slot for line l: `named` and `free` are what the slots below i gave, and q differs from the slots at the start only there
+
+or-turn : (f : Found) (hit : Bool) (i : ℕ) (rest : Found) → orElse f (cond hit (At i) rest) ≡ orElse (orAt f hit i) rest
+or-turn (At k) hit i rest = refl
+or-turn Full true i rest = refl
+or-turn Full false i rest = refl
+
+module _ (l : ℕ) (named free : Found) (i : ℕ) (q : List Slot) where
+  pub found-more : (d x : Slot) → i < length q →
+      orElse named (slotFrom l free i (drop i q))
+      ≡ orElse (orAt named (names l (getD q i d .state) (getD q i d .line)) i)
+      (slotFrom l (orAt free (isEmpty (getD q i d .state)) i) (i + 1) (drop (i + 1) (set q i x)))
+  unfolding slotFrom
+  found-more d x h = rw (add-one, drop-set-lt (suc i) q i x (omega arith), drop-cons q i d h) (or-turn named _ i _)
+
+  pub found-end : length q ≤ i → orElse named (slotFrom l free i (drop i q)) ≡ orElse named free
+  unfolding slotFrom
+  found-end h = rw (drop-of-length-le q h)
 
 -- The lines that the flights carry: the slots below i have flown, and q differs from the slots at the start only there
 

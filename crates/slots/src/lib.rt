@@ -15,10 +15,11 @@ ghost use lib.Dec.{eqb};
 ghost use lib.ListN.{set};
 ghost use Rattle.measures.specs.Loan.{left, was};
 ghost use Rattle.rules.specs.Lists.{place};
-ghost use Rattle.rules.specs.Tables.{lineOf, withState};
-ghost use Rattle.rules.specs.Slots.{carried, counted, countedSlot, flownSlots, isRipe, renewed, written};
+ghost use Rattle.rules.specs.Tables.{lineOf, noSlot, withLine, withState};
+ghost use Rattle.rules.specs.Slots.{carried, counted, countedSlot, flownSlots, isRipe, orAt, renewed};
 ghost use Rattle.rules.specs.Acknowledge.{dropped, droppedSlot};
-ghost use Rattle.rules.specs.declared.SlotState.the-variants.{InFlight};
+ghost use Rattle.rules.specs.declared.SlotState.the-variants.{InFlight, Waiting};
+ghost use Rattle.slots.specs.Pass.{OnePass, orElse};
 
 // ---- "the number of different other lines the region has written since its last write of this line, up to 4"
 
@@ -73,32 +74,65 @@ fn counted_slot(s: Slot, ls: [u8; MOST_RECENT]) -> Slot
     lookup::slot(s.line, counted(st, ls, s.line))
 }
 
-// Every waiting slot has its count.
-fn counted_slots(slots: [Slot; MOST_SLOTS], ls: [u8; MOST_RECENT]) -> [Slot; MOST_SLOTS]
-    ensures { λ r. ⌜ r ≡ map (countedSlot ls) slots ⌝ }
+// ---- request 4: "one walk over the region's slots shall give a write both its slot, or that none is free, and every new count"
+
+// What the pass gives: the slot that the write takes, or that none is free, and every slot with its new count.
+pub struct Pass {
+    pub slot: Found,
+    pub slots: [Slot; MOST_SLOTS],
+}
+
+// The first place that was hit: f, or i where none was before.
+fn or_at(f: Found, hit: bool, i: usize) -> Found
+    ensures { λ r. ⌜ r ≡ orAt f hit i ⌝ }
 {
+    match f {
+        Found::At(k) => Found::At(k),
+        Found::Full => if hit { Found::At(i) } else { Found::Full },
+    }
+}
+
+// The slot that names the line, else the first empty one.
+fn or_else(named: Found, free: Found) -> Found
+    ensures { λ r. ⌜ r ≡ orElse named free ⌝ }
+{
+    match named {
+        Found::At(k) => Found::At(k),
+        Found::Full => free,
+    }
+}
+
+// The one pass over a region's slots for a write of line l, the newest of the last four different lines: each slot is looked at once, and all are, so that
+// those behind the line's own have their counts too.
+pub fn one_pass(slots: [Slot; MOST_SLOTS], ls: [u8; MOST_RECENT], l: u8) -> Pass
+    ensures { λ r. ⌜ OnePass l ls slots r ⌝ }
+{
+    let mut named = Found::Full;
+    let mut free = Found::Full;
     let mut q = slots;
     let mut i: usize = 0;
     while i < MOST_SLOTS {
         let s = q[i];
+        named = or_at(named, lookup::names_line(s, l), i);
+        free = or_at(free, lookup::is_empty(s), i);
         q[i] = counted_slot(s, ls);
         i += 1;
     }
-    q
+    Pass {
+        slot: or_else(named, free),
+        slots: q,
+    }
 }
 
-// The slots after a write of line l, the newest of the last four different lines: its slot waits with count 0, every other waiting slot has its count.
-pub fn written(slots: [Slot; MOST_SLOTS], ls: [u8; MOST_RECENT], l: u8) -> [Slot; MOST_SLOTS]
-    ensures { λ r. ⌜ r ≡ written ls l slots ⌝ }
+// Slot k waits with count 0 for line l; there is none behind the eight.
+pub fn taken(slots: [Slot; MOST_SLOTS], k: usize, l: u8) -> [Slot; MOST_SLOTS]
+    ensures { λ r. ⌜ r ≡ set slots k (withState (Waiting 0) (withLine l noSlot)) ⌝ }
 {
-    match lookup::slot_for(slots, l) {
-        Found::At(k) => {
-            let mut q = counted_slots(slots, ls);
-            q[k] = lookup::slot(l, SlotState::Waiting(0));
-            q
-        }
-        Found::Full => slots,
+    let mut q = slots;
+    if k < MOST_SLOTS {
+        q[k] = lookup::slot(l, SlotState::Waiting(0));
     }
+    q
 }
 
 // ---- the acknowledgements

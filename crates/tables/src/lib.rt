@@ -16,7 +16,7 @@ ghost use lib.ListN.{set};
 ghost use Rattle.undo.specs.Table.{any};
 ghost use Rattle.rules.specs.Lists.{count};
 ghost use Rattle.rules.specs.Tables.{freePlace, inChannel, isHeld, isPlaced, keyOf, listed, placeOf};
-ghost use Rattle.rules.specs.Slots.{carries, isFull, slotFor};
+ghost use Rattle.rules.specs.Slots.{carries};
 ghost use Rattle.rules.specs.Acknowledge.{flightPlace, kept, landed};
 ghost use Rattle.rules.specs.Refusal.{isModified, isOfParty, isOfThread, noRoomForDep};
 ghost use Rattle.rules.specs.Step.{isOther};
@@ -343,17 +343,6 @@ pub fn land_at(regions: &mut Regions, i: usize, l: u8)
     if i < MOST_REGIONS {
         rows::land(&mut regions[i], l);
     }
-}
-
-// Whether the region at place i has no slot for the line l.
-pub fn lacks_slot(regions: &Regions, i: usize, l: u8) -> bool
-    ensures { λ r. ⌜ r ≡ isFull (slotFor l (regionHeld (was regions) i .slots)) ⌝ }
-{
-    rows::regions_length(regions);
-    if MOST_REGIONS <= i {
-        return false;
-    }
-    rows::row_lacks_slot(&regions[i], l)
 }
 
 // Whether the region at place i has no place for the dependence d.

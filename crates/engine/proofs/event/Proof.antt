@@ -1,8 +1,8 @@
-use Rattle.engine.proofs.Laws.{record-refused, record-whole}
-use Rattle.rows.specs.Whole.{boardOf}
 use borrow.Author.Needs.{needs}
 use Rattle.engine.proofs.event.Statement.{statement}
 use Rattle.engine.proofs.event.Tie as tie
+use Rattle.rows.specs.Whole.{boardOf}
+use Rattle.engine.proofs.Laws.{record-refused, record-whole}
 
 read-record-requires : tie.Need-read-record-requires
 read-record-requires c κs = search needs
@@ -16,8 +16,11 @@ enum-told c = search needs
 number-of-requires : tie.Need-number-of-requires
 number-of-requires c κs = search needs
 
+answered-requires : tie.Need-answered-requires
+answered-requires c κs = search needs
+
 returns : tie.Need-returns
-returns c = let s = c .before .before .before .before .before .args in record-refused (boardOf (s .h) (s .threads .now) (s .regions .now) (s .owner .now) (s .lock .now) (s .cur .now) (s .med .now) (s .old .now) (s .car .now)) (s .bytes .now) (c .before .before .before .read-record .result) _ _ (c .before .before .before .read-record .ensures) (c .before .enum-told .given .1) (c .number-of .ensures)
+returns c = let s = c .before .before .before .before .before .before .args in rw (c .answered .ensures) (record-refused (boardOf (s .h) (s .threads .now) (s .regions .now) (s .owner .now) (s .lock .now) (s .cur .now) (s .med .now) (s .old .now) (s .car .now)) (s .bytes .now) (c .before .before .before .before .read-record .result) _ _ (c .before .before .before .before .read-record .ensures) (c .before .before .enum-told .given .1) (c .before .number-of .ensures))
 
 step-requires : tie.Need-step-requires
 step-requires c κs = search needs
@@ -33,6 +36,7 @@ event-spec =
     enum-known-reading
     enum-told
     number-of-requires
+    answered-requires
     returns
     step-requires
     returns-2)

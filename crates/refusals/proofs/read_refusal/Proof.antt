@@ -6,7 +6,7 @@ use Rattle.rules.specs.Refusal.{Test, refusal, testsOf}
 use Rattle.rules.specs.declared.Event.the-variants.{Read}
 use Rattle.rules.specs.declared.Tables.{Tables}
 use Rattle.rows.specs.Whole.{tablesOf}
-use Rattle.refusals.proofs.Laws.{depends, foreign, last-below, no-dep}
+use Rattle.refusals.proofs.Laws.{foreign, last-below, no-dep}
 use Rattle.refusals.proofs.Order.{Passed, goes, stops}
 use Rattle.rules.proofs.Tests.{badAt}
 use Rattle.refusals.proofs.read_refusal.Statement.{statement}
@@ -33,11 +33,11 @@ module _ (lock : List Bool) where
       let s = start (c .before .before .before .before) in
       foreign _ _ _ (tables s) (c .before .before .before .current .ensures) _ (c .before .last-writer .ensures) (last-below (s .args .threads .now) (s .args .t)) ∙ sym (c .is-foreign .ensures)
 
-  says-19 : (c : tie.After-lacks-dep) → badAt 19 (tests (start (to-17 (c .before .before .before .before)))) ≡ c .lacks-dep .result
+  says-19 : (c : tie.After-lacks-dep) → badAt 19 (tests (start (to-17 (c .before)))) ≡ c .lacks-dep .result
   unfolding testsOf
   says-19 c =
-      let e = c .before .before .before .before in
-      no-dep _ _ _ (tables (start (to-17 e))) (e .before .before .before .before .current .ensures) _ (e .before .before .last-writer .ensures) _ (c .before .place-of .ensures) ∙ sym (c .lacks-dep .ensures)
+      let e = c .before in
+      no-dep _ _ _ (tables (start (to-17 e))) (e .before .before .before .before .current .ensures) _ (e .before .before .last-writer .ensures) ∙ sym (c .lacks-dep .ensures)
 
   passed-17 : (c : tie.Else1) → Passed 17 (tests (start c))
   unfolding testsOf
@@ -73,23 +73,16 @@ returns-2 : tie.Need-returns-2
 unfolding refusal testsOf
 returns-2 c = λ lock. sym (passed-17 lock (c .before .before .before .before .before) ∙ rw (says-17 lock (c .before) ∙ c .if2 .taken))
 
-returns-3 : tie.Need-returns-3
-unfolding refusal testsOf
-returns-3 c = λ lock. let e = c .before .before in sym (passed-19 lock e ∙ rw (depends _ _ _ (tables lock (start (to-17 e))) (e .before .before .before .before .current .ensures) _ (e .before .before .last-writer .ensures) ∙ c .if3 .taken))
-
-place-of-requires : tie.Need-place-of-requires
-place-of-requires c κs = search needs
-
 lacks-dep-requires : tie.Need-lacks-dep-requires
 lacks-dep-requires c κs = search needs
 
+returns-3 : tie.Need-returns-3
+unfolding refusal testsOf
+returns-3 c = λ lock. sym (passed-19 lock (c .before .before) ∙ rw (says-19 lock (c .before) ∙ c .if3 .taken))
+
 returns-4 : tie.Need-returns-4
 unfolding refusal testsOf
-returns-4 c = λ lock. sym (passed-19 lock (c .before .before .before .before .before) ∙ rw (says-19 lock (c .before) ∙ c .if4 .taken))
-
-returns-5 : tie.Need-returns-5
-unfolding refusal testsOf
-returns-5 c = λ lock. sym (passed-19 lock (c .before .before .before .before .before) ∙ rw (says-19 lock (c .before) ∙ c .if4 .left))
+returns-4 c = λ lock. sym (passed-19 lock (c .before .before) ∙ rw (says-19 lock (c .before) ∙ c .if3 .left))
 
 pub read-refusal-spec : {M : Type 1} → statement M
 read-refusal-spec =
@@ -103,8 +96,6 @@ read-refusal-spec =
     last-writer-requires
     is-foreign-requires
     returns-2
-    returns-3
-    place-of-requires
     lacks-dep-requires
-    returns-4
-    returns-5)
+    returns-3
+    returns-4)

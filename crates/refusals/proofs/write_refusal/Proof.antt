@@ -2,13 +2,14 @@ use Prim.Native.Nat.{ℕ}
 use mathlib.Core.List.{List}
 use mathlib.Core.Path.{_∙_, _≡_, refl, sym}
 use borrow.Author.Needs.{needs}
-use Rattle.rules.specs.Refusal.{Test, refusal, testsOf}
+use Rattle.rules.specs.Refusal.{Test, testsOf}
 use Rattle.rules.specs.Tables.{current}
 use Rattle.rules.specs.declared.Event.the-variants.{Write}
 use Rattle.rules.specs.declared.Tables.{Tables}
 use Rattle.rows.specs.Whole.{tablesOf}
-use Rattle.refusals.proofs.Laws.{foreign, last-below, logs, no-dep, no-slot}
+use Rattle.refusals.proofs.Laws.{foreign, last-below, logs, no-dep}
 use Rattle.refusals.proofs.Order.{Passed, goes, stops}
+use Rattle.refusals.specs.Order.{before}
 use Rattle.rules.proofs.Tests.{badAt}
 use Rattle.refusals.proofs.write_refusal.Statement.{statement}
 use Rattle.refusals.proofs.write_refusal.Tie as tie
@@ -23,12 +24,6 @@ to-17 c = c .before .before .before .before .before
 abbrev to-18 : tie.Else3 → tie.Else2
 to-18 c = c .before .before .before
 
-abbrev to-19 : tie.Else4 → tie.Else3
-to-19 c = c .before .before .before
-
-abbrev to-20 : tie.Else5 → tie.Else4
-to-20 c = c .before .before
-
 abbrev tables : tie.Start → Tables
 tables s = tablesOf (s .args .h) (s .args .threads .now) (s .args .regions .now) (s .args .owner .now) (s .args .lock .now)
 
@@ -37,7 +32,7 @@ is-current c = c .before .before .before .before .current .ensures
 
 module _ (v : ℕ) where
   abbrev tests : tie.Start → List Test
-  tests s = testsOf (tables s) (Write (s .args .t) (s .args .l) (s .args .w) (s .args .mask) v)
+  tests s = before 20 (testsOf (tables s) (Write (s .args .t) (s .args .l) (s .args .w) (s .args .mask) v))
 
   -- what each test says is what the code found
   says-17 : (c : tie.After-is-foreign) → badAt 17 (tests (start (c .before .before .before .before))) ≡ c .is-foreign .result
@@ -50,21 +45,11 @@ module _ (v : ℕ) where
   unfolding testsOf
   says-18 c = let e = c .before .before in logs _ _ _ (tables (start (to-17 e))) (is-current e) _ ∙ sym (c .waits .ensures)
 
-  says-19 : (c : tie.After-lacks-dep) → badAt 19 (tests (start (to-17 (to-18 (c .before .before))))) ≡ c .lacks-dep .result
+  says-19 : (c : tie.After-lacks-dep) → badAt 19 (tests (start (to-17 (to-18 (c .before))))) ≡ c .lacks-dep .result
   unfolding testsOf
   says-19 c =
-      let e = to-18 (c .before .before) in
-      no-dep _ _ _ (tables (start (to-17 e))) (is-current e) _ (e .before .before .last-writer .ensures) _ (c .before .place-of .ensures) ∙ sym (c .lacks-dep .ensures)
-
-  says-20 : (c : tie.After-lacks-slot) → badAt 20 (tests (start (to-17 (to-18 (to-19 (c .before)))))) ≡ c .lacks-slot .result
-  unfolding testsOf
-  says-20 c =
-      let e = to-18 (to-19 (c .before)) in
-      no-slot _ _ _ (tables (start (to-17 e))) (is-current e) _ (c .before .before .before .place-of .ensures) ∙ sym (c .lacks-slot .ensures)
-
-  says-21 : (c : tie.After-lacks-entry) → badAt 21 (tests (start (to-17 (to-18 (to-19 (to-20 (c .before))))))) ≡ c .lacks-entry .result
-  unfolding testsOf
-  says-21 c = let e = to-18 (to-19 (to-20 (c .before))) in logs _ _ _ (tables (start (to-17 e))) (is-current e) _ ∙ sym (c .lacks-entry .ensures)
+      let e = to-18 (c .before) in
+      no-dep _ _ _ (tables (start (to-17 e))) (is-current e) _ (e .before .before .last-writer .ensures) ∙ sym (c .lacks-dep .ensures)
 
   passed-17 : (c : tie.Else1) → Passed 17 (tests (start c))
   unfolding testsOf
@@ -80,19 +65,11 @@ module _ (v : ℕ) where
   unfolding testsOf
   passed-19 c = passed-18 (to-18 c) ∙ rw (says-18 (c .before) ∙ c .if3 .left)
 
-  passed-20 : (c : tie.Else4) → Passed 20 (tests (start (to-17 (to-18 (to-19 c)))))
-  unfolding testsOf
-  passed-20 c = passed-19 (to-19 c) ∙ rw (says-19 (c .before) ∙ c .if4 .left)
-
-  passed-21 : (c : tie.Else5) → Passed 21 (tests (start (to-17 (to-18 (to-19 (to-20 c))))))
-  unfolding testsOf
-  passed-21 c = passed-20 (to-20 c) ∙ rw (says-20 (c .before) ∙ c .if5 .left)
-
 access-refusal-requires : tie.Need-access-refusal-requires
 access-refusal-requires c κs = search needs
 
 returns : tie.Need-returns
-unfolding refusal testsOf
+unfolding testsOf
 returns c = λ v. let s = c .before .before in stops 17 _ (tests v s) (c .before .access-refusal .ensures v (s .args .regions .now) (s .args .owner .now) (s .args .lock .now)) (c .if1 .taken)
 
 current-requires : tie.Need-current-requires
@@ -111,7 +88,7 @@ is-foreign-requires : tie.Need-is-foreign-requires
 is-foreign-requires c κs = search needs
 
 returns-2 : tie.Need-returns-2
-unfolding refusal testsOf
+unfolding testsOf
 returns-2 c = λ v. sym (passed-17 v (c .before .before .before .before .before) ∙ rw (says-17 v (c .before) ∙ c .if2 .taken))
 
 element-copy-out-waits : tie.Need-element-copy-out-waits
@@ -121,36 +98,19 @@ waits-requires : tie.Need-waits-requires
 waits-requires c κs = search needs
 
 returns-3 : tie.Need-returns-3
-unfolding refusal testsOf
+unfolding testsOf
 returns-3 c = λ v. sym (passed-18 v (c .before .before .before) ∙ rw (says-18 v (c .before) ∙ c .if3 .taken))
-
-place-of-requires : tie.Need-place-of-requires
-place-of-requires c κs = search needs
 
 lacks-dep-requires : tie.Need-lacks-dep-requires
 lacks-dep-requires c κs = search needs
 
 returns-4 : tie.Need-returns-4
-unfolding refusal testsOf
-returns-4 c = λ v. sym (passed-19 v (c .before .before .before) ∙ rw (says-19 v (c .before) ∙ c .if4 .taken))
-
-lacks-slot-requires : tie.Need-lacks-slot-requires
-lacks-slot-requires c κs = search needs
+unfolding testsOf
+returns-4 c = λ v. sym (passed-19 v (c .before .before) ∙ rw (says-19 v (c .before) ∙ c .if4 .taken))
 
 returns-5 : tie.Need-returns-5
-unfolding refusal testsOf
-returns-5 c = λ v. sym (passed-20 v (c .before .before) ∙ rw (says-20 v (c .before) ∙ c .if5 .taken))
-
-lacks-entry-requires : tie.Need-lacks-entry-requires
-lacks-entry-requires c κs = search needs
-
-returns-6 : tie.Need-returns-6
-unfolding refusal testsOf
-returns-6 c = λ v. sym (passed-21 v (c .before .before) ∙ rw (says-21 v (c .before) ∙ c .if6 .taken))
-
-returns-7 : tie.Need-returns-7
-unfolding refusal testsOf
-returns-7 c = λ v. sym (passed-21 v (c .before .before) ∙ rw (says-21 v (c .before) ∙ c .if6 .left))
+unfolding testsOf
+returns-5 c = λ v. sym (passed-19 v (c .before .before) ∙ rw (says-19 v (c .before) ∙ c .if4 .left))
 
 pub write-refusal-spec : {M : Type 1} → statement M
 write-refusal-spec =
@@ -167,11 +127,6 @@ write-refusal-spec =
     element-copy-out-waits
     waits-requires
     returns-3
-    place-of-requires
     lacks-dep-requires
     returns-4
-    lacks-slot-requires
-    returns-5
-    lacks-entry-requires
-    returns-6
-    returns-7)
+    returns-5)

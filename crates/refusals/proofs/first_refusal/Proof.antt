@@ -1,8 +1,9 @@
 use mathlib.Core.Path.{refl}
 use borrow.Author.Needs.{needs}
+use Rattle.rows.specs.Whole.{tablesOf}
 use Rattle.rules.specs.Refusal.{refusal, testsOf}
-use Rattle.refusals.proofs.refusal.Statement.{statement}
-use Rattle.refusals.proofs.refusal.Tie as tie
+use Rattle.refusals.proofs.first_refusal.Statement.{statement}
+use Rattle.refusals.proofs.first_refusal.Tie as tie
 
 enum-known-e : tie.Need-enum-known-e
 enum-known-e c = search needs
@@ -59,24 +60,30 @@ cut-refusal-requires : tie.Need-cut-refusal-requires
 cut-refusal-requires c κs = search needs
 
 returns : tie.Need-returns
-returns c = rw (c .before .before .before .e .given .1) (c .setup-refusal .ensures _ refl)
+unfolding refusal testsOf
+returns c = let s = c .before .before .before .before .before .args in rw (c .before .before .before .e .given .1) (c .setup-refusal .ensures (tablesOf (s .h) (s .threads .now) (s .regions .now) (s .owner .now) (s .lock .now)) refl)
 
 returns-2 : tie.Need-returns-2
-returns-2 c = rw (c .before .before .e2 .given .1) (c .begin-refusal .ensures _ _)
+unfolding refusal testsOf
+returns-2 c = let s = c .before .before .before .before .args in rw (c .before .before .e2 .given .1) (c .begin-refusal .ensures (s .owner .now) (s .lock .now))
 
 returns-3 : tie.Need-returns-3
+unfolding refusal testsOf
 returns-3 c = let s = c .before .before .before .before .args in rw (c .before .before .e3 .given .1) (c .end-refusal .ensures (s .regions .now) (s .owner .now) (s .lock .now))
 
 returns-4 : tie.Need-returns-4
-returns-4 c = rw (c .before .before .e4 .given .1) (c .read-refusal .ensures _)
+unfolding refusal testsOf
+returns-4 c = let s = c .before .before .before .before .args in rw (c .before .before .e4 .given .1) (c .read-refusal .ensures (s .lock .now))
 
 returns-5 : tie.Need-returns-5
 returns-5 c = rw (c .before .before .e5 .given .1) (c .write-refusal .ensures _)
 
 returns-6 : tie.Need-returns-6
+unfolding refusal testsOf
 returns-6 c = let s = c .before .before .before .before .args in rw (c .before .before .e6 .given .1) (c .log-ack-refusal .ensures (s .threads .now) (s .regions .now) (s .owner .now))
 
 returns-7 : tie.Need-returns-7
+unfolding refusal testsOf
 returns-7 c = let s = c .before .before .before .before .args in rw (c .before .before .e7 .given .1) (c .data-ack-refusal .ensures (s .threads .now) (s .owner .now) (s .lock .now))
 
 returns-8 : tie.Need-returns-8
@@ -84,10 +91,11 @@ unfolding refusal testsOf
 returns-8 c = let s = c .before .before .before .before .args in rw (c .before .before .e8 .given .1) (c .thread-refusal .ensures (s .threads .now) (s .regions .now) (s .owner .now) (s .lock .now))
 
 returns-9 : tie.Need-returns-9
+unfolding refusal testsOf
 returns-9 c = let s = c .before .before .before .args in rw (c .before .enum-told .given .1) (c .cut-refusal .ensures (s .threads .now) (s .regions .now) (s .owner .now) (s .lock .now))
 
-pub refusal-spec : {M : Type 1} → statement M
-refusal-spec =
+pub first-refusal-spec : {M : Type 1} → statement M
+first-refusal-spec =
     tie.close
     (tie.spec
     enum-known-e
