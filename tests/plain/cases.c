@@ -233,7 +233,12 @@ static void logged_33(void) {
         if (l >= 4) data_ack((uint8_t)(l - 4), 0, 0);
     }
     write_word(0, 32, 0, 1, 21);
+    write_word(0, 31, 0, 1, 0);
+    data_ack(28, 22, 0); /* the refused write does not count */
+    for (uint8_t l = 0; l < 4; l++) write_word(0, l, 0, 1, 0);
+    write_word(0, 32, 0, 1, 20); /* before 21 */
     end(0, 0, 0);
+    for (uint8_t l = 0; l < 4; l++) data_ack(l, 0, 0);
     for (uint8_t l = 28; l < 31; l++) data_ack(l, 0, 0);
     begin(0, 0, 0);
     write_word(0, 32, 0, 1, 21);
@@ -414,11 +419,24 @@ static void refused_writes(void) {
     setup("no slot for the fourth", 1, 9);
     begin(0, 0, 0);
     write_lines(0, 7);
-    log_ack(4, 0, 0);
     write_word(0, 8, 0, 1, 20);
+    log_ack(4, 0, 0);
     waits(4);
     write_word(0, 0, 0, 1, 0);
     flies(4);
+    run();
+}
+
+/* A flight holds its slot until it lands; then a line whose slot is behind the empty one keeps it. */
+static void held_slots(void) {
+    line_0("held slots");
+    write_lines(1, 7);
+    write_word(0, 8, 0, 1, 20);
+    flies(0);
+    write_word(0, 7, 0, 1, 0);
+    write_word(0, 8, 0, 1, 0);
+    write_word(0, 0, 0, 1, 20);
+    read_word(0, 0, 0, 0, 1);
     run();
 }
 
@@ -851,6 +869,22 @@ static void fifteen_first(void) {
     run();
 }
 
+/* A region with eight slots and four dependences meets 19 before 20. */
+static void nineteen_first(void) {
+    setup("19 before 20", 6, 14);
+    for (uint8_t t = 1; t < 6; t++) hold(t, t, 1);
+    begin(0, 0, 0);
+    write_lines(6, 13);
+    for (uint8_t t = 1; t < 5; t++) read_word(0, t, 0, 0, 7);
+    write_word(0, 5, 0, 1, 18);
+    log_ack(5, 0, 0);
+    write_word(0, 5, 0, 1, 19);
+    log_ack(1, 0, 0);
+    data_ack(1, 0, 1);
+    write_word(0, 5, 0, 1, 20);
+    run();
+}
+
 /* Regions of both parties, of which recovery takes back what had not committed; the image has nothing of parties and reserves. */
 static void both_recovered(void) {
     start_case("both parties recovered", 2);
@@ -931,6 +965,7 @@ int main(void) {
     under_a_lock();
     landed();
     refused_writes();
+    held_slots();
     counted_bytes();
     counted_elsewhere();
     fences();
@@ -953,6 +988,7 @@ int main(void) {
     lack_by_channel();
     nobody();
     fifteen_first();
+    nineteen_first();
     both_recovered();
     calls();
     starts();

@@ -19,7 +19,7 @@ use Rattle.undo.proofs.Main.{structured}
 use Rattle.rules.specs.History.{Account}
 
 -- in a region each line has one slot at most
-one-slot : {ss : List Slot} → Distinct ss → (p q : ℕ) → isEmpty (getD ss p noSlot .state) ≡ false → isEmpty (getD ss q noSlot .state) ≡ false
+pub one-slot : {ss : List Slot} → Distinct ss → (p q : ℕ) → isEmpty (getD ss p noSlot .state) ≡ false → isEmpty (getD ss q noSlot .state) ≡ false
     → getD ss p noSlot .line ≡ getD ss q noSlot .line → p ≡ q
 one-slot none p q e f l = absurd (true≢false e)
 one-slot (more {s = s} {ss = ss} a n r ds) zero zero e f l = refl

@@ -13,6 +13,7 @@ pub mod Reserves
 pub mod Channels
 pub mod Different
 pub mod Neighbours
+pub mod Pass
 pub mod Answers
 pub mod Circles
 pub mod Whole

@@ -50,7 +50,7 @@ writes-read = record { masked = reads-masked; whole = reads-whole; unknown = rea
 -- ---- the refusal of a mask
 
 -- no test of these numbers, no refusal of them
-none-first : (ns : List ℕ) (ts : List Test) → isIn 0 ns ≡ false → all (λ t. not (isIn (t .code) ns)) ts ≡ true → isIn (firstBad ts) ns ≡ false
+pub none-first : (ns : List ℕ) (ts : List Test) → isIn 0 ns ≡ false → all (λ t. not (isIn (t .code) ns)) ts ≡ true → isIn (firstBad ts) ns ≡ false
 none-first ns [] z e = z
 none-first ns (t ∷ ts) z e =
     let h = and-true (not (isIn (t .code) ns)) (all (λ t. not (isIn (t .code) ns)) ts) e in

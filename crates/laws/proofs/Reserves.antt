@@ -304,18 +304,18 @@ roomy m rs bm = along m (λ b es n. Roomy b es) (λ b es n e r kept k. after m b
 
 -- ---- what the answers say
 
-abbrev said : ℕ → Test → Bool
+abbrev pub said : ℕ → Test → Bool
 said n x = eqb (x .code) n && x .bad
 
 -- a refusal is the number of a test that refuses
-says : (n : ℕ) (ts : List Test) → n ≢ 0 → firstBad ts ≡ n → any (said n) ts ≡ true
+pub says : (n : ℕ) (ts : List Test) → n ≢ 0 → firstBad ts ≡ n → any (said n) ts ≡ true
 says n [] nz e = absurd (nz (sym e))
 says n (x ∷ ts) nz e =
     test (x .bad)
     (λ f. let q : x .code ≡ n = rw f at e in rw (f, eq-eqb (x .code) n q))
     (λ f. or-right (said n x) (says n ts nz (rw f at e)))
 
-answered : (b : Board) (r : List ℕ) (e : Event) → readRecord r ≡ Whole e → step b r .answer .refusal ≡ refusal (b .tables) e
+pub answered : (b : Board) (r : List ℕ) (e : Event) → readRecord r ≡ Whole e → step b r .answer .refusal ≡ refusal (b .tables) e
 unfolding step stepEvent stepBy
 answered b r e q = rw q (go (refusal (b .tables) e))
   where

@@ -4,6 +4,7 @@ pub mod Stores
 pub mod Reserves
 pub mod Channels
 pub mod Neighbours
+pub mod Pass
 pub mod Images
 pub mod Causes
 pub mod Bench

@@ -6,6 +6,7 @@ ghost use Rattle.laws.specs.Images.{FinishedLast, RecoveryAnswers, WalkW
 ghost use Rattle.laws.specs.Laws.{CommitsAddUp, CommittedEnded, CutCounts, FenceOutside, FenceTells, NothingLeft, OneFlight, ReadGives};
 ghost use Rattle.laws.specs.Channels.{TwoChannels};
 ghost use Rattle.laws.specs.Neighbours.{FourNeighbours};
+ghost use Rattle.laws.specs.Pass.{PassTells};
 ghost use Rattle.laws.specs.Reserves.{NoReserves, Reserved, SetupRead, SharesTested};
 ghost use Rattle.laws.specs.Stores.{MaskTested, StoresBytes, WholeWord, WritesRead};
 
@@ -96,6 +97,13 @@ pub fn channels_are_kept()
 // of a region that has not ended flies after four only. The different lines of a region are each line that it wrote once, last written first.
 pub fn counts_are_kept()
     ensures { λ r. ⌜ FourNeighbours ⌝ }
+{}
+
+// One pass over the slots of a region gives a write what a search for its line and another for an empty slot give, whatever the slots are. For every list: a
+// write is refused with 20 only where the pass finds no slot, and it is accepted only where it finds one; that slot then waits with count 0, and every other
+// has the count that the pass gave it. Of a region's slots no two are of the same line.
+pub fn pass_tells()
+    ensures { λ r. ⌜ PassTells ⌝ }
 {}
 
 // The committed regions are the ended ones that are listed no more.

@@ -11,7 +11,7 @@ ghost use mathlib.Core.Path.{_≡_};
 ghost use lib.Dec.{eqb};
 ghost use Rattle.rules.specs.Lists.{place};
 ghost use Rattle.rules.specs.Tables.{channelOf, noSlot, withLine, withState};
-ghost use Rattle.rules.specs.Slots.{carries, isEmpty, names};
+ghost use Rattle.rules.specs.Slots.{carries};
 ghost use Rattle.rules.specs.Access.{isHad, joined, wordPlaces};
 ghost use Rattle.rules.specs.Bytes.{byteOf};
 ghost use Rattle.rules.specs.Refusal.{inRange, isNoParty, isUnfit, partyOf, reserveOf};
@@ -176,29 +176,5 @@ pub fn slot_carries(s: Slot, l: u8) -> bool
         SlotState::Empty => false,
         SlotState::Waiting(_) => false,
         SlotState::InFlight => s.line == l,
-    }
-}
-
-// Whether the slot is in use for the line l.
-pub fn names_line(s: Slot, l: u8) -> bool
-    ensures { λ r. ⌜ r ≡ names l (s .state) (s .line) ⌝ }
-{
-    let st = s.state;
-    match st {
-        SlotState::Empty => false,
-        SlotState::Waiting(_) => s.line == l,
-        SlotState::InFlight => s.line == l,
-    }
-}
-
-// Whether the slot is free.
-pub fn is_empty(s: Slot) -> bool
-    ensures { λ r. ⌜ r ≡ isEmpty (s .state) ⌝ }
-{
-    let st = s.state;
-    match st {
-        SlotState::Empty => true,
-        SlotState::Waiting(_) => false,
-        SlotState::InFlight => false,
     }
 }

@@ -1,6 +1,6 @@
 -- The first refusal of a list of tests, taken in two parts at a number.
 use Prim.Native.Nat.{_<_, _≤_, ℕ}
-use mathlib.Core.Bool.{_&&_, cond, false, false≢true, not, true}
+use mathlib.Core.Bool.{_&&_, false, false≢true, not, true}
 use mathlib.Core.List.{List, [], _∷_}
 use mathlib.Core.Path.{_∙_, _≡_, refl, sym}
 use lib.Dec.{eqb, leb}

@@ -1,17 +1,17 @@
 -- Rows: one read and one store at an index, and a row's lists element by element.
 use Prim.Native.Nat.{_%_, _*_, _+_, _/_, _<_, _≤_, suc, zero, ℕ}
-use mathlib.Core.Bool.{Bool, _&&_, _||_, cond, false, not, true}
+use mathlib.Core.Bool.{Bool, _||_, cond, false, not, true}
 use mathlib.Core.List.{List, [], _∷_, map}
 use mathlib.Core.Path.{_∙_, _≡_, refl, sym, ap}
 use lib.Arith.{digits-div, digits-mod}
-use lib.Dec.{eqb, ltb}
+use lib.Dec.{eqb}
 use lib.ListN.{List·getD-eq-default, List·getD-map, drop, getD, length, length-drop, length-map, length-set, length-take, set, take}
 use lib.Seq.{drop-set-add, getD-drop, getD-set-other, getD-set-same, getD-take, take-set-le, take-set-lt, set-out}
 use native.Mathlib.Nat.{mod-eq-of-lt}
 use native.Mathlib.Omega.{arith}
-use borrow.Author.Tests.{eq-eqb, eqb-false, eqb-true, ltb-false, ltb-true, ne-eqb}
+use borrow.Author.Tests.{eq-eqb, eqb-false, eqb-true, ne-eqb}
 use Rattle.lookup.proofs.Map.{map-end, map-more, mapped}
-use Rattle.rules.proofs.Lists.{or-none, place-lt}
+use Rattle.rules.proofs.Lists.{place-lt}
 use Rattle.rules.specs.Access.{isHad, isOf}
 use Rattle.rules.specs.Lists.{place}
 use Rattle.rules.specs.Refusal.{noRoomForDep}

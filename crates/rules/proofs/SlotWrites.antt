@@ -79,7 +79,7 @@ fits-free l (s ∷ ss) n e =
     (λ d. rw d (is-free d (state-none l ss (z .1))))
     (λ d. rw d (later (z .0) (fits-free l ss (z .1) (rw d at e))))
 
-search-named : (l : ℕ) (free : Found) (i : ℕ) (ss : List Slot) → any (named l) ss ≡ true → slotFrom l free i ss ≡ At (i + place (named l) ss)
+pub search-named : (l : ℕ) (free : Found) (i : ℕ) (ss : List Slot) → any (named l) ss ≡ true → slotFrom l free i ss ≡ At (i + place (named l) ss)
 unfolding slotFrom place
 search-named l free i [] e = absurd (false≢true e)
 search-named l free i (s ∷ ss) e =
@@ -95,7 +95,7 @@ unfolding slotFrom
 search-had l k i [] e = refl
 search-had l k i (s ∷ ss) e = let z = or-false (named l s) (any (named l) ss) e in rw (z .0) (search-had l k (suc i) ss (z .1))
 
-search-free : (l i : ℕ) (ss : List Slot) → any (named l) ss ≡ false → slotFrom l Full i ss ≡ cond (any empties ss) (At (i + place empties ss)) Full
+pub search-free : (l i : ℕ) (ss : List Slot) → any (named l) ss ≡ false → slotFrom l Full i ss ≡ cond (any empties ss) (At (i + place empties ss)) Full
 unfolding slotFrom place
 search-free l i [] e = refl
 search-free l i (s ∷ ss) e =

@@ -16,7 +16,7 @@ ghost use lib.ListN.{set};
 ghost use Rattle.measures.specs.Loan.{left, was};
 ghost use Rattle.rules.specs.Lists.{place};
 ghost use Rattle.rules.specs.Tables.{lineOf, noSlot, withLine, withState};
-ghost use Rattle.rules.specs.Slots.{carried, counted, countedSlot, flownSlots, isRipe, orAt, renewed};
+ghost use Rattle.rules.specs.Slots.{carried, counted, countedSlot, flownSlots, isEmpty, isRipe, names, orAt, renewed};
 ghost use Rattle.rules.specs.Acknowledge.{dropped, droppedSlot};
 ghost use Rattle.rules.specs.declared.SlotState.the-variants.{InFlight, Waiting};
 ghost use Rattle.slots.specs.Pass.{OnePass, orElse};
@@ -82,6 +82,30 @@ pub struct Pass {
     pub slots: [Slot; MOST_SLOTS],
 }
 
+// Whether the slot is in use for the line l.
+fn names_line(s: Slot, l: u8) -> bool
+    ensures { λ r. ⌜ r ≡ names l (s .state) (s .line) ⌝ }
+{
+    let st = s.state;
+    match st {
+        SlotState::Empty => false,
+        SlotState::Waiting(_) => s.line == l,
+        SlotState::InFlight => s.line == l,
+    }
+}
+
+// Whether the slot is free.
+fn is_empty(s: Slot) -> bool
+    ensures { λ r. ⌜ r ≡ isEmpty (s .state) ⌝ }
+{
+    let st = s.state;
+    match st {
+        SlotState::Empty => true,
+        SlotState::Waiting(_) => false,
+        SlotState::InFlight => false,
+    }
+}
+
 // The first place that was hit: f, or i where none was before.
 fn or_at(f: Found, hit: bool, i: usize) -> Found
     ensures { λ r. ⌜ r ≡ orAt f hit i ⌝ }
@@ -113,8 +137,8 @@ pub fn one_pass(slots: [Slot; MOST_SLOTS], ls: [u8; MOST_RECENT], l: u8) -> Pass
     let mut i: usize = 0;
     while i < MOST_SLOTS {
         let s = q[i];
-        named = or_at(named, lookup::names_line(s, l), i);
-        free = or_at(free, lookup::is_empty(s), i);
+        named = or_at(named, names_line(s, l), i);
+        free = or_at(free, is_empty(s), i);
         q[i] = counted_slot(s, ls);
         i += 1;
     }

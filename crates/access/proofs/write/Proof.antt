@@ -1,7 +1,6 @@
 use borrow.Author.Needs.{needs}
 use Rattle.access.proofs.write.Statement.{statement}
 use Rattle.access.proofs.write.Tie as tie
-use Prim.Native.Nat.{ℕ}
 use mathlib.Core.Path.{_∙_, _≡_, ap, sym}
 use Rattle.measures.specs.Loan.{Rows}
 use Rattle.rules.specs.Access.{joined, storedIn, wroteLine}

@@ -1,5 +1,5 @@
-use Rattle.lookup.proofs.names_line.Statement.{statement}
-use Rattle.lookup.proofs.names_line.Tie as tie
+use Rattle.slots.proofs.names_line.Statement.{statement}
+use Rattle.slots.proofs.names_line.Tie as tie
 use borrow.Author.Needs.{needs}
 
 enum-told : tie.Need-enum-told
