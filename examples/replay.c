@@ -33,6 +33,7 @@ static const char *const refusal_words[REFUSALS] = {
     [21] = "new log entry and 32 held",
     [22] = "nothing in flight",
     [24] = "a party above 1 or of a thread not below T, or reserves above 16 together",
+    [25] = "another thread's open region has read the line",
     [27] = "mask 0",
 };
 

@@ -1,6 +1,7 @@
 /* compare SEED LISTS: the proved engine against the plain one, on random event files, valid and damaged: answers, images, images after
-   every recovery step, places, refusals of short buffers and of damaged images; and on every mask, every party and reserve of a setup, and all pairs of
-   reserves that setup accepts, with begins that fill the channels. The last line is 'N passed, M failed'. */
+   every recovery step, places, refusals of short buffers and of damaged images; and on every mask, every party and reserve of a setup, all pairs of
+   reserves that setup accepts, with begins that fill the channels, and every line that each thread reads and others write. The last line is 'N passed, M
+   failed'. */
 #include <stdio.h>
 #include <stdlib.h>
 #include <string.h>
@@ -229,12 +230,54 @@ static void compare_reserves(void) {
             }
 }
 
+static size_t put_read(size_t at, uint8_t thread, uint8_t line) {
+    memcpy(file + at, (uint8_t[]){EVENT_READ, thread, line, line % PLAIN_WORDS}, 4);
+    return at + 4;
+}
+
+/* A write of a word or, of odd threads, of bytes. */
+static size_t put_write(size_t at, uint8_t thread, uint8_t line) {
+    const uint8_t bytes = thread % 2, word[] = {EVENT_WRITE, thread, line, thread, 7, [PLAIN_WRITE_RECORD] = 0};
+    const uint8_t some[] = {EVENT_WRITE_BYTES, thread, line, thread, 1, 7, [PLAIN_BYTES_RECORD] = 0};
+    size_t length = bytes ? PLAIN_BYTES_RECORD : PLAIN_WRITE_RECORD;
+    memcpy(file + at, bytes ? some : word, length);
+    return at + length;
+}
+
+/* The reader has read a line, at depth 2, and all others want to write it; one of them writes the lines whose numbers differ in one bit. So it is behind
+   the inner end; behind the other one all want to write again. */
+static void compare_reader(uint8_t reader, uint8_t line) {
+    static const uint8_t shares[PLAIN_SHARES];
+    uint8_t writer = (uint8_t)((reader + 1 + line % 7) % PLAIN_THREADS);
+    size_t length = PLAIN_RECORD_BYTES;
+    put_setup(file, PLAIN_THREADS, PLAIN_LINES, shares);
+    for (uint8_t t = 0; t < PLAIN_THREADS; t++) file[length++] = EVENT_BEGIN, file[length++] = t;
+    file[length++] = EVENT_BEGIN, file[length++] = reader;
+    length = put_read(length, reader, line);
+    for (uint8_t t = 0; t < PLAIN_THREADS; t++)
+        if (t != reader) length = put_write(length, t, line);
+    for (int bit = 0; bit < 7; bit++) length = put_write(length, writer, (uint8_t)(line ^ 1 << bit));
+    file[length++] = EVENT_END, file[length++] = reader;
+    for (uint8_t t = 0; t < PLAIN_THREADS; t++)
+        if (t != reader) length = put_write(length, t, line);
+    length = put_write(length, writer, line ^ 128);
+    file[length++] = EVENT_END, file[length++] = reader;
+    for (uint8_t t = 0; t < PLAIN_THREADS; t++) length = put_write(length, t, line);
+    compare_answers(length, sizeof memory, sizeof answers[0], line);
+}
+
+static void compare_readers(void) {
+    for (unsigned line = 0; line < PLAIN_LINES; line++)
+        for (uint8_t reader = 0; reader < PLAIN_THREADS; reader++) compare_reader(reader, (uint8_t)line);
+}
+
 int main(int argc, char **argv) {
     unsigned long long seed = argc > 1 ? strtoull(argv[1], NULL, 10) : 1, lists = argc > 2 ? strtoull(argv[2], NULL, 10) : 500;
     compare_small();
     compare_masks();
     compare_setups();
     compare_reserves();
+    compare_readers();
     for (unsigned long long i = 0; i < lists; i++) compare_file(seed + i);
     printf("%llu passed, %llu failed\n", passed, failed);
     return failed != 0;

@@ -76,6 +76,9 @@ done
 check 'the values of the fences' '1 1 0 0 0 1 1 0' "$("$bin/trace" < ../samples/fence.events | grep '^7' | cut -d ' ' -f 3 | paste -sd ' ')"
 check 'writes of bytes, what is read, and what recovery finds' '10 0 0, 10 27 0, 10 17 0, 10 0 0, 3 0 78644200, 10 0 0, 3 0 4294902760, M 0 0 1000' \
     "$("$bin/trace" < ../samples/bytes.events | grep -E '^(10|3|M) ' | paste -sd , | sed 's/,/, /g')"
+check 'a line that is being read: who may write it, and what recovery finds' \
+    '4 0 0, 3 0 70, 4 25 0, 10 25 0, 4 0 0, 4 25 0, 3 0 70, 4 0 0, 3 0 70, 4 25 0, 4 25 0, 4 0 0, 3 17 0, 3 0 71, 4 0 0, M 0 0 71, M 1 0 5, M 2 0 140' \
+    "$("$bin/trace" < ../samples/readers.events | grep -E '^(10|3|4|M) ' | paste -sd , | sed 's/,/, /g')"
 
 # begins NAME: the refusals of a sample's begins, the value of its cut, and what recovery finds.
 begins() { "$bin/trace" < "../samples/$1.events" | sed -n -e 's/^1 \(.*\) 0$/\1/p' -e '/^[8M] /p' | paste -sd , | sed 's/,/, /g'; }

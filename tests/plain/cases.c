@@ -1,5 +1,5 @@
 /* The cases P1 to P11 of document 01, the 33rd logged line, counts, fences inside a region, writes of bytes, spent numbers, parties and reserves,
-   channels, and the calls' own refusals. */
+   channels, lines that somebody is reading, and the calls' own refusals. */
 #include <stdio.h>
 #include <string.h>
 
@@ -909,6 +909,431 @@ static void both_recovered(void) {
     recover(2, 0, 0, 7);
 }
 
+/* ---- Lines that somebody is reading ---- */
+
+/* Threads 0 to `threads` - 1 have an open region each. */
+static void open_board(const char *title, uint8_t threads, uint16_t lines) {
+    setup(title, threads, lines);
+    for (uint8_t t = 0; t < threads; t++) begin(t, 0, 0);
+}
+
+/* Thread 0 has read one word: a write of any word of its line is refused, of a word or of bytes, whoever else writes; a line beside it is not. What is
+   refused locks and logs nothing, and reads go on. */
+static void being_read(void) {
+    open_board("a line that is being read", 3, 3);
+    read_word(0, 1, 3, 0, 0);
+    write_word(1, 1, 3, 7, 25);
+    read_word(0, 1, 3, 0, 0);
+    for (uint8_t w = 0; w < PLAIN_WORDS; w++) {
+        write_word(1, 1, w, 7, 25);
+        write_bytes(2, 1, w, 128, 7, 25);
+        write_bytes(1, 1, w, 255, 0, 25);
+    }
+    log_ack(1, 22, 0);
+    data_ack(1, 22, 0);
+    write_word(1, 0, 3, 7, 0);
+    write_bytes(2, 2, 3, 1, 8, 0);
+    for (uint8_t t = 0; t < 3; t++) read_word(t, 1, 3, 0, 0);
+    end(0, 0, 1);
+    write_word(1, 1, 3, 7, 25); /* thread 2 has read it by now */
+    end(2, 0, 0);
+    write_word(1, 1, 3, 7, 0);
+    read_word(1, 1, 3, 0, 7);
+    run();
+}
+
+/* What a thread's own region has read it may write, as a word and as bytes; what it has written others may not even read. */
+static void own_reads(void) {
+    open_board("own reads", 2, 2);
+    read_word(0, 0, 0, 0, 0);
+    write_word(0, 0, 0, 7, 0);
+    write_bytes(0, 0, 1, 1, 7, 0);
+    read_word(0, 0, 1, 0, 7);
+    write_word(0, 0, 1, 8, 0); /* the line is its own, and read again */
+    write_word(1, 0, 0, 9, 17); /* 25 fits too */
+    write_bytes(1, 0, 0, 1, 9, 17);
+    read_word(1, 0, 0, 17, 0);
+    read_word(0, 1, 0, 0, 0);
+    write_bytes(0, 1, 0, 1, 7, 0);
+    write_word(1, 1, 0, 9, 17);
+    log_ack(0, 0, 0);
+    end(0, 0, 0);
+    write_word(1, 0, 0, 9, 0);
+    write_word(1, 1, 0, 9, 18);
+    run();
+}
+
+/* A line read at any depth stays so through inner ends, until the end back to depth 0. */
+static void read_depths(void) {
+    for (int depth = 1; depth <= PLAIN_DEPTH; depth++) {
+        setup("depths", 2, 2);
+        begin(1, 0, 0);
+        for (int i = 0; i < depth; i++) begin(0, 0, 0);
+        read_word(0, 0, 0, 0, 0);
+        for (int i = depth; i < PLAIN_DEPTH; i++) begin(0, 0, 0);
+        begin(0, 13, 0);
+        write_word(1, 0, 0, 7, 25);
+        for (int i = 1; i < PLAIN_DEPTH; i++) {
+            end(0, 0, 0);
+            write_word(1, 0, 0, 7, 25);
+        }
+        begin(0, 0, 0);
+        read_word(0, 1, 0, 0, 0);
+        end(0, 0, 0);
+        write_word(1, 0, 0, 7, 25);
+        write_word(1, 1, 0, 7, 25);
+        end(0, 0, 1);
+        write_word(1, 0, 0, 7, 0);
+        write_word(1, 1, 0, 7, 0);
+        run();
+    }
+}
+
+/* A region that has ended reads no more, whether it has committed or waits, nor does the thread's next one before it reads itself. */
+static void reads_over(void) {
+    setup("reads are over", 3, 9);
+    begin(2, 0, 0);
+    write_word(2, 8, 0, 5, 0);
+    end(2, 0, 0);
+    begin(1, 0, 0);
+    begin(0, 0, 0);
+    for (uint8_t l = 0; l < 9; l++) read_word(0, l, 0, 0, l == 8 ? 5 : 0);
+    for (uint8_t l = 0; l < 8; l++) write_word(1, l, 0, 7, 25);
+    end(0, 0, 0); /* waits for the region of thread 2 */
+    fence(0, 0, 0);
+    for (uint8_t l = 0; l < 7; l++) write_word(1, l, 0, 7, 0);
+    begin(0, 0, 0);
+    write_word(1, 7, 0, 7, 0);
+    read_word(0, 8, 0, 0, 5);
+    write_word(1, 8, 0, 7, 25); /* before 18 and 20 */
+    end(1, 0, 0);
+    begin(1, 0, 0);
+    write_word(1, 8, 0, 7, 25);
+    end(0, 0, 0);
+    write_word(1, 8, 0, 7, 18);
+    log_ack(8, 0, 0);
+    begin(0, 0, 0);
+    write_word(1, 8, 0, 7, 0);
+    run();
+    open_board("a new region", 2, 1);
+    read_word(0, 0, 0, 0, 0);
+    end(0, 0, 1);
+    begin(0, 0, 0);
+    write_word(1, 0, 0, 7, 0);
+    write_word(1, 0, 1, 7, 0);
+    log_ack(0, 0, 0);
+    end(1, 0, 0);
+    begin(1, 0, 0);
+    read_word(0, 0, 0, 0, 7);
+    write_word(1, 0, 0, 9, 25);
+    end(0, 0, 0);
+    begin(0, 0, 0);
+    begin(0, 0, 0);
+    write_word(1, 0, 0, 9, 0);
+    run();
+}
+
+/* A refused read is none: of a line that another's open region owns, whose owner goes on; of one that would be a fifth dependence; outside a region; of a
+   word or a line that there is not; of a thread that there is not. */
+static void refused_reads(void) {
+    open_board("a refused read, 17", 3, 1);
+    write_word(0, 0, 0, 7, 0);
+    read_word(1, 0, 0, 17, 0);
+    write_word(0, 0, 0, 8, 0);
+    write_bytes(0, 0, 0, 1, 9, 0);
+    log_ack(0, 0, 0);
+    end(0, 0, 0);
+    write_word(2, 0, 0, 7, 0); /* the region of thread 1 is still open */
+    run();
+    setup("a refused read, 19", 7, 6);
+    for (uint8_t t = 1; t < 6; t++) hold(t, t, 1);
+    begin(0, 0, 0);
+    for (uint8_t t = 1; t < 5; t++) read_word(0, t, 0, 0, 7);
+    read_word(0, 5, 0, 19, 0);
+    log_ack(4, 0, 0);
+    log_ack(5, 0, 0);
+    begin(6, 0, 0);
+    write_word(6, 4, 0, 8, 25);
+    write_word(6, 5, 0, 8, 0);
+    run();
+    setup("a refused read, 12", 2, 1);
+    begin(1, 0, 0);
+    read_word(0, 0, 0, 12, 0);
+    write_word(1, 0, 0, 7, 0);
+    log_ack(0, 0, 0);
+    end(1, 0, 0);
+    begin(1, 0, 0);
+    read_word(0, 0, 0, 12, 0);
+    begin(0, 0, 0);
+    write_word(1, 0, 0, 8, 0);
+    run();
+    open_board("a refused read, 3, 4 and 5", 2, 3);
+    read_word(0, 0, 8, 5, 0);
+    read_word(0, 1, 255, 5, 0);
+    read_word(0, 3, 0, 4, 0);
+    read_word(0, 66, 0, 4, 0);
+    read_word(2, 2, 0, 3, 0);
+    read_word(8, 2, 0, 3, 0);
+    for (uint8_t l = 0; l < 3; l++) write_word(1, l, 0, 7, 0);
+    run();
+}
+
+/* The refusals of the input, 12 and 11 come before 25. */
+static void before_25(void) {
+    setup("before 25", 2, 1);
+    begin(1, 0, 0);
+    read_word(1, 0, 0, 0, 0);
+    write_word(0, 0, 0, 7, 12);
+    write_bytes(0, 0, 0, 1, 7, 12);
+    begin(0, 0, 0);
+    write_word(2, 0, 0, 7, 3);
+    write_word(0, 1, 0, 7, 4);
+    write_word(0, 0, 8, 7, 5);
+    write_bytes(0, 0, 0, 0, 7, 27);
+    write_word(0, 0, 0, 7, 25);
+    write_bytes(0, 0, 0, 1, 7, 25);
+    cut(0, 2);
+    write_bytes(0, 0, 0, 0, 7, 27);
+    write_word(0, 0, 0, 7, 11);
+    write_bytes(0, 0, 0, 1, 7, 11);
+    run();
+    save(4 + 65 + 17 * 2 + 1); /* nothing of reads */
+    recover(0, 0, 0, 0);
+}
+
+/* A line still locked by a region that has ended, and read by an open one that depends on it: 25, then 18, then neither. So it is where the reader is of the
+   owner's thread. */
+static void before_18(uint8_t reader) {
+    setup("25 before 18", 3, 1);
+    begin(0, 0, 0);
+    write_word(0, 0, 0, 7, 0);
+    end(0, 0, 0);
+    begin(reader, 0, 0);
+    begin(2, 0, 0);
+    write_word(2, 0, 0, 9, 18);
+    read_word(reader, 0, 0, 0, 7);
+    write_word(2, 0, 0, 9, 25);
+    write_bytes(2, 0, 0, 1, 9, 25);
+    write_word(reader, 0, 0, 9, 18);
+    end(reader, 0, 0);
+    write_word(2, 0, 0, 9, 18);
+    log_ack(0, 0, 0);
+    write_word(2, 0, 0, 9, 0);
+    run();
+}
+
+/* 19, 20 and 21 stand behind 25. */
+static void before_19_to_21(void) {
+    setup("25 before 19", 7, 6);
+    for (uint8_t t = 1; t < 6; t++) hold(t, t, 1);
+    begin(0, 0, 0);
+    for (uint8_t t = 1; t < 5; t++) read_word(0, t, 0, 0, 7);
+    log_ack(5, 0, 0);
+    begin(6, 0, 0);
+    read_word(6, 5, 0, 0, 7);
+    write_word(0, 5, 0, 9, 25);
+    write_bytes(0, 5, 0, 1, 9, 25);
+    end(6, 0, 0);
+    write_word(0, 5, 0, 9, 19);
+    run();
+    open_board("25 before 20", 2, 9);
+    write_lines(0, 7);
+    read_word(1, 8, 0, 0, 0);
+    write_word(0, 8, 0, 9, 25);
+    write_bytes(0, 8, 0, 1, 9, 25);
+    end(1, 0, 1);
+    write_word(0, 8, 0, 9, 20);
+    run();
+    open_board("25 before 21", 2, 33);
+    for (uint8_t l = 0; l < PLAIN_LOG; l++) {
+        write_word(0, l, 0, 1, 0);
+        log_ack(l, 0, 0);
+        if (l >= 4) data_ack((uint8_t)(l - 4), 0, 0);
+    }
+    read_word(1, 32, 0, 0, 0);
+    write_word(0, 32, 0, 1, 25);
+    write_bytes(0, 32, 0, 1, 1, 25);
+    end(1, 0, 1);
+    write_word(0, 32, 0, 1, 21);
+    run();
+}
+
+/* Two tasks that have both read a line and both want to write it refuse each other until one ends; it begins again and waits for the other. */
+static void both_want_to_write(void) {
+    open_board("both want to write", 2, 2);
+    read_word(0, 0, 0, 0, 0);
+    read_word(1, 0, 7, 0, 0);
+    for (int i = 0; i < 3; i++) {
+        write_word(0, 0, 0, 7, 25);
+        write_word(1, 0, 0, 8, 25);
+    }
+    write_word(0, 1, 0, 5, 0);
+    log_ack(1, 0, 0);
+    end(0, 0, 0); /* without that write: it commits with the other one */
+    data_ack(1, 0, 1);
+    write_word(1, 0, 0, 8, 0);
+    begin(0, 0, 0);
+    read_word(0, 0, 0, 17, 0);
+    write_word(0, 0, 0, 7, 17);
+    log_ack(0, 0, 0);
+    end(1, 0, 0);
+    read_word(0, 0, 0, 0, 8);
+    write_word(0, 0, 0, 9, 0);
+    log_ack(0, 0, 1);
+    end(0, 0, 0);
+    data_ack(0, 0, 1);
+    cut(0, 0);
+    run();
+    open_board("who writes first reads alone", 2, 1);
+    write_word(0, 0, 0, 7, 0);
+    read_word(1, 0, 0, 17, 0);
+    read_word(0, 0, 0, 0, 7);
+    write_word(0, 0, 0, 8, 0);
+    run();
+}
+
+/* One reader keeps the line, whatever it does while its region is open, and whatever becomes of the line: an earlier region's log entry and flight of it
+   are acknowledged, and that region commits. */
+static void one_reader(void) {
+    setup("one reader", 3, 8);
+    hold(0, 0, 1);
+    begin(1, 0, 0);
+    begin(2, 0, 0);
+    read_word(1, 0, 0, 0, 7);
+    log_ack(0, 0, 0);
+    write_word(2, 0, 0, 9, 25);
+    data_ack(0, 0, 1);
+    write_word(2, 0, 0, 9, 25);
+    fence(1, 0, 1);
+    write_word(2, 0, 0, 9, 25);
+    write_word(1, 1, 0, 8, 0); /* other lines, read and written */
+    write_bytes(1, 2, 0, 1, 8, 0);
+    read_word(1, 3, 0, 0, 0);
+    write_word(1, 3, 0, 8, 0);
+    log_ack(1, 0, 0);
+    write_word(2, 0, 0, 9, 25);
+    write_word(1, 0, 8, 8, 5);
+    read_word(1, 0, 8, 5, 0);
+    begin(0, 0, 0);
+    end(0, 0, 1);
+    write_word(2, 0, 0, 9, 25);
+    write_word(1, 0, 0, 8, 0);
+    write_word(2, 0, 0, 9, 17);
+    end(1, 0, 0);
+    write_word(2, 0, 0, 9, 18);
+    run();
+}
+
+/* Each of several readers keeps the line, whatever the others do: refused and accepted writes, ends, commits. */
+static void several_readers(void) {
+    open_board("several readers", 4, 4);
+    for (uint8_t t = 0; t < 3; t++) read_word(t, 0, t, 0, 0);
+    for (uint8_t t = 0; t < 4; t++) write_word(t, 0, 0, 7, 25);
+    read_word(1, 1, 0, 0, 0);
+    write_word(1, 1, 0, 7, 0); /* by the reader itself, of a line that it alone has read */
+    write_word(1, 0, 0, 7, 25);
+    write_word(3, 0, 0, 7, 25);
+    log_ack(1, 0, 0);
+    end(1, 0, 0);
+    write_word(3, 0, 0, 7, 25);
+    data_ack(1, 0, 1);
+    fence(0, 0, 1);
+    write_word(3, 0, 0, 7, 25);
+    end(0, 0, 1);
+    write_word(3, 0, 0, 7, 25); /* thread 2 alone is left */
+    begin(0, 0, 0);
+    write_word(0, 0, 0, 7, 25);
+    write_word(2, 0, 0, 7, 0);
+    write_word(3, 0, 0, 7, 17);
+    end(2, 0, 0);
+    write_word(3, 0, 0, 7, 18);
+    write_word(0, 1, 0, 9, 0);
+    run();
+}
+
+/* Each thread keeps off each other one. */
+static void each_pair(void) {
+    for (uint8_t reader = 0; reader < PLAIN_THREADS; reader++)
+        for (uint8_t writer = 0; writer < PLAIN_THREADS; writer++) {
+            open_board("each pair of threads", PLAIN_THREADS, 2);
+            read_word(reader, 1, 0, 0, 0);
+            write_word(writer, 1, 7, 7, reader == writer ? 0 : 25);
+            end(reader, 0, reader != writer);
+            write_word(writer, 1, 7, 7, reader == writer ? 12 : 0);
+            run();
+        }
+}
+
+/* A line is not taken for another; nor is the only one taken that has not been read. */
+static void each_line(void) {
+    static const uint8_t tried[] = {0, 1, 7, 8, 31, 32, 62, 63, 64, 65, 127, 128, 191, 192, 254, 255};
+    for (size_t i = 0; i < sizeof tried; i++) {
+        for (size_t j = 0; j < sizeof tried; j++) {
+            open_board("one line read", 2, 256);
+            read_word(0, tried[i], 0, 0, 0);
+            write_word(1, tried[j], 0, 7, i == j ? 25 : 0);
+            run();
+        }
+        open_board("one line not read", 2, 256);
+        for (int l = 0; l < PLAIN_LINES; l++)
+            if (l != tried[i]) read_word(0, (uint8_t)l, 0, 0, 0);
+        for (size_t j = 0; j < sizeof tried; j++) write_word(1, tried[j], 0, 7, i == j ? 0 : 25);
+        run();
+    }
+}
+
+/* What is refused with 25 counts for no slot, takes no slot or log entry, and brings no dependence. */
+static void kept_off(void) {
+    line_0("25 counts nothing");
+    begin(1, 0, 0);
+    read_word(1, 4, 0, 0, 0);
+    write_lines(1, 3);
+    write_word(0, 4, 0, 1, 25);
+    write_bytes(0, 4, 0, 1, 1, 25);
+    waits(0);
+    write_word(0, 5, 0, 1, 0);
+    flies(0);
+    run();
+    setup("25 brings no dependence", 3, 2);
+    hold(0, 0, 1);
+    log_ack(0, 0, 0);
+    begin(1, 0, 0);
+    read_word(1, 0, 0, 0, 7);
+    begin(2, 0, 0);
+    write_word(2, 0, 0, 9, 25);
+    end(2, 0, 1);
+    read_word(1, 0, 0, 0, 7);
+    end(1, 0, 0);
+    data_ack(0, 0, 2);
+    run();
+}
+
+/* The dryer reads one figure twice, while sampling waits. Then sampling stores, and commits by itself: the dryer's region is lost at the cut. */
+static void one_figure(void) {
+    setup("one figure", 2, 2);
+    hold(1, 0, 1); /* stores 7 */
+    log_ack(0, 0, 0);
+    data_ack(0, 0, 1);
+    begin(0, 0, 0);
+    read_word(0, 0, 0, 0, 7);
+    begin(1, 0, 0);
+    write_word(1, 0, 0, 8, 25);
+    read_word(0, 0, 0, 0, 7);
+    fence(0, 0, 1);
+    fence(1, 0, 1);
+    write_word(0, 1, 0, 14, 0);
+    log_ack(1, 0, 0);
+    end(0, 0, 0);
+    write_word(1, 0, 0, 8, 0);
+    log_ack(0, 0, 0);
+    end(1, 0, 0);
+    data_ack(0, 0, 1); /* sampling does not depend on who has read */
+    cut(0, 1);
+    run();
+    save(4 + 65 * 2 + 17 + 69 + 1);
+    recover(1, 0, 0, 8);
+}
+
 /* Refusals of the calls themselves, and how a file ends. */
 static void calls(void) {
     static const uint8_t cut_short[] = {EVENT_CUT, EVENT_SETUP, 1, 1, [15] = EVENT_SETUP, 1, 1, [29] = EVENT_CUT, EVENT_BEGIN, 0, EVENT_READ, 0};
@@ -990,6 +1415,22 @@ int main(void) {
     fifteen_first();
     nineteen_first();
     both_recovered();
+    being_read();
+    own_reads();
+    read_depths();
+    reads_over();
+    refused_reads();
+    before_25();
+    before_18(1);
+    before_18(0);
+    before_19_to_21();
+    both_want_to_write();
+    one_reader();
+    several_readers();
+    each_pair();
+    each_line();
+    kept_off();
+    one_figure();
     calls();
     starts();
     printf("%u passed, %u failed\n", passed, failed);

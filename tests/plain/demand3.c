@@ -1,7 +1,8 @@
 /* Demand 3 tried on the plain engine: seeded event lists, a cut after any event, recovery steps with cuts between.
    What must be found is worked out of the list of accepted events and the set of committed regions. So is what a party holds in a channel: below its
    reserve it never meets 16 at a begin whose number falls there. So is the count of every slot: the different other lines that its region has written
-   since its last write of the slot's line. */
+   since its last write of the slot's line. So are the lines that open regions have read, and what a read gives: as if the committed regions ran one after
+   another in the order they ended. */
 #include <stdio.h>
 #include <stdlib.h>
 #include <string.h>
@@ -9,7 +10,7 @@
 #include "common.h"
 #include "random.h"
 
-static uint64_t seed, cuts_tried, steps_tried, regions_committed;
+static uint64_t seed, cuts_tried, steps_tried, regions_committed, reads_committed, writes_kept_off;
 
 static void require(int holds, const char *what) {
     if (holds) return;
@@ -23,16 +24,19 @@ enum { MOST_EVENTS = 256 };
 
 typedef struct { plain_region region; int ended, committed; } history_region;
 typedef struct { int region; size_t at; uint8_t mask, bytes[8]; } history_write; /* of the word at that place in memory the bytes of the mask */
+typedef struct { int region; size_t at; int writes; uint64_t value; } history_read; /* the word at that place, behind so many accepted writes */
 typedef struct { int region, on; } history_dependence;
 
 static struct {
-    int regions, writes, dependences;
+    int regions, writes, reads, dependences, ends;
     int depth[PLAIN_THREADS];
     int newest[PLAIN_THREADS];     /* each thread's newest region, -1 before the first */
     int last_writer[PLAIN_LINES];  /* -1 before the first write */
     uint8_t shares[PLAIN_SHARES];  /* of the setup that stands */
     history_region region[MOST_EVENTS];
+    int ended[MOST_EVENTS];        /* the regions in the order they ended */
     history_write write[MOST_EVENTS];
+    history_read read[MOST_EVENTS];
     history_dependence dependence[2 * MOST_EVENTS];
 } history;
 
@@ -55,10 +59,14 @@ static void note_begin(uint8_t thread) {
     note_dependence(region, predecessor);
 }
 
-static void note_access(const uint8_t *record) {
+static void note_access(const uint8_t *record, plain_answer answer) {
     int region = history.newest[record[1]];
     note_dependence(region, history.last_writer[record[2]]);
-    if (record[0] == EVENT_READ) return;
+    if (record[0] == EVENT_READ) {
+        size_t at = PLAIN_LINE_BYTES * (size_t)record[2] + 8 * (size_t)record[3];
+        history.read[history.reads++] = (history_read){region, at, history.writes, answer.value};
+        return;
+    }
     history_write *w = &history.write[history.writes++];
     const uint8_t *value = record + 4;
     w->region = region;
@@ -69,14 +77,18 @@ static void note_access(const uint8_t *record) {
     history.last_writer[record[2]] = region;
 }
 
-static void note_event(const uint8_t *record) {
+static void note_end(uint8_t thread) {
+    if (--history.depth[thread] > 0) return;
+    history.region[history.newest[thread]].ended = 1;
+    history.ended[history.ends++] = history.newest[thread];
+}
+
+static void note_event(const uint8_t *record, plain_answer answer) {
     switch (record[0]) {
     case EVENT_SETUP: memcpy(history.shares, record + 4, sizeof history.shares); break;
     case EVENT_BEGIN: note_begin(record[1]); break;
-    case EVENT_END:
-        if (--history.depth[record[1]] == 0) history.region[history.newest[record[1]]].ended = 1;
-        break;
-    case EVENT_READ: case EVENT_WRITE: case EVENT_WRITE_BYTES: note_access(record); break;
+    case EVENT_END: note_end(record[1]); break;
+    case EVENT_READ: case EVENT_WRITE: case EVENT_WRITE_BYTES: note_access(record, answer); break;
     }
 }
 
@@ -179,6 +191,56 @@ static void check_count(plain_region r, const plain_modified *m, const plain_slo
     else require(m->ended || different == NEIGHBOURS, "a flight out of an open region");
 }
 
+/* ---- Reads ---- */
+
+static uint8_t start_memory[PLAIN_LINES * PLAIN_LINE_BYTES];
+
+/* An accepted read of a region that is open now, of another thread than the writer, has been of this line. */
+static int is_being_read(uint8_t line, uint8_t writer) {
+    for (int i = 0; i < history.reads; i++) {
+        const history_region *r = &history.region[history.read[i].region];
+        if (history.read[i].at / PLAIN_LINE_BYTES == line && !r->ended && r->region.thread != writer) return 1;
+    }
+    return 0;
+}
+
+/* A write that comes to the test for 25, which stands between 17 and 18, gets it exactly when its line is being read; nothing else gets it. */
+static void check_writer(const uint8_t *record, uint8_t refusal) {
+    int write = record[0] == EVENT_WRITE || record[0] == EVENT_WRITE_BYTES;
+    int tested = refusal == 0 || refusal == 25 || (refusal >= 18 && refusal <= 21);
+    int due = write && tested && is_being_read(record[2], record[1]);
+    require((refusal == 25) == due, "25 and a line that somebody is reading");
+    writes_kept_off += due;
+}
+
+/* Into the word at that place go the writes of the region that are among the first so many. */
+static void apply_writes(uint8_t word[8], size_t at, int region, int writes) {
+    for (int i = 0; i < writes; i++) {
+        const history_write *w = &history.write[i];
+        if (w->region != region || w->at != at) continue;
+        for (int b = 0; b < 8; b++)
+            if ((w->mask & 1 << b) != 0) word[b] = w->bytes[b];
+    }
+}
+
+/* Every read of a committed region gave the word in the starting memory, with the writes of the committed regions that ended before that one, in the order
+   they ended, and its own writes before the read. Gives how many such reads there are. */
+static uint64_t check_reads(void) {
+    uint64_t reads = 0;
+    for (int i = 0; i < history.reads; i++) {
+        const history_read *r = &history.read[i];
+        uint8_t word[8];
+        if (!history.region[r->region].committed) continue;
+        memcpy(word, start_memory + r->at, sizeof word);
+        for (int j = 0; history.ended[j] != r->region; j++)
+            if (history.region[history.ended[j]].committed) apply_writes(word, r->at, history.ended[j], history.writes);
+        apply_writes(word, r->at, r->region, r->writes);
+        require(get64(word) == r->value, "a read of a committed region");
+        reads++;
+    }
+    return reads;
+}
+
 /* ---- The tables after each event, rule by rule ---- */
 
 static void check_slots(const plain_engine *e, plain_region r, const plain_modified *m, int flights[PLAIN_LINES]) {
@@ -228,8 +290,6 @@ static void check_tables(const plain_engine *e) {
 }
 
 /* ---- A cut here, and recovery ---- */
-
-static uint8_t start_memory[PLAIN_LINES * PLAIN_LINE_BYTES];
 
 /* The starting memory with the writes of the committed regions, in event order. */
 static void expected_memory(uint8_t *memory, size_t length) {
@@ -293,12 +353,14 @@ static void try_event(plain_engine *e, const uint8_t *record, size_t length) {
     if (refusal != 0) entry = *e;
     plain_answer answer = plain_event(e, record, length);
     require(answer.refusal == refusal, "refusal foretold");
+    check_writer(record, refusal);
     if (refusal != 0) {
         require(answer.value == 0 && memcmp(&entry, e, sizeof entry) == 0, "a refused event changed something");
         return;
     }
-    note_event(record);
+    note_event(record, answer);
     note_commits(e, record, answer);
+    check_reads();
     if (record[0] == EVENT_FENCE) require(answer.value == (uint64_t)others_committed(record[1]), "value of the fence");
     check_tables(e);
     for (int channel = 0; channel < PLAIN_CHANNELS; channel++) check_channel(e, channel);
@@ -360,13 +422,15 @@ static void try_list(void) {
         if (random_chance(source, 6)) try_cut(source, &e);
     }
     try_cut(source, &e);
+    reads_committed += check_reads();
     compare_file(&e, file, length, lent);
 }
 
 int main(int argc, char **argv) {
     uint64_t lists = argc > 1 ? strtoull(argv[1], NULL, 10) : 2000;
     for (seed = 1; seed <= lists; seed++) try_list();
-    printf("demand 3: %llu lists, %llu cuts, %llu last-run recovery steps, %llu commits, 0 failed\n", (unsigned long long)lists,
-           (unsigned long long)cuts_tried, (unsigned long long)steps_tried, (unsigned long long)regions_committed);
+    printf("demand 3: %llu lists, %llu cuts, %llu last-run recovery steps, %llu commits, %llu reads of committed regions, %llu times 25, 0 failed\n",
+           (unsigned long long)lists, (unsigned long long)cuts_tried, (unsigned long long)steps_tried, (unsigned long long)regions_committed,
+           (unsigned long long)reads_committed, (unsigned long long)writes_kept_off);
     return 0;
 }

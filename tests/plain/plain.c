@@ -157,12 +157,20 @@ static uint8_t begin_refusal(const plain_engine *e, uint8_t thread) {
     return room_behind(e, thread) < 0 ? 16 : 0;
 }
 
+/* Whether the open region of another thread has read the line: one that has ended reads no more. */
+static int is_being_read(const plain_engine *e, uint8_t line, uint8_t writer) {
+    for (uint8_t t = 0; t < e->threads; t++)
+        if (t != writer && is_open(e, (plain_region){t, e->reader[line][t]})) return 1;
+    return 0;
+}
+
 /* Refusals of a read or a write. */
 static uint8_t access_refusal(const plain_engine *e, const event *ev) {
     if (e->depth[ev->thread] == 0) return 12;
     plain_region region = newest(e, ev->thread), owner = e->owner[ev->line];
     int needs_log = ev->kind == EVENT_WRITE && !same(owner, region);
     if (owner.thread != region.thread && is_open(e, owner)) return 17;
+    if (ev->kind == EVENT_WRITE && is_being_read(e, ev->line, ev->thread)) return 25;
     if (needs_log && e->locked[ev->line]) return 18;
     if (!same(owner, region) && find_listed(e, owner) >= 0) {
         const plain_listed *entry = &e->listed[find_listed(e, region)];
@@ -278,6 +286,7 @@ static void join_owner(plain_engine *e, plain_region r, plain_region owner) {
 
 static uint64_t apply_read(plain_engine *e, const event *ev) {
     join_owner(e, newest(e, ev->thread), e->owner[ev->line]);
+    e->reader[ev->line][ev->thread] = newest(e, ev->thread).number;
     return e->current[ev->line].word[ev->word];
 }
 

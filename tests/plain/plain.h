@@ -81,6 +81,7 @@ typedef struct {
     plain_region owner[PLAIN_LINES];
     uint8_t locked[PLAIN_LINES];
     plain_region flight[PLAIN_LINES]; /* by line, the region of its slot in flight: at most one per line exists */
+    uint16_t reader[PLAIN_LINES][PLAIN_THREADS]; /* the number of each thread's newest region that has read the line, 0 before the first */
     plain_line current[PLAIN_LINES];
     plain_line medium[PLAIN_LINES];
     plain_line carried[PLAIN_LINES];

@@ -191,6 +191,26 @@ static int ask_early(random_events *events, const plain_engine *e, uint8_t *reco
     return 1;
 }
 
+/* Whether an open region, of whatever thread, has read the line. */
+static int is_read(const plain_engine *e, uint64_t line) {
+    for (uint8_t t = 0; t < e->threads; t++)
+        if (e->depth[t] > 0 && e->reader[line][t] == e->last[t]) return 1;
+    return 0;
+}
+
+/* Now and then a write, mostly of a thread with an open region, to a line that an open region has read, searched from a random one on. Gives whether there
+   is one. */
+static int ask_read(random_events *events, const plain_engine *e, uint8_t *record) {
+    if (events->mode > RANDOM_DAMAGED || !random_chance(&events->source, 48)) return 0;
+    fill_record(&events->source, e, random_chance(&events->source, 2) ? EVENT_WRITE : EVENT_WRITE_BYTES, record);
+    for (int i = 0; i < 4 && e->depth[record[1]] == 0; i++) record[1] = random_thread(&events->source, e, EVENT_WRITE);
+    for (uint64_t i = 0, from = random_below(&events->source, e->lines); i < e->lines; i++) {
+        record[2] = (uint8_t)((from + i) % e->lines);
+        if (is_read(e, record[2])) return 1;
+    }
+    return 0;
+}
+
 /* Now and then a write goes to a line that its region has a slot for, so that neighbours repeat. */
 static void repeat_line(random_events *events, const plain_engine *e, uint8_t *record) {
     int write = record[0] == EVENT_WRITE || record[0] == EVENT_WRITE_BYTES;
@@ -203,7 +223,7 @@ size_t random_record(random_events *events, const plain_engine *e, uint8_t recor
     random_source *source = &events->source;
     int tries = random_chance(source, events->phase == PHASE_LISTING ? 2 : 32) ? 1 : 24; /* full channels are to be met often */
     move_phase(events);
-    if (ask_early(events, e, record)) tries = 0;
+    if (ask_early(events, e, record) || ask_read(events, e, record)) tries = 0;
     for (; tries > 0; tries--) {
         fill_record(source, e, random_kind(events), record);
         repeat_line(events, e, record);

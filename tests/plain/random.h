@@ -25,8 +25,8 @@ void random_wrong_shares(random_source *source, uint8_t threads, uint8_t shares[
 /* mixed: events of every kind, tables about half full.
    deep: phases of filling, draining, nesting and listing, lists and channels near or at their limits.
    damaged: mixed, with setups refused in front, records of any content, bytes flipped, and an end cut short or of unknown kind.
-   In these half of the writes are of bytes, setup has random parties and reserves, and now and then a write repeats a line of its region, or a data
-   acknowledgement asks for a line that still waits.
+   In these half of the writes are of bytes, setup has random parties and reserves, and now and then a write repeats a line of its region or asks for one
+   that an open region has read, or a data acknowledgement asks for a line that still waits.
    mixed words, deep words, mixed bytes: the same with every write of a word, or half of them of bytes, zeros for parties and reserves, and no listing,
    repeating or asking.
    reserves: most events begin or end, writes are of words, the parties of the threads alternate, and half of each channel is kept for each. */

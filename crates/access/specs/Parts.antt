@@ -25,7 +25,7 @@ OnWrite n e threads regions owner lock cur old car =
     (boardOf h (left threads) (left regions) (left owner) (left lock) (left cur) med (left old) (left car))
     ≡ stepFrom 20 (boardOf h (was threads) (was regions) (was owner) (was lock) (was cur) med (was old) (was car)) e
 
-abbrev pub OnRead : (Tables → Tables) → Loan Rows → Loan (List ℕ) → Type 0
-OnRead f regions owner =
-    (h : Head) (threads : Rows) (lock : List Bool)
-    → tablesOf h threads (left regions) (left owner) lock ≡ f (tablesOf h threads (was regions) (was owner) lock)
+abbrev pub OnRead : (Tables → Tables) → Loan Rows → Loan Rows → Loan (List ℕ) → Type 0
+OnRead f threads regions owner =
+    (h : Head) (lock : List Bool)
+    → tablesOf h (left threads) (left regions) (left owner) lock ≡ f (tablesOf h (was threads) (was regions) (was owner) lock)

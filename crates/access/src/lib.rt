@@ -17,7 +17,7 @@ use rules::Slot;
 ghost use mathlib.Core.Path.{_≡_};
 ghost use Rattle.measures.specs.Loan.{left, was};
 ghost use Rattle.rules.specs.Tables.{withDeps, withRecent, withSlots};
-ghost use Rattle.rules.specs.Access.{changeLine, joined, logged, loggedOnce, read, storedIn};
+ghost use Rattle.rules.specs.Access.{changeLine, joined, logged, loggedOnce, noteRead, read, storedIn};
 ghost use Rattle.rules.specs.declared.Event.the-variants.{Write};
 ghost use Rattle.access.specs.Log.{Logs};
 ghost use Rattle.access.specs.Parts.{OnLog, OnRead, OnWrite};
@@ -164,13 +164,14 @@ pub fn write(
     0
 }
 
-// A read of line l by region k: the dependence that it brings.
-pub fn read(regions: &mut Regions, owner: &Owners, k: u32, l: u8)
-    ensures { λ _. ⌜ OnRead (read k l) regions owner ⌝ }
+// A read of line l by thread t in its region k: the dependence that it brings, and the line's mark.
+pub fn read(threads: &mut Threads, regions: &mut Regions, owner: &Owners, t: u8, k: u32, l: u8)
+    ensures { λ _. ⌜ OnRead (λ ts. noteRead t l (read k l ts)) threads regions owner ⌝ }
 {
     let d = tables::dependence(regions, owner[l as usize], k);
     let i = tables::place_of(regions, k);
     let r = tables::get(regions, i);
     let q = joined_region(r, d);
     tables::put(regions, i, q);
+    tables::note_read(threads, t, l);
 }

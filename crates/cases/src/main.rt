@@ -1,4 +1,4 @@
-// Tries cases against the engine and the calls. They stand on standard input, as text of at most 65,536 bytes. `#` starts a comment.
+// Tries cases against the engine and the calls. They stand on standard input, as text of at most 131,072 bytes. `#` starts a comment.
 //     case NAME               starts a case, on a fresh board over zero memory
 //     lent 128 7              right behind the name: the board is over lent memory, of 128 bytes 7 (at most 16,448)
 //     write 1 0 0 7 = 17 0    an event in the form of crate text, and the refusal and value that its answer must have; no event is the empty record
@@ -726,8 +726,15 @@ fn run_text(text: &[u8]) -> Total {
     total
 }
 
+// The buffer of the text.
+fn text_buffer() -> [u8; 131072]
+    ensures { λ r. ⌜ 131072 ≡ length r ⌝ }
+{
+    [0; 131072]
+}
+
 fn main() {
-    let mut text = io::large_buffer();
+    let mut text = text_buffer();
     let n = io::read_full(0, &mut text);
     let t = run_text(&text[..n]);
     io::print_decimal(1, t.cases);

@@ -14,7 +14,7 @@ ghost use mathlib.Core.List.{map};
 ghost use lib.ListN.{set};
 ghost use Rattle.measures.specs.Loan.{left, was};
 ghost use Rattle.rules.specs.Acknowledge.{dataAck, dropped, logAck};
-ghost use Rattle.rules.specs.End.{endRegion, endedRegion, shallower, tick};
+ghost use Rattle.rules.specs.End.{endRegion, endedRegion, outside, shallower, tick};
 ghost use Rattle.rules.specs.Flight.{flown};
 ghost use Rattle.rows.specs.Row.{regionsOf};
 ghost use Rattle.rows.specs.Whole.{OnFlight};
@@ -54,6 +54,14 @@ pub fn shallower(threads: &mut Threads, t: u8)
     tables::set_thread(threads, t, one_less(d), n);
 }
 
+// Thread t comes back to depth 0: what it has read counts no more.
+fn outside(threads: &mut Threads, t: u8)
+    ensures { λ _. ⌜ OnThreads (outside t) threads ⌝ }
+{
+    shallower(threads, t);
+    tables::forget_reads(threads, t);
+}
+
 // The region, ended at the clock c.
 fn ended_region(r: Region, c: u32) -> Region
     ensures { λ q. ⌜ q ≡ endedRegion c r ⌝ }
@@ -78,7 +86,7 @@ pub fn end_region(
 {
     let k = tables::current(threads, t);
     let c = tick(h.clock);
-    shallower(threads, t);
+    outside(threads, t);
     let i = tables::place_of(regions, k);
     let r = tables::get(regions, i);
     let q = ended_region(r, c);

@@ -7,7 +7,7 @@ use lib.ListN.{getD, length}
 use borrow.Author.Tests.{eq-eqb, ne-eqb}
 use Rattle.events.specs.Number.{refusalOf}
 use Rattle.rows.specs.Whole.{stepped}
-use Rattle.rules.specs.Access.{read}
+use Rattle.rules.specs.Access.{noteRead, read}
 use Rattle.rules.specs.Begin.{begin}
 use Rattle.rules.specs.Commit.{settled}
 use Rattle.rules.specs.End.{endRegion, shallower}
@@ -50,7 +50,7 @@ module _ (b : Board) where
   unfolding apply
   begin-law t ts e = rw e
 
-  pub read-law : (t l w k v : ℕ) (ts : Tables) → k ≡ current t (b .tables) → ts ≡ read k l (b .tables) → v ≡ getD (lineOf l (b .cur)) w 0
+  pub read-law : (t l w k v : ℕ) (ts : Tables) → k ≡ current t (b .tables) → ts ≡ noteRead t l (read k l (b .tables)) → v ≡ getD (lineOf l (b .cur)) w 0
       → did v (withTables ts b) ≡ apply b (Read t l w)
   unfolding apply
   read-law t l w k v ts ek e ev = rw (← ek, e, ev)

@@ -105,7 +105,7 @@ fn end(
 
 // The value of a read is the word.
 fn read_word(
-    threads: &Threads,
+    threads: &mut Threads,
     regions: &mut Regions,
     owner: &Owners,
     cur: &Lines,
@@ -117,7 +117,7 @@ fn read_word(
     ensures { λ r. ⌜ OnReadWord (did r) (λ b. apply b (Read t l w)) threads regions owner cur ⌝ }
 {
     let k = tables::current(threads, t);
-    access::read(regions, owner, k, l);
+    access::read(threads, regions, owner, t, k, l);
     let x = cur[l as usize];
     x[w as usize]
 }

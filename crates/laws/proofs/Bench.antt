@@ -19,6 +19,7 @@ use Rattle.rules.proofs.Recover.Steps.{Standing, acts-stand, cut-stands, start-
 use Rattle.rules.proofs.Recover.Valid.{saved-valid}
 use Rattle.rules.proofs.Sim.All.{every}
 use Rattle.rules.proofs.Sim.State.{Sim, Simulated, by}
+use Rattle.rules.proofs.Sim.Looks.{reach}
 use Rattle.rules.specs.Bytes.{bytesOf, numOf}
 use Rattle.rules.specs.Claim.{Holds, entriesIn, boardAfter, isByte, isByteMemory, passLength, recovering, restores}
 use Rattle.rules.specs.Contradiction.{contradicts}
@@ -165,7 +166,8 @@ module _ (m : Memory) (rs : List (List ℕ)) (bm : isByteMemory m ≡ true) (br 
   runs-along as′ n = go (every m rs bm .simulated)
     where
       go : Simulated m (boardAfter m rs) (acceptedIn m rs) → Along as′ n
-      go (by t h rc i) =
+      go (by t h w i) =
+          let rc = reach w in
           let up = i .shape .cut-setup cut in
           let quiet = sound rc i (every m rs bm .rest) in
           let p = start-stands rc i up quiet in

@@ -111,7 +111,7 @@ two-channels =
     }
   where
     go : (m : Memory) (rs : List (List ℕ)) → isByteMemory m ≡ true → all (all isByte) rs ≡ true → Simulated m (boardAfter m rs) (acceptedIn m rs) → InChannels m rs
-    go m rs bm br (by s h rc i) =
+    go m rs bm br (by s h w i) =
         let hs = homes (boardAfter m rs .tables .regions) (i .shape .regions) in
         record {
           home = λ j n. hs j;

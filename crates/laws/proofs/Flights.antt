@@ -9,6 +9,7 @@ use borrow.Author.Tests.{eqb-true}
 use Rattle.laws.proofs.Rest.{region-is, slot-held, state-at}
 use Rattle.laws.specs.Laws.{FliesWith, OneFlight, regionIs, slotIs}
 use Rattle.rules.proofs.Sim.State.{Distinct, Simulated, by, more, none}
+use Rattle.rules.proofs.Sim.Looks.{reach}
 use Rattle.rules.proofs.Sim.All.{every}
 use Rattle.rules.proofs.Views.{stateOf}
 use Rattle.rules.specs.Slots.{isEmpty}
@@ -33,7 +34,7 @@ one-slot (more {s = s} {ss = ss} a n r ds) (suc p) (suc q) e f l = ap suc (one-s
 
 by-flights : {m : Memory} {b : Board} {es : List Account} → Simulated m b es
     → (l i j p q : ℕ) → FliesWith l (slotIs i p b) → FliesWith l (slotIs j q b) → (i ≡ j) × (p ≡ q)
-by-flights {m} {b} {es} (by s h rc sim) l i j p q f g = (here, slots here)
+by-flights {m} {b} {es} (by s h w sim) l i j p q f g = (here, slots here)
   where
     full : (i p : ℕ) → FliesWith l (slotIs i p b) → isEmpty (slotIs i p b .state) ≡ false
     full i p f = rw (f .0)
@@ -49,7 +50,7 @@ by-flights {m} {b} {es} (by s h rc sim) l i j p q f g = (here, slots here)
     keys : regionIs i b .key ≡ regionIs j b .key
     keys =
         eqb-true (regionIs i b .key) (regionIs j b .key)
-        (structured (λ x. lineOf x (startLines m)) s h rc .one-flight l (regionIs i b .key) (regionIs j b .key) _ _ (flies i p f) (flies j q g))
+        (structured (λ x. lineOf x (startLines m)) s h (reach w) .one-flight l (regionIs i b .key) (regionIs j b .key) _ _ (flies i p f) (flies j q g))
 
     here : i ≡ j
     here =

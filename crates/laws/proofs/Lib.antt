@@ -14,6 +14,7 @@ pub mod Channels
 pub mod Different
 pub mod Neighbours
 pub mod Pass
+pub mod Serial
 pub mod Answers
 pub mod Circles
 pub mod Whole

@@ -57,4 +57,4 @@ unfolding fresh
 start-lines m bm j d = go (initially m bm .simulated)
   where
     go : Simulated m (fresh m) [] → isLine (lineOf j (startLines m)) ≡ true
-    go (by s h rc i) = i .memories .med-lines j d
+    go (by s h w i) = i .memories .med-lines j d

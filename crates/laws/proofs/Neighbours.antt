@@ -24,16 +24,17 @@ use Rattle.rules.proofs.Sim.All.{every}
 use Rattle.rules.proofs.Sim.Base.{key-number, key-thread}
 use Rattle.rules.proofs.Sim.Parts.{open-listed}
 use Rattle.rules.proofs.Sim.State.{Distinct, Kept, Simulated, by}
+use Rattle.rules.proofs.Sim.Looks.{reach}
 use Rattle.rules.proofs.SlotLaws.{counted-empty, landed-dropped, offAt, state-dropped, state-dropped-other, state-flown}
 use Rattle.rules.proofs.SlotWrites.{state-written, state-written-other}
 use Rattle.rules.proofs.Tests.{passed}
 use Rattle.rules.proofs.Views.{stateOf}
-use Rattle.rules.specs.Access.{dependence, joined, logged, needsLog, read, stored, storedIn, write, wrote, wroteLine}
+use Rattle.rules.specs.Access.{dependence, joined, logged, needsLog, noteRead, read, stored, storedIn, write, wrote, wroteLine}
 use Rattle.rules.specs.Acknowledge.{dataAck, dropped, droppedSlot, flightPlace, landed, logAck, unlocked}
 use Rattle.rules.specs.Begin.{begin, begun, opened}
 use Rattle.rules.specs.Claim.{boardAfter, isByteMemory}
 use Rattle.rules.specs.Commit.{Settled, afterCommit, before, commit, commits, doneRegion, earliest, settle, settled, withoutDep}
-use Rattle.rules.specs.End.{closed, endRegion}
+use Rattle.rules.specs.End.{closed, endRegion, outside}
 use Rattle.rules.specs.Flight.{flown}
 use Rattle.rules.specs.History.{Account, Change, Closes, Cuts, Nothing, Opens, Sets, Stores, Uses, acceptedIn, accountOf, linesWritten, openedIn, regionIn, writesIn}
 use Rattle.rules.specs.Lists.{different, place}
@@ -299,7 +300,7 @@ module _ (m : Memory) (b : Board) (es : List Account) (kept : Kept m b es) (c : 
   distinct i = go (kept .simulated)
     where
       go : Simulated m b es → Distinct (getD rs i noRegion .slots)
-      go (by s h rc sim) = sim .shape .regions .good i .distinct
+      go (by s h x sim) = sim .shape .regions .good i .distinct
 
   after-begin : (t : ℕ) → refusal ts (Begin t) ≡ 0 → Counts (writesIn es) (begin t ts .regions)
   unfolding begin opened testsOf
@@ -310,7 +311,7 @@ module _ (m : Memory) (b : Board) (es : List Account) (kept : Kept m b es) (c : 
       (λ d. rw d c)
     where
       go : eqb (depthOf t ts) 0 ≡ true → Simulated m b es → linesWritten (keyOf t (threadAt t ts .last + 1)) (writesIn es) ≡ []
-      go d (by s h rc sim) =
+      go d (by s h x sim) =
           let few : threadAt t ts .last < 65535 = leb-false 65535 (threadAt t ts .last) (rw d at (passed ts (Begin t) r 14)) in
           let a : threadOf (keyOf t (threadAt t ts .last + 1)) ≡ t = key-thread t (threadAt t ts .last + 1) (omega (arith, few)) in
           unwritten es (sim .told .numbers) (keyOf t (threadAt t ts .last + 1))
@@ -323,7 +324,7 @@ module _ (m : Memory) (b : Board) (es : List Account) (kept : Kept m b es) (c : 
       counts-later (writesIn es) rs (placeOf k rs) _ (later-deps (joined (dependence k l ts) (regionAt k rs .deps)) (regionAt k rs)) c
 
   after-end : (t : ℕ) → Counts (writesIn es) (endRegion t b .tables .regions)
-  unfolding endRegion closed
+  unfolding endRegion closed outside
   after-end t =
       counts-flown (writesIn es) (current t ts) _
       (counts-later (writesIn es) rs (placeOf (current t ts) rs) _ (later-ended _ (regionAt (current t ts) rs)) c)
@@ -394,13 +395,13 @@ module _ (m : Memory) (b : Board) (es : List Account) (kept : Kept m b es) (c : 
       deep = eqb-false (depthOf t ts) 0 (passed ts (Write t l w mask v) r 12)
 
       go : Simulated m b es → Counts (record { region = regionIn t es; line = l; change = storedIn w mask v } ∷ writesIn es) (write t l (storedIn w mask v) b .tables .regions)
-      go (by s h rc sim) =
-          written-counts t l (storedIn w mask v) (current-is t l rc sim deep) (open-listed rc sim (current t ts) (current-open t l rc sim deep))
+      go (by s h x sim) =
+          written-counts t l (storedIn w mask v) (current-is t l (reach x) sim deep) (open-listed (reach x) sim (current t ts) (current-open t l (reach x) sim deep))
           (passed ts (Write t l w mask v) r 20) (sim .shape .regions .unique)
 
 after : (m : Memory) (b : Board) (es : List Account) (e : Event) → refusal (b .tables) e ≡ 0 → Kept m b es → Counts (writesIn es) (b .tables .regions)
     → Counts (writesIn (accountOf e ∷ es)) (apply b e .board .tables .regions)
-unfolding apply writesIn setup
+unfolding apply writesIn setup noteRead
 after m b es (Setup n l s) r kept c = c
 after m b es (Begin t) r kept c = after-begin m b es kept c t r
 after m b es (End t) r kept c =
@@ -426,7 +427,7 @@ all-counted m rs bm = along m (λ b es n. Counts (writesIn es) (b .tables .regio
 
 counting : (m : Memory) (rs : List (List ℕ)) → Simulated m (boardAfter m rs) (acceptedIn m rs) → Counts (writesIn (acceptedIn m rs)) (boardAfter m rs .tables .regions)
     → Counting m rs
-counting m rs (by s h rc sim) c =
+counting m rs (by s h x sim) c =
     record {
       waits = λ i j n w. let full : isEmpty (slotIs i j b .state) ≡ false = rw w in
           let k = kept i j full in

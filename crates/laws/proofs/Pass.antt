@@ -20,6 +20,7 @@ use Rattle.rules.proofs.Sim.Access.{current-open}
 use Rattle.rules.proofs.Sim.All.{every}
 use Rattle.rules.proofs.Sim.Parts.{open-listed}
 use Rattle.rules.proofs.Sim.State.{Simulated, by}
+use Rattle.rules.proofs.Sim.Looks.{reach}
 use Rattle.rules.proofs.SlotWrites.{search-free, search-named}
 use Rattle.rules.proofs.Tests.{passed}
 use Rattle.rules.specs.Access.{logged, needsLog, stored, storedIn, write, wrote}
@@ -81,9 +82,9 @@ module _ (ts : Tables) (t l w mask v : ℕ) where
   not-unlogged : slot ≡ Full → refusal ts (Write t l w mask v) ≢ 21
   unfolding refusal testsOf
   not-unlogged f e =
-      let z : refusal ts (Write t l w mask v) ≡ firstBad (take 11 (testsOf ts (Write t l w mask v))) = rw f in
-      eqb-false (firstBad (take 11 (testsOf ts (Write t l w mask v)))) 21
-      (sym (or-none _) ∙ none-first (21 ∷ []) (take 11 (testsOf ts (Write t l w mask v))) refl refl)
+      let z : refusal ts (Write t l w mask v) ≡ firstBad (take 12 (testsOf ts (Write t l w mask v))) = rw f in
+      eqb-false (firstBad (take 12 (testsOf ts (Write t l w mask v)))) 21
+      (sym (or-none _) ∙ none-first (21 ∷ []) (take 12 (testsOf ts (Write t l w mask v))) refl refl)
       (sym z ∙ e)
 
   not-accepted : slot ≡ Full → refusal ts (Write t l w mask v) ≢ 0
@@ -176,7 +177,7 @@ stepped b r t l w mask v q e = rw (q, e)
 by-pass : {m : Memory} {b : Board} {es : List Account} (r : List ℕ) (t l w mask v : ℕ) → Simulated m b es → readRecord r ≡ Whole (Write t l w mask v)
     → ByPass (current t (b .tables)) l (step b r .answer .refusal) b (step b r .board)
 unfolding testsOf
-by-pass {m} {b} {es} r t l w mask v (by s h rc sim) q =
+by-pass {m} {b} {es} r t l w mask v (by s h x sim) q =
     record {
       none = λ e. none-left ts t l w mask v (says-it e);
       full = λ f. (λ e. not-accepted ts t l w mask v f (says-it e), λ e. not-unlogged ts t l w mask v f (says-it e));
@@ -198,10 +199,10 @@ by-pass {m} {b} {es} r t l w mask v (by s h rc sim) q =
     deep e = eqb-false (depthOf t ts) 0 (passed ts (Write t l w mask v) e 12)
 
     in′ : refusal ts (Write t l w mask v) ≡ 0 → listed (current t ts) (ts .regions) ≡ true
-    in′ e = open-listed rc sim (current t ts) (current-open t l rc sim (deep e))
+    in′ e = open-listed (reach x) sim (current t ts) (current-open t l (reach x) sim (deep e))
 
     going : refusal ts (Write t l w mask v) ≡ 0 → regionAt (current t ts) (ts .regions) .ended ≡ false
-    going e = sim .ended (current t ts) (in′ e) ∙ current-open t l rc sim (deep e) .goes-on
+    going e = sim .ended (current t ts) (in′ e) ∙ current-open t l (reach x) sim (deep e) .goes-on
 
     other : step b r .answer .refusal ≡ 0 → (i j : ℕ) → slotGiven (current t ts) l b ≡ At j → i ≢ j → CountedAt (current t ts) l i b (step b r .board)
     other e i j g n =
@@ -209,7 +210,7 @@ by-pass {m} {b} {es} r t l w mask v (by s h rc sim) q =
 
 apart : {m : Memory} {b : Board} {es : List Account} → Simulated m b es → (i p q : ℕ) → isFree (slotIs i p b) ≡ false → isFree (slotIs i q b) ≡ false
     → slotIs i p b .line ≡ slotIs i q b .line → p ≡ q
-apart (by s h rc sim) i p q = one-slot (sim .shape .regions .good i .distinct) p q
+apart (by s h x sim) i p q = one-slot (sim .shape .regions .good i .distinct) p q
 
 pub pass-tells : PassTells
 pass-tells =

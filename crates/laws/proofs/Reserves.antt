@@ -26,12 +26,13 @@ use Rattle.rules.proofs.Places.{Homes, homes, listed-at, room-left}
 use Rattle.rules.proofs.Sim.All.{every}
 use Rattle.rules.proofs.Sim.Base.{key-number, key-thread, threads-8}
 use Rattle.rules.proofs.Sim.State.{Kept, Sim, Simulated, by}
+use Rattle.rules.proofs.Sim.Looks.{reach}
 use Rattle.rules.proofs.Tests.{channel-room, passed, setup-passed}
-use Rattle.rules.specs.Access.{logged, needsLog, read, stored, write}
+use Rattle.rules.specs.Access.{logged, needsLog, noteRead, read, stored, write}
 use Rattle.rules.specs.Acknowledge.{dataAck, logAck, unlocked}
 use Rattle.rules.specs.Begin.{begin, opened}
 use Rattle.rules.specs.Claim.{boardAfter, isByteMemory}
-use Rattle.rules.specs.End.{closed, endRegion}
+use Rattle.rules.specs.End.{closed, endRegion, outside}
 use Rattle.rules.specs.Flight.{flown}
 use Rattle.rules.specs.History.{Account, acceptedIn, accountOf, commitsOf, committed}
 use Rattle.rules.specs.Lists.{count, place}
@@ -242,7 +243,7 @@ module _ (m : Memory) (b : Board) (es : List Account) (e : Event) (r : refusal (
           (rw d′ at (passed (b .tables) (Begin t) r′ 16)))
 
       go : Simulated m b es → Roomy (apply b e .board) (accountOf e ∷ es)
-      go (by s h rc i) =
+      go (by s h w i) =
           let key : ℕ = keyOf t (threadAt t (b .tables) .last + 1) in
           let long : length (boardKeys b) ≡ 32 = length-map (b .tables .regions) (λ (x : Region). x .key) ∙ i .shape .regions .count in
           let full : count isHeld (b .tables .regions) < 32 = room-left (b .tables .regions) (i .shape .regions) (next t) (channel-room (b .tables) t r′ d′) in
@@ -271,7 +272,7 @@ module _ (m : Memory) (b : Board) (es : List Account) (e : Event) (r : refusal (
 
 after : (m : Memory) (b : Board) (es : List Account) (e : Event) → refusal (b .tables) e ≡ 0 → Kept m b es → Roomy b es
     → Roomy (apply b e .board) (accountOf e ∷ es)
-unfolding sharesIn apply begin opened read write stored logged flown logAck unlocked dataAck endRegion closed
+unfolding sharesIn apply begin opened read noteRead write stored logged flown logAck unlocked dataAck endRegion closed outside
 after m b es (Setup n l s) r kept k = after-setup b es n l s r k
 after m b es (Begin t) r kept k =
     after-other m b es (Begin t) r kept k (test (eqb (depthOf t (b .tables)) 0) (λ d. rw d) (λ d. rw d)) refl
@@ -445,10 +446,10 @@ pub reserved : Reserved
 reserved m rs bm br = go (every m rs bm .simulated)
   where
     go : Simulated m (boardAfter m rs) (acceptedIn m rs) → Reserving m rs
-    go (by s h rc i) =
+    go (by s h w i) =
         let told = commits-told m rs bm in
         let k = roomy m rs bm in
         record {
-          begins = begins m rs told k rc i;
-          sum = λ c. let z = both m rs told k rc i c in let a = two m rs told k rc i c in omega arith;
+          begins = begins m rs told k (reach w) i;
+          sum = λ c. let z = both m rs told k (reach w) i c in let a = two m rs told k (reach w) i c in omega arith;
         }

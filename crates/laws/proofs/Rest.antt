@@ -42,7 +42,7 @@ module _ (b : Board) (sh : Shape (b .tables)) where
 
 at-rest : {m : Memory} {b : Board} {es : List Account} → Simulated m b es → Rest b → AtRest b
 unfolding commits
-at-rest {b = b} (by s h rc i) rest =
+at-rest {b = b} (by s h w i) rest =
     record {
       flown = λ p j c w e. let full : isEmpty (slotIs p j b .state) ≡ false = rw w in
           let n = slot-held b (i .shape) p j full in

@@ -20,13 +20,14 @@ use Rattle.rules.proofs.Recover.Expected.{committed-done, committed-ended}
 use Rattle.rules.proofs.Lists.{any-at, count-none, count-put, count-room, place-lt, place-true}
 use Rattle.rules.proofs.Places.{key-at, listed-at, listed-key, place-listed, room-left}
 use Rattle.rules.proofs.Sim.State.{Kept, Sim, Simulated, by}
+use Rattle.rules.proofs.Sim.Looks.{reach}
 use Rattle.rules.proofs.Sim.Ack.{log-ack}
 use Rattle.rules.proofs.Sim.All.{every}
 use Rattle.rules.proofs.Tests.{channel-room}
 use Rattle.rules.proofs.Sim.Commit.{unique-regions}
 use Rattle.rules.proofs.Sim.Data.{lands}
 use Rattle.rules.proofs.Sim.End.{ends-region}
-use Rattle.rules.specs.Access.{read, storedIn, write}
+use Rattle.rules.specs.Access.{noteRead, read, storedIn, write}
 use Rattle.rules.specs.Acknowledge.{dataAck, logAck}
 use Rattle.rules.specs.Begin.{begin, opened}
 use Rattle.rules.specs.Claim.{boardAfter, isByteMemory}
@@ -81,7 +82,7 @@ unfolding apply begin testsOf opensIn
 balance-begin t m b es n r k p = go (k .simulated)
   where
     go : Simulated m b es → Balance (apply b (Begin t) .board) (Opens t ∷ es) (n + 0)
-    go (by s h rc i) =
+    go (by s h w i) =
         rw (← i .told .depth t)
         (test (eqb (depthOf t (b .tables)) 0)
         (λ d. let full : held b < 32 = room-left (b .tables .regions) (i .shape .regions) (threadAt t (b .tables) .last + 1) (channel-room (b .tables) t r d) in
@@ -91,7 +92,7 @@ balance-begin t m b es n r k p = go (k .simulated)
 
 balance : (m : Memory) (b : Board) (es : List Account) (n : ℕ) (e : Event) → refusal (b .tables) e ≡ 0 → Kept m b es → Balance b es n
     → Balance (apply b e .board) (accountOf e ∷ es) (n + toldOf e (apply b e .value))
-unfolding apply opensIn setup read
+unfolding apply opensIn setup read noteRead
 balance m b es n (Setup c l s) r k p = omega arith
 balance m b es n (Begin t) r k p = balance-begin t m b es n r k p
 balance m b es n (End t) r k p =
@@ -188,14 +189,14 @@ unfolding apply
 cut-counts m rs bm br r a = go (every m rs bm .simulated)
   where
     go : Simulated m (boardAfter m rs) (acceptedIn m rs) → valueAfter m rs r ≡ count (λ k. not (committed m rs k)) (opensIn (acceptedIn m rs))
-    go (by s h rc i) = value-is (boardAfter m rs) r Cut (a .is) (a .unrefused) .0 ∙ held-uncommitted m rs (commits-told m rs bm) rc i
+    go (by s h w i) = value-is (boardAfter m rs) r Cut (a .is) (a .unrefused) .0 ∙ held-uncommitted m rs (commits-told m rs bm) (reach w) i
 
 pub fence-tells : FenceTells
 unfolding apply
 fence-tells m rs bm br r t a = go (every m rs bm .simulated)
   where
     go : Simulated m (boardAfter m rs) (acceptedIn m rs) → valueAfter m rs r ≡ cond (all (committed m rs) (othersOf t (acceptedIn m rs))) 1 0
-    go (by s h rc i) = value-is (boardAfter m rs) r (Fence t) (a .is) (a .unrefused) .0 ∙ fence-value m rs (commits-told m rs bm) rc i t
+    go (by s h w i) = value-is (boardAfter m rs) r (Fence t) (a .is) (a .unrefused) .0 ∙ fence-value m rs (commits-told m rs bm) (reach w) i t
 
 -- no region has the key 0, so at depth 0 none is left out
 any-of-thread : (t : ℕ) (rs : List Region) → any (isOther t 0) rs ≡ any (isOfThread t) rs
@@ -213,9 +214,9 @@ pub commits-add-up : CommitsAddUp
 commits-add-up m rs bm br = go (every m rs bm .simulated)
   where
     go : Simulated m (boardAfter m rs) (acceptedIn m rs) → toldIn rs (run (fresh m) rs .answers) ≡ count (committed m rs) (opensIn (acceptedIn m rs))
-    go (by s h rc i) =
+    go (by s h w i) =
         let x = balanced m rs bm in
-        let y = held-uncommitted m rs (commits-told m rs bm) rc i in
+        let y = held-uncommitted m rs (commits-told m rs bm) (reach w) i in
         let z = count-not (committed m rs) (opensIn (acceptedIn m rs)) in
         omega arith
 
@@ -224,4 +225,4 @@ committed-is-ended m rs bm br k = go (every m rs bm .simulated)
   where
     go : Simulated m (boardAfter m rs) (acceptedIn m rs)
         → committed m rs k ≡ (isIn k (endsIn (acceptedIn m rs)) && not (listed k (boardAfter m rs .tables .regions)))
-    go (by s h rc i) = committed-ended m rs (commits-told m rs bm) rc i k
+    go (by s h w i) = committed-ended m rs (commits-told m rs bm) (reach w) i k

@@ -5,6 +5,7 @@ pub mod Reserves
 pub mod Channels
 pub mod Neighbours
 pub mod Pass
+pub mod Serial
 pub mod Images
 pub mod Causes
 pub mod Bench

@@ -7,6 +7,7 @@ ghost use Rattle.laws.specs.Laws.{CommitsAddUp, CommittedEnded, CutCount
 ghost use Rattle.laws.specs.Channels.{TwoChannels};
 ghost use Rattle.laws.specs.Neighbours.{FourNeighbours};
 ghost use Rattle.laws.specs.Pass.{PassTells};
+ghost use Rattle.laws.specs.Serial.{SerialReads};
 ghost use Rattle.laws.specs.Reserves.{NoReserves, Reserved, SetupRead, SharesTested};
 ghost use Rattle.laws.specs.Stores.{MaskTested, StoresBytes, WholeWord, WritesRead};
 
@@ -104,6 +105,13 @@ pub fn counts_are_kept()
 // has the count that the pass gave it. Of a region's slots no two are of the same line.
 pub fn pass_tells()
     ensures { λ r. ⌜ PassTells ⌝ }
+{}
+
+// Every accepted read of a committed region gives the word that it would see if the committed regions ran one after another in the order they ended: the starting
+// memory with the writes of those that ended before it, then its own earlier writes. A write is refused with 25 only where the open region of another thread has
+// read the line, and accepted only where none has; 25 comes behind 17 and before 18 to 21.
+pub fn reads_are_serial()
+    ensures { λ r. ⌜ SerialReads ⌝ }
 {}
 
 // The committed regions are the ended ones that are listed no more.

@@ -9,6 +9,11 @@ pub const LINE_WORDS: usize = 8;
 
 pub const LINE_BYTES: usize = 8 * LINE_WORDS;
 
+// Request 5: a bit for each line, in words of 64 bits.
+pub const WORD_BITS: usize = 64;
+
+pub const READ_WORDS: usize = MOST_LINES / WORD_BITS;
+
 // Request 9: "all bits set", a bit for each byte of a word.
 pub const WHOLE_WORD: u8 = 255;
 
@@ -55,12 +60,14 @@ pub type RegionRow = [u32; REGION_NUMBERS];
 
 pub type Regions = [RegionRow; MOST_REGIONS];
 
-// A thread: its log entries, its depth, the number of its last region.
+// A thread: its log entries, its depth, the number of its last region, and from READS_AT on the bits of the lines that its open region has read.
 pub const DEPTH_AT: usize = MOST_ENTRIES;
 
 pub const LAST_AT: usize = MOST_ENTRIES + 1;
 
-pub const THREAD_NUMBERS: usize = MOST_ENTRIES + 2;
+pub const READS_AT: usize = MOST_ENTRIES + 2;
+
+pub const THREAD_NUMBERS: usize = READS_AT + READ_WORDS;
 
 pub type ThreadRow = [u64; THREAD_NUMBERS];
 

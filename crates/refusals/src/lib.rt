@@ -348,6 +348,9 @@ fn write_refusal(
     if is_foreign(x, t) {
         return 17;
     }
+    if tables::read_elsewhere(threads, t, l) {
+        return 25;
+    }
     if waits(o != k, lock[l as usize]) {
         return 18;
     }

@@ -16,7 +16,7 @@ use Rattle.rules.specs.Access.{isHad, isOf}
 use Rattle.rules.specs.Lists.{place}
 use Rattle.rules.specs.Refusal.{noRoomForDep}
 use Rattle.rules.specs.Slots.{carries}
-use Rattle.rules.specs.Tables.{noEntry, noRegion, noSlot, noThread, withDepth, withLast, withLog, withSlots}
+use Rattle.rules.specs.Tables.{noEntry, noReads, noRegion, noSlot, noThread, withDepth, withLast, withLog, withReads, withSlots}
 use Rattle.rules.specs.declared.Entry.{Entry}
 use Rattle.rules.specs.declared.Region.{Region}
 use Rattle.rules.specs.declared.Slot.{Slot}
@@ -24,7 +24,7 @@ use Rattle.rules.specs.declared.SlotState.the-variants.{Waiting}
 use Rattle.rules.specs.declared.Thread.{Thread}
 use Rattle.undo.proofs.Laws.{test}
 use Rattle.undo.specs.Table.{any}
-use Rattle.rows.specs.Row.{entryOf, logOf, recentOf, regionNumbers, regionOf, regionsOf, slotOf, stateOf, threadNumbers, threadOf, threadsOf, word}
+use Rattle.rows.specs.Row.{entryOf, logOf, readsOf, recentOf, regionNumbers, regionOf, regionsOf, slotOf, stateOf, threadNumbers, threadOf, threadsOf, word}
 
 -- ---- a list of rows
 
@@ -186,11 +186,21 @@ no-entry = refl
 pub log-at : (w : List ℕ) (i : ℕ) → i < 32 → getD (logOf w) i noEntry ≡ entryOf (word w i)
 log-at w i h = rw (← no-entry, List·getD-map entryOf (take 32 w) i 0, getD-take 32 w i 0)
 
+-- a store at another place leaves the words of bits
+reads-kept : (w : List ℕ) (i x : ℕ) → i < 34 → readsOf (set w i x) ≡ readsOf w
+reads-kept w i x h =
+    rw (
+      getD-set-other w i 34 x 0 (λ e. omega arith),
+      getD-set-other w i 35 x 0 (λ e. omega arith),
+      getD-set-other w i 36 x 0 (λ e. omega arith),
+      getD-set-other w i 37 x 0 (λ e. omega arith),
+    )
+
 -- one entry stored, or the depth and the last number
 pub entry-stored : (w : List ℕ) (i x : ℕ) → i < 32 → threadOf (set w i x) ≡ withLog (set (threadOf w .log) i (entryOf x)) (threadOf w)
 unfolding threadOf
 entry-stored w i x h =
-    rw (log-set w i x h, getD-set-other w i 32 x 0 (λ e. omega arith), getD-set-other w i 33 x 0 (λ e. omega arith))
+    rw (log-set w i x h, getD-set-other w i 32 x 0 (λ e. omega arith), getD-set-other w i 33 x 0 (λ e. omega arith), reads-kept w i x (omega arith))
 
 pub place-stored : (w : List ℕ) (d n : ℕ) → length w ≡ threadNumbers → d < 256 → n < 65536
     → _≡_ {A = Thread} (threadOf (set (set w 32 d) 33 n)) (withDepth d (withLast n (threadOf w)))
@@ -204,7 +214,47 @@ place-stored w d n h hd hn =
       getD-set-same w 32 d 0 (omega arith),
       mod-eq-of-lt {n = d} {m = 256} hd,
       mod-eq-of-lt {n = n} {m = 65536} hn,
+      reads-kept (set w 32 d) 33 n (omega arith),
+      reads-kept w 32 d (omega arith),
     )
+
+-- the words of bits are a row's last four numbers
+reads-row : (w : List ℕ) → length w ≡ threadNumbers → readsOf w ≡ drop 34 w
+reads-row w h = simp getD-drop at (four 0 (drop 34 w) (rw (length-drop) (omega arith)))
+
+pub reads-at : (w : List ℕ) (i : ℕ) → i < 4 → getD (threadOf w .reads) i 0 ≡ word w (34 + i)
+unfolding threadOf
+reads-at w zero h = refl
+reads-at w (suc zero) h = refl
+reads-at w (suc (suc zero)) h = refl
+reads-at w (suc (suc (suc zero))) h = refl
+reads-at w (suc (suc (suc (suc i)))) h = absurd (omega arith)
+
+-- one word of bits stored
+pub reads-stored : (w : List ℕ) (i x : ℕ) → length w ≡ threadNumbers → threadOf (set w (34 + i) x) ≡ withReads (set (threadOf w .reads) i x) (threadOf w)
+unfolding threadOf
+reads-stored w i x h =
+    rw (
+      take-set-le 32 w (34 + i) x (omega arith),
+      getD-set-other w (34 + i) 32 x 0 (λ e. omega arith),
+      getD-set-other w (34 + i) 33 x 0 (λ e. omega arith),
+      reads-row (set w (34 + i) x) (length-set w (34 + i) x ∙ h),
+      drop-set-add 34 w i x,
+      ← reads-row w h,
+    )
+
+-- all of them zero
+pub reads-cleared : (w : List ℕ) → length w ≡ threadNumbers → threadOf (set (set (set (set w 34 0) 35 0) 36 0) 37 0) ≡ withReads noReads (threadOf w)
+unfolding threadOf
+reads-cleared w h =
+    let a = length-set w 34 0 ∙ h in
+    let b = length-set (set w 34 0) 35 0 ∙ a in
+    let d = length-set (set (set w 34 0) 35 0) 36 0 ∙ b in
+    reads-stored (set (set (set w 34 0) 35 0) 36 0) 3 0 d
+    ∙ ap (zeroed 3) (reads-stored (set (set w 34 0) 35 0) 2 0 b ∙ ap (zeroed 2) (reads-stored (set w 34 0) 1 0 a ∙ ap (zeroed 1) (reads-stored w 0 0 h)))
+  where
+    zeroed : ℕ → Thread → Thread
+    zeroed i th = withReads (set (th .reads) i 0) th
 
 -- the log with f put in place below i and still to come from i on, and one turn more
 abbrev pub worked : (Entry → Entry) → ℕ → List ℕ → Thread
@@ -218,6 +268,7 @@ module _ (f : Entry → Entry) (w : List ℕ) (i : ℕ) where
         log-set w i x h,
         getD-set-other w i 32 x 0 (λ z. omega arith),
         getD-set-other w i 33 x 0 (λ z. omega arith),
+        reads-kept w i x (omega arith),
         e,
         ← log-at w i h,
         ← map-more f i (logOf w) noEntry (rw (log-length w n) h),

@@ -1,11 +1,11 @@
 -- A region as a row of numbers: key; channel, ended and done in one; its recent lines in one; stamp; four dependences; eight slots. A thread as a row: 32 log
--- entries, depth, last number. Every row is a region, and every row a thread.
+-- entries, depth, last number, four words of bits for the lines it has read. Every row is a region, and every row a thread.
 use Prim.Native.Nat.{_%_, _+_, _/_, ℕ}
 use mathlib.Core.Bool.{cond}
 use mathlib.Core.List.{List, [], _∷_, map}
 use lib.Dec.{eqb}
 use lib.ListN.{getD, take}
-use Rattle.rules.specs.Measures.{mostDeps, mostEntries, mostSlots}
+use Rattle.rules.specs.Measures.{mostDeps, mostEntries, mostSlots, readWords}
 use Rattle.rules.specs.declared.Entry.{Entry}
 use Rattle.rules.specs.declared.Region.{Region}
 use Rattle.rules.specs.declared.Slot.{Slot}
@@ -18,7 +18,7 @@ abbrev pub regionNumbers : ℕ
 regionNumbers = 4 + mostDeps + mostSlots
 
 abbrev pub threadNumbers : ℕ
-threadNumbers = mostEntries + 2
+threadNumbers = mostEntries + 2 + readWords
 
 abbrev pub word : List ℕ → ℕ → ℕ
 word w i = getD w i 0
@@ -85,8 +85,12 @@ entryOf n =
 abbrev pub logOf : List ℕ → List Entry
 logOf w = map entryOf (take mostEntries w)
 
+-- a bit for each line, in four words
+abbrev pub readsOf : List ℕ → List ℕ
+readsOf w = word w 34 ∷ word w 35 ∷ word w 36 ∷ word w 37 ∷ []
+
 unfoldable pub threadOf : List ℕ → Thread
-threadOf w = record { depth = word w 32 % 256; last = word w 33 % 65536; log = logOf w }
+threadOf w = record { depth = word w 32 % 256; last = word w 33 % 65536; log = logOf w; reads = readsOf w }
 
 abbrev pub threadsOf : List (List ℕ) → List Thread
 threadsOf ws = map threadOf ws

@@ -7,18 +7,20 @@ use measures::MOST_ENTRIES;
 use measures::MOST_RECENT;
 use measures::MOST_SLOTS;
 use measures::OldLines;
+use measures::READS_AT;
 use measures::REGION_NUMBERS;
 use measures::RegionRow;
 use measures::Regions;
 use measures::SLOTS_AT;
 use measures::ThreadRow;
 use measures::Threads;
+use measures::WORD_BITS;
 use rules::Entry;
 use rules::Region;
 use rules::Size;
 use rules::Slot;
 use rules::SlotState;
-ghost use Prim.Native.Nat.{_%_, _/_, _<_};
+ghost use Prim.Native.Nat.{_%_, _/_, _<_, _^_};
 ghost use mathlib.Core.Path.{_≡_};
 ghost use mathlib.Core.Bool.{_||_, cond, false};
 ghost use mathlib.Core.List.{[], _∷_};
@@ -28,11 +30,11 @@ ghost use Rattle.undo.specs.Table.{any};
 ghost use Rattle.rules.specs.Lists.{count, place};
 ghost use Rattle.rules.specs.Measures.{mostLines, mostLogged, mostRegions, mostThreads};
 ghost use Rattle.rules.specs.Slots.{carries};
-ghost use Rattle.rules.specs.Access.{isOf};
+ghost use Rattle.rules.specs.Access.{alsoRead, hasRead, isOf};
 ghost use Rattle.rules.specs.Acknowledge.{kept, keptEntry, landed};
 ghost use Rattle.rules.specs.Commit.{freed, freedEntry};
 ghost use Rattle.rules.specs.Refusal.{noRoomForDep};
-ghost use Rattle.rules.specs.Tables.{noEntry, noRegion, withDepth, withLast, withLog};
+ghost use Rattle.rules.specs.Tables.{noEntry, noReads, noRegion, withDepth, withLast, withLog, withReads};
 ghost use Rattle.measures.specs.Loan.{left, was};
 ghost use Rattle.rows.specs.Row.{entryOf, recentOf, regionNumbers, regionOf, slotOf, stateOf, threadNumbers, threadOf};
 
@@ -435,6 +437,42 @@ pub fn set_place(row: &mut ThreadRow, d: u8, n: u16)
     thread_length(row);
     row[DEPTH_AT] = d as u64;
     row[LAST_AT] = n as u64;
+}
+
+// Whether the thread's open region has read line l.
+pub fn has_read(row: &ThreadRow, l: u8) -> bool
+    ensures { λ r. ⌜ r ≡ hasRead l (threadOf (was row)) ⌝ }
+{
+    let i = l as usize;
+    (row[READS_AT + i / WORD_BITS] >> (i % WORD_BITS)) % 2 == 1
+}
+
+fn bit(i: usize) -> u64
+    requires { ⌜ i < 64 ⌝ }
+    ensures { λ r. ⌜ r ≡ 2 ^ i ⌝ }
+{
+    1u64 << i
+}
+
+// The thread's open region has read line l.
+pub fn note_read(row: &mut ThreadRow, l: u8)
+    ensures { λ _. ⌜ threadOf (left row) ≡ withReads (alsoRead l (threadOf (was row) .reads)) (threadOf (was row)) ⌝ }
+{
+    thread_length(row);
+    let i = l as usize;
+    let at = READS_AT + i / WORD_BITS;
+    row[at] = bit(i % WORD_BITS) | row[at];
+}
+
+// The thread is in no region: it has read no line.
+pub fn forget_reads(row: &mut ThreadRow)
+    ensures { λ _. ⌜ threadOf (left row) ≡ withReads noReads (threadOf (was row)) ⌝ }
+{
+    thread_length(row);
+    row[READS_AT] = 0;
+    row[READS_AT + 1] = 0;
+    row[READS_AT + 2] = 0;
+    row[READS_AT + 3] = 0;
 }
 
 pub fn one(hit: bool) -> u8

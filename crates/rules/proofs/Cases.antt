@@ -4,14 +4,14 @@ use mathlib.Core.Bool.{Bool, _&&_, cond, false, true}
 use mathlib.Core.List.{List, [], _++_, _∷_, map}
 use lib.Dec.{T, eqb}
 use lib.ListN.{length, replicate}
-use Rattle.rules.specs.Access.{joined, logged, read, stored, wordAfter, write, wrote}
+use Rattle.rules.specs.Access.{joined, logged, noteRead, read, stored, wordAfter, write, wrote}
 use Rattle.rules.specs.Acknowledge.{dataAck, dropped, kept, keptEntry, landed, logAck, unlocked}
 use Rattle.rules.specs.Begin.{begin, opened}
 use Rattle.rules.specs.Bytes.{bytesOf, lineAt, numOf, wordsBytes, wordsOf}
 use Rattle.rules.specs.Claim.{boardAfter, entriesIn, passLength, recovering, restores}
 use Rattle.rules.specs.Commit.{afterCommit, commit, commits, doneRegion, earlier, earliestFrom, freed, settle, settled}
 use Rattle.rules.specs.Contradiction.{anyBroken, anyClash, contradicts, inOrder, reaches, reachesIn}
-use Rattle.rules.specs.End.{closed, endRegion}
+use Rattle.rules.specs.End.{closed, endRegion, outside}
 use Rattle.rules.specs.Flight.{flown}
 use Rattle.rules.specs.Image.{encode, entryRecord, headRecord, image, lineRecord, regionRecord, saved, savedEntry, savedLog, savedRegion, savedRegions, savedThread}
 use Rattle.rules.specs.Kinds.{kindAt}
@@ -183,6 +183,30 @@ cases =
       imageLength = 0;
       words = [];
     }
+    -- request 5: thread 0 reads line 0 at depth 2. Thread 1 is kept from the line, not from the next, until thread 0 is back at depth 0; its next region has not
+    -- read the line, and the refused read leaves no mark
+    ∷ record {
+      file =
+          setup′ 2 2
+          ∷ begin′ 0
+          ∷ begin′ 0
+          ∷ read′ 0 0 3
+          ∷ begin′ 1
+          ∷ write′ 1 0 7 9
+          ∷ write′ 1 1 0 9
+          ∷ end′ 0
+          ∷ write′ 1 0 0 9
+          ∷ end′ 0
+          ∷ begin′ 0
+          ∷ write′ 1 0 0 9
+          ∷ read′ 0 0 0
+          ∷ write′ 1 0 1 8
+          ∷ [];
+      refusals = 0 ∷ 0 ∷ 0 ∷ 0 ∷ 0 ∷ 25 ∷ 0 ∷ 0 ∷ 25 ∷ 0 ∷ 0 ∷ 0 ∷ 17 ∷ 0 ∷ [];
+      values = times 9 0 ++ (1 ∷ times 4 0);
+      imageLength = 0;
+      words = [];
+    }
     ∷ []
 
 -- ---- the test of a case
@@ -221,7 +245,7 @@ holds c =
     (same (map (λ a. a .refusal) (run (fresh Zero) (c .file) .answers)) (c .refusals) && same (map (λ a. a .value) (run (fresh Zero) (c .file) .answers)) (c .values))
     && cond (eqb (c .imageLength) 0) true (holdsCut c)
 
--- every case P1 to P11 and the 33rd logged line
+-- every case P1 to P11, the 33rd logged line, and a line that somebody is reading
 pub table : T (all holds cases)
-unfolding holds holdsCut acts recovered foundWords lineWords same cases p1 p2 p3 joined read logged wrote stored write dropped keptEntry kept unlocked logAck landed dataAck opened begin bytesOf numOf wordsBytes wordsOf entriesIn restores doneRegion commits earlier earliestFrom afterCommit freed commit settle settled inOrder anyBroken reachesIn reaches anyClash contradicts closed endRegion flown savedRegion savedRegions savedEntry savedThread savedLog saved headRecord lineRecord regionRecord entryRecord encode image count place flat aboveFrom risingFrom headTurn lineTurn listedAt listedTurn loggedAt loggedTurn endTurn fieldsTurn turnBy readBy readImage eventOf readRecord restoreBy restore act testsOf refusal run slotFrom withoutLine renewed written flownSlots carried settledBoard setup fence apply stepBy stepEvent step lentLine lentFrom startLines fresh ownerOf nextPlace without walkFrom walk entriesOf entriesFrom walkEntries kindAt wordAfter
+unfolding holds holdsCut acts recovered foundWords lineWords same cases p1 p2 p3 joined read noteRead logged wrote stored write dropped keptEntry kept unlocked logAck landed dataAck opened begin bytesOf numOf wordsBytes wordsOf entriesIn restores doneRegion commits earlier earliestFrom afterCommit freed commit settle settled inOrder anyBroken reachesIn reaches anyClash contradicts outside closed endRegion flown savedRegion savedRegions savedEntry savedThread savedLog saved headRecord lineRecord regionRecord entryRecord encode image count place flat aboveFrom risingFrom headTurn lineTurn listedAt listedTurn loggedAt loggedTurn endTurn fieldsTurn turnBy readBy readImage eventOf readRecord restoreBy restore act testsOf refusal run slotFrom withoutLine renewed written flownSlots carried settledBoard setup fence apply stepBy stepEvent step lentLine lentFrom startLines fresh ownerOf nextPlace without walkFrom walk entriesOf entriesFrom walkEntries kindAt wordAfter
 table = tt

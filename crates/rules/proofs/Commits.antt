@@ -10,6 +10,7 @@ use native.Mathlib.Omega.{arith}
 use borrow.Author.Tests.{eqb-false, eqb-true, leb-false, lt-leb}
 use Rattle.rules.proofs.Places.{Unique, listed-commit, listed-key, listed-mapped, unique-commit, unique-mapped}
 use Rattle.rules.proofs.Sim.State.{Kept, Simulated, by}
+use Rattle.rules.proofs.Sim.Looks.{reach}
 use Rattle.rules.proofs.Sim.Ack.{log-ack}
 use Rattle.rules.proofs.Sim.All.{step-kept}
 use Rattle.rules.proofs.Sim.Done.{ready}
@@ -18,7 +19,7 @@ use Rattle.rules.proofs.Sim.Begin.{born-begun, listed-begun, new-room, 
 use Rattle.rules.proofs.Sim.End.{ends-region}
 use Rattle.rules.proofs.Start.{initially}
 use Rattle.rules.proofs.Views.{isOpened}
-use Rattle.rules.specs.Access.{read, storedIn, write}
+use Rattle.rules.specs.Access.{noteRead, read, storedIn, write}
 use Rattle.rules.specs.Acknowledge.{dataAck, logAck}
 use Rattle.rules.specs.Begin.{begin, opened}
 use Rattle.rules.specs.Claim.{boardAfter, isByteMemory}
@@ -98,7 +99,7 @@ Gone b es ks = (k : ℕ) → isIn k ks ≡ (isOpened es k && not (isListed k b))
 gone-settled : {m : Memory} (b b′ : Board) (es es′ : List Account) (ks : List ℕ) → Simulated m b′ es′ → boardNames b′ ≡ boardNames b
     → ((k : ℕ) → isOpened es′ k ≡ isOpened es k) → Gone b es ks → Gone (settledBoard b′ .board) es′ (settled (b′ .tables) .keys ++ ks)
 unfolding settledBoard
-gone-settled b b′ es es′ ks (by s h rc i) same op p k =
+gone-settled b b′ es es′ ks (by s h w i) same op p k =
     let z = settled-takes (b′ .tables) (i .shape .regions .unique) k in
     rw (is-in-both k (settled (b′ .tables) .keys) ks, z .0)
     (test (isIn k (settled (b′ .tables) .keys))
@@ -114,14 +115,14 @@ gone-begin t m b es ks r kept p k = go (kept .simulated)
     lt = leb-false (b .tables .size .threads) t (passed (b .tables) (Begin t) r 3)
 
     go : Simulated m b es → isIn k ks ≡ (isOpened (Opens t ∷ es) k && not (isListed k (apply b (Begin t) .board)))
-    go (by s h rc i) =
+    go (by s h w i) =
         test (eqb (depthOf t (b .tables)) 0)
         (λ d. let d0 : depthIn t es ≡ 0 = sym (i .told .depth t) ∙ eqb-true (depthOf t (b .tables)) 0 d in
         let few : openedIn t es < 65535 = rw (i .told .last t) at (leb-false 65535 (threadAt t (b .tables) .last) (rw d at (passed (b .tables) (Begin t) r 14))) in
         let room = new-room (b .tables) t r d in
-        rw (d, listed-begun rc i t lt d0 few room k, ← born-begun rc i t lt d0 few room k)
+        rw (d, listed-begun (reach w) i t lt d0 few room k, ← born-begun (reach w) i t lt d0 few room k)
         (test (eqb k (newKey t (b .tables)))
-        (λ e. let un : isOpened es k ≡ false = sym (i .told .born k) ∙ rw (eqb-true k (newKey t (b .tables)) e) (unborn rc i t lt d0 few room) in
+        (λ e. let un : isOpened es k ≡ false = sym (i .told .born k) ∙ rw (eqb-true k (newKey t (b .tables)) e) (unborn (reach w) i t lt d0 few room) in
         rw e (p k ∙ rw un))
         (λ e. rw (e, i .told .born k) (p k))))
         (λ d. let n : eqb (depthIn t es) 0 ≡ false = rw (← i .told .depth t) d in
@@ -131,7 +132,7 @@ gone-begin t m b es ks r kept p k = go (kept .simulated)
 
 gone-after : (m : Memory) (b : Board) (es : List Account) (ks : List ℕ) (e : Event) → refusal (b .tables) e ≡ 0 → Kept m b es → Gone b es ks
     → Gone (apply b e .board) (accountOf e ∷ es) (commitsOf e b ++ ks)
-unfolding apply setup openedIn
+unfolding apply setup openedIn noteRead
 gone-after m b es ks (Setup n l s) r kept p = p
 gone-after m b es ks (Begin t) r kept p = gone-begin t m b es ks r kept p
 gone-after m b es ks (End t) r kept p =

@@ -5,12 +5,12 @@ use mathlib.Core.Bool.{Bool, false, true}
 use mathlib.Core.List.{List, [], _∷_, map}
 use lib.Dec.{eqb}
 use lib.ListN.{length}
-use Rattle.rules.specs.Access.{logged, needsLog, read, stored, write}
+use Rattle.rules.specs.Access.{logged, needsLog, noteRead, read, stored, write}
 use Rattle.rules.specs.Acknowledge.{dataAck, logAck, unlocked}
 use Rattle.rules.specs.Begin.{begin, opened}
 use Rattle.rules.specs.Claim.{boardAfter}
 use Rattle.rules.specs.Commit.{Settled, before, commit, commits, doneRegion, earliest, settle, settled}
-use Rattle.rules.specs.End.{closed, endRegion}
+use Rattle.rules.specs.End.{closed, endRegion, outside}
 use Rattle.rules.specs.Flight.{flown}
 use Rattle.rules.specs.History.{Account, acceptedFrom, acceptedIn, accountOf, hasCut, noted}
 use Rattle.rules.specs.Record.{readRecord}
@@ -48,7 +48,7 @@ unfolding settledBoard settled commit
 settled-size b = settle-keeps (λ ts. ts .size) (λ k ts. refl) (length (b .tables .regions)) (withRegions (map doneRegion (b .tables .regions)) (b .tables))
 
 apply-cut : (b : Board) (e : Event) (es : List Account) → b .tables .cut ≡ hasCut es → apply b e .board .tables .cut ≡ hasCut (accountOf e ∷ es)
-unfolding apply setup begin opened read write stored logged flown logAck unlocked dataAck endRegion closed
+unfolding apply setup begin opened read noteRead write stored logged flown logAck unlocked dataAck endRegion closed outside
 apply-cut b (Setup n l s) es h = h
 apply-cut b (Begin t) es h = test (eqb (depthOf t (b .tables)) 0) (λ d. rw d h) (λ d. rw d h)
 apply-cut b (End t) es h = test (eqb (depthOf t (b .tables)) 1) (λ d. rw d (settled-cut (endRegion t b) ∙ h)) (λ d. rw d h)

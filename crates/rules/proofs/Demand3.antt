@@ -4,6 +4,7 @@ use Rattle.undo.specs.History as v
 use Rattle.undo.specs.Claim.{Reach}
 use Rattle.undo.proofs.Main.{closes}
 use Rattle.rules.proofs.Sim.State.{Kept, Rest, Sim, Simulated, by}
+use Rattle.rules.proofs.Sim.Looks.{reach}
 use Rattle.rules.specs.History.{acceptedIn, committed, drawsOn, expected, expectedBytes, usesIn}
 use Prim.Native.Nat.{_-_, ℕ}
 use mathlib.Core.Path.{_∙_, _≡_, sym}
@@ -76,10 +77,10 @@ pub demand3 : EveryKept → Demand3
 demand3 kept m rs as′ bm br cut = go (kept m rs bm .simulated)
   where
     go : Simulated m (boardAfter m rs) (acceptedIn m rs) → Holds m rs as′
-    go (by s h rc i) = holds m rs (commits-told m rs bm) rc i (kept m rs bm .rest) (cut-is m rs ∙ cut) as′
+    go (by s h w i) = holds m rs (commits-told m rs bm) (reach w) i (kept m rs bm .rest) (cut-is m rs ∙ cut) as′
 
 pub reads-back-all : EveryKept → ReadsBack
 reads-back-all kept m rs bm br cut = go (kept m rs bm .simulated)
   where
     go : Simulated m (boardAfter m rs) (acceptedIn m rs) → readImage (image (boardAfter m rs)) ≡ Reads (saved (boardAfter m rs))
-    go (by s h rc i) = reads-it m rs (commits-told m rs bm) rc i (kept m rs bm .rest) (cut-is m rs ∙ cut)
+    go (by s h w i) = reads-it m rs (commits-told m rs bm) (reach w) i (kept m rs bm .rest) (cut-is m rs ∙ cut)

@@ -7,11 +7,11 @@ use lib.Dec.{eqb}
 use lib.ListN.{getD, length, set}
 use borrow.Author.Tests.{eqb-true}
 use Rattle.rules.proofs.Lists.{any-map, count-map, place-map}
-use Rattle.rules.specs.Access.{logged, needsLog, read, stored, storedIn, write, wrote}
+use Rattle.rules.specs.Access.{logged, needsLog, noteRead, read, stored, storedIn, write, wrote}
 use Rattle.rules.specs.Acknowledge.{dataAck, dropped, flightPlace, landed, logAck, unlocked}
 use Rattle.rules.specs.Begin.{begin, opened}
 use Rattle.rules.specs.Commit.{Settled, afterCommit, before, commit, commits, doneRegion, earliest, settle, settled}
-use Rattle.rules.specs.End.{closed, endRegion}
+use Rattle.rules.specs.End.{closed, endRegion, outside}
 use Rattle.rules.specs.Flight.{flown}
 use Rattle.rules.specs.History.{commitsOf}
 use Rattle.rules.specs.Lists.{count, place}
@@ -105,7 +105,7 @@ write-names t l change b =
     (λ d. rw d (names-stored (b .tables .regions) (placeOf (current t (b .tables)) (b .tables .regions)) _ refl))
 
 pub end-names : (t : ℕ) (b : Board) → boardNames (endRegion t b) ≡ boardNames b
-unfolding endRegion closed
+unfolding endRegion closed outside
 end-names t b =
     flown-names (current t (b .tables)) _
     ∙ names-stored (b .tables .regions) (placeOf (current t (b .tables)) (b .tables .regions)) _ refl
@@ -186,7 +186,7 @@ opened-keys t ts =
     ∙ ap (λ i. set (keysIn (ts .regions)) i (keyOf t (threadAt t ts .last + 1))) (sym (place-map (λ x. eqb x 0) (isKey 0) (λ r. r .key) (ts .regions) (λ r. refl)))
 
 pub keys-after : (b : Board) (e : Event) → Keys b e (boardKeys (apply b e .board))
-unfolding apply setup begin
+unfolding apply setup begin noteRead
 keys-after b (Setup n l s) = same refl
 keys-after b (Begin t) =
     test (eqb (depthOf t (b .tables)) 0)

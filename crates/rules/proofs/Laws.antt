@@ -40,10 +40,10 @@ pub refusal-leaves : (b : Board) (bs : List ℕ) → step b bs .answer .refusal 
 unfolding step
 refusal-leaves b bs n = read-leaves b (readRecord bs) n
 
--- ---- "Refused because of the input" gives an event 1 to 6, 24 or 27, "Refused because of the state" 11 to 22
+-- ---- "Refused because of the input" gives an event 1 to 6, 24 or 27, "Refused because of the state" 11 to 22 or 25
 
 abbrev pub isAnswer : ℕ → Bool
-isAnswer n = leb n 6 || ((leb 11 n && leb n 22) || (eqb n 24 || eqb n 27))
+isAnswer n = leb n 6 || ((leb 11 n && leb n 22) || (eqb n 24 || (eqb n 25 || eqb n 27)))
 
 first-answer : (ts : List Test) → all (λ t. isAnswer (t .code)) ts ≡ true → isAnswer (firstBad ts) ≡ true
 first-answer [] e = refl

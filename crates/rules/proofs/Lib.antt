@@ -2,6 +2,7 @@ pub mod Cases
 pub mod Laws
 pub mod AnyOrder
 pub mod Tests
+pub mod Bits
 pub mod Codec
 pub mod Views
 pub mod Sim

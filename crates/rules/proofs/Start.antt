@@ -1,7 +1,7 @@
 -- The board before any event is the undo log's fresh state; its memory holds lines of eight 64-bit words.
 use Rattle.undo.specs.Machine as u
 use Rattle.undo.specs.History as v
-use Prim.Native.Nat.{_*_, _+_, _<_, suc, zero, ℕ}
+use Prim.Native.Nat.{_%_, _*_, _+_, _/_, _<_, suc, zero, ℕ}
 use mathlib.Core.Path.{_∙_, _≡_, ap, refl, sym}
 use mathlib.Core.Bool.{Bool, false, false≢true, true}
 use mathlib.Core.List.{List, []}
@@ -10,8 +10,9 @@ use lib.ListN.{getD, getD-replicate, length, length-replicate, replicate}
 use native.Mathlib.Omega.{arith}
 use borrow.Author.Tests.{eqb-false, leb-true, lt-leb}
 use Rattle.rules.proofs.Codec.Bytes.{isLine, line-small}
+use Rattle.rules.proofs.Bits.{bit-zero}
 use Rattle.rules.proofs.Places.{getD-same, once-one}
-use Rattle.rules.proofs.Sim.State.{GoodRegions, Kept, Logs, Shape, Sim, Told, by}
+use Rattle.rules.proofs.Sim.State.{GoodRegions, Kept, Logs, Marks, Shape, Sim, Told, by, unread}
 use Rattle.rules.proofs.Sim.Base.{clear-waits}
 use Rattle.rules.proofs.Sim.Begin.{free-slots, state-free}
 use Rattle.rules.proofs.Lists.{count-none}
@@ -22,7 +23,7 @@ use Rattle.rules.specs.Lists.{all, count}
 use Rattle.rules.specs.Tables.{Lent, Memory, Zero, fresh, freshTables, inChannel, isZero, lentFrom, lentLength, lentLine, lineOf, listed, noEntry, noRegion, noThread, numberOf, ownerOf, placeOf, regionAt, startLines}
 use Rattle.rules.specs.declared.SlotState.the-variants.{Empty, Waiting}
 use Rattle.undo.proofs.Laws.{flip, never, test}
-use Rattle.undo.specs.Claim.{start}
+use Rattle.serial.specs.Looks.{start}
 use Rattle.undo.specs.History.{empty}
 
 -- ---- the starting memory
@@ -144,11 +145,19 @@ sim-fresh m e =
       waits = λ l k w. absurd (clear-waits w);
     }
 
+marks-fresh : (m : Memory) → Marks (fresh m) []
+unfolding fresh depthIn
+marks-fresh m =
+    record {
+      words = λ t. rw (getD-same 8 t noThread);
+      marks = λ t l h. rw (getD-same 8 t noThread, getD-same {A = ℕ} 4 (l / 64) 0) (bit-zero (l % 64));
+    }
+
 pub initially : (m : Memory) → isByteMemory m ≡ true → Kept m (fresh m) []
 unfolding fresh commits
 initially m e =
     record {
-      simulated = by _ _ start (sim-fresh m e);
+      simulated = by _ _ (record { seen = []; seeing = start; looks = unread; marks = marks-fresh m }) (sim-fresh m e);
       rest = record {
         flown = λ k l c x w. let v : Empty ≡ Waiting c = sym (state-free l) ∙ (rw (free-region k) at w) in let z : _≡_ {A = ℕ} 0 1 = cc in absurd (omega arith);
         finished = λ j e n. absurd (false≢true (rw (getD-same 32 j noRegion) at e));

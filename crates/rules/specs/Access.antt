@@ -2,18 +2,24 @@
 use Prim.Native.Nat.{_%_, _*_, _+_, _/_, _^_, ℕ}
 use mathlib.Core.Bool.{Bool, _||_, cond, not, true}
 use mathlib.Core.List.{List, [], _∷_, map}
+use lib.Bits.{bitOr}
 use lib.Dec.{eqb}
 use lib.ListN.{getD, set}
 use Rattle.rules.specs.Bytes.{byteOf, numOf}
 use Rattle.rules.specs.Flight.{flown}
 use Rattle.rules.specs.Lists.{count, place}
 use Rattle.rules.specs.Slots.{renewed, written}
-use Rattle.rules.specs.Measures.{mostEntries}
-use Rattle.rules.specs.Tables.{Board, current, lineOf, noEntry, ownerOf, regionAt, threadAt, withCur, withDeps, withLock, withLog, withOld, withOwner, withRecent, withRegion, withSlots, withTables, withThread, withWrite}
+use Rattle.rules.specs.Measures.{mostEntries, wordBits}
+use Rattle.rules.specs.Tables.{Board, current, lineOf, noEntry, ownerOf, regionAt, threadAt, withCur, withDeps, withLock, withLog, withOld, withOwner, withReads, withRecent, withRegion, withSlots, withTables, withThread, withWrite}
 use Rattle.rules.specs.declared.Entry.{Entry}
 use Rattle.rules.specs.declared.Region.{Region}
 use Rattle.rules.specs.declared.Tables.{Tables}
+use Rattle.rules.specs.declared.Thread.{Thread}
 use Rattle.undo.specs.Table.{any}
+
+-- bit i of a number
+abbrev pub isSet : ℕ → ℕ → Bool
+isSet i n = eqb (n / 2 ^ i % 2) 1
 
 -- ---- "If the line's owner is uncommitted and not the current region, it joins the current region's dependences (a set)"
 
@@ -31,6 +37,20 @@ joined d ds = cond (isHad d ds) ds (set ds (place (eqb 0) ds) d)
 unfoldable pub read : ℕ → ℕ → Tables → Tables
 read k l ts =
     withRegion k (withDeps (joined (dependence k l ts) (regionAt k (ts .regions) .deps)) (regionAt k (ts .regions))) ts
+
+-- ---- request 5: "a line that another thread's open region has read", a bit for each line
+
+-- the open region of the thread has read line l
+abbrev pub hasRead : ℕ → Thread → Bool
+hasRead l th = isSet (l % wordBits) (getD (th .reads) (l / wordBits) 0)
+
+-- the bits with that of line l
+abbrev pub alsoRead : ℕ → List ℕ → List ℕ
+alsoRead l rs = set rs (l / wordBits) (bitOr (2 ^ (l % wordBits)) (getD rs (l / wordBits) 0))
+
+-- thread t, in its open region, has read line l
+unfoldable pub noteRead : ℕ → ℕ → Tables → Tables
+noteRead t l ts = withThread t (withReads (alsoRead l (threadAt t ts .reads)) (threadAt t ts)) ts
 
 -- ---- "If the owner is another region or none: the current region becomes owner, the line is locked, and the whole old line becomes a log entry, in flight"
 
@@ -61,10 +81,6 @@ loggedOnce t k l b = cond (needsLog k l (b .tables)) (logged t k l b) b
 
 -- ---- "The word is stored", and the region's slots and dependences follow
 -- request 9: "byte i is stored where bit i of the mask (bit 0 the lowest) is set, the rest of the word stays. Kind 4 becomes the same with all bits set"
-
--- bit i of a mask
-abbrev pub isSet : ℕ → ℕ → Bool
-isSet i mask = eqb (mask / 2 ^ i % 2) 1
 
 -- byte i of the word x after a write of the value v with a mask
 abbrev pub byteAfter : ℕ → ℕ → ℕ → ℕ → ℕ

@@ -1,6 +1,6 @@
 -- The words of demand 3, by the event list alone. A list of accepted events stands newest first here, each as its account: what is behind one came before it.
 use Prim.Native.Nat.{_+_, _-_, suc, zero, ℕ}
-use mathlib.Core.Bool.{Bool, _&&_, cond, false, true}
+use mathlib.Core.Bool.{Bool, _&&_, _||_, cond, false, not, true}
 use mathlib.Core.List.{List, [], _++_, _∷_}
 use lib.Dec.{eqb, ltb}
 use lib.ListN.{drop, take}
@@ -155,6 +155,26 @@ endOf Nothing es ks = ks
 unfoldable pub endsIn : List Account → List ℕ
 endsIn [] = []
 endsIn (e ∷ es) = endOf e es (endsIn es)
+
+-- ---- request 5: "a line that another thread's open region has read"
+
+abbrev pub readOf : ℕ → ℕ → Account → List Account → Bool → Bool
+readOf k l (Sets n s) es r = r
+readOf k l (Opens u) es r = r
+readOf k l (Closes u) es r = r
+readOf k l (Uses u x) es r = (eqb (regionIn u es) k && eqb x l) || r
+readOf k l (Stores u x f) es r = r
+readOf k l Cuts es r = r
+readOf k l Nothing es r = r
+
+-- region k has read line l
+unfoldable pub hasReadIn : ℕ → ℕ → List Account → Bool
+hasReadIn k l [] = false
+hasReadIn k l (e ∷ es) = readOf k l e es (hasReadIn k l es)
+
+-- the open region of thread t has read line l
+abbrev pub readIn : ℕ → ℕ → List Account → Bool
+readIn t l es = not (eqb (depthIn t es) 0) && hasReadIn (regionIn t es) l es
 
 -- ---- "A line's last writer before an event is the region of the last accepted write to it before that, perhaps the same region"; 0 if there is none
 

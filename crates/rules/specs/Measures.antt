@@ -11,6 +11,13 @@ mostLines = 256
 abbrev pub lineWords : ℕ
 lineWords = 8
 
+-- request 5: a bit for each line, in words of 64 bits
+abbrev pub wordBits : ℕ
+wordBits = 64
+
+abbrev pub readWords : ℕ
+readWords = 4
+
 -- request 9: "all bits set", a bit for each byte of a word
 abbrev pub wholeWord : ℕ
 wholeWord = 255

@@ -1,10 +1,10 @@
 -- "Refused because of the input" (6, 24, 3, 4, 5, 27) and "Refused because of the state" (11 to 22): for each event its tests, in the order of document 01.
--- Request 3: "Refusal 23 no longer occurs." Request 9: "27, mask 0, after 5." Request 1: "24 .. at setup after 6."
+-- Request 3: "Refusal 23 no longer occurs." Request 9: "27, mask 0, after 5." Request 1: "24 .. at setup after 6." Request 5: "25, after 17 and before 18."
 use Prim.Native.Nat.{_*_, _+_, _-_, ℕ}
 use mathlib.Core.Bool.{Bool, _&&_, _||_, cond, not}
 use mathlib.Core.List.{List, [], _∷_}
 use lib.Dec.{eqb, leb, ltb}
-use Rattle.rules.specs.Access.{dependence, isHad, isOf, needsLog, wordPlaces}
+use Rattle.rules.specs.Access.{dependence, hasRead, isHad, isOf, needsLog, wordPlaces}
 use Rattle.rules.specs.Bytes.{byteOf}
 use Rattle.rules.specs.Lists.{count}
 use Rattle.rules.specs.Measures.{mostDepth, mostInChannel, mostLines, mostModified, mostNumber, mostThreads}
@@ -93,6 +93,10 @@ noRoomFor t ts = noRoomIn (channelOf (threadAt t ts .last + 1)) (partyOf t (ts .
 abbrev pub isForeignOpen : ℕ → ℕ → Tables → Bool
 isForeignOpen t o ts = not (eqb o 0) && (not (eqb (threadOf o) t) && not (regionAt o (ts .regions) .ended))
 
+-- request 5: "A write to a line that another thread's open region has read is now refused"
+abbrev pub isReadElsewhere : ℕ → ℕ → Tables → Bool
+isReadElsewhere t l ts = any (λ u. not (eqb u t) && hasRead l (threadAt u ts)) wordPlaces
+
 -- "19 new dependence and four held"
 abbrev pub noRoomForDep : ℕ → List ℕ → Bool
 noRoomForDep d ds = not (isHad d ds) && not (any (eqb 0) ds)
@@ -144,6 +148,7 @@ testsOf ts (Write t l w mask v) =
     ∷ refuse 11 (ts .cut)
     ∷ refuse 12 (eqb (depthOf t ts) 0)
     ∷ refuse 17 (isForeignOpen t (ownerOf l ts) ts)
+    ∷ refuse 25 (isReadElsewhere t l ts)
     ∷ refuse 18 (needsLog (current t ts) l ts && locked l ts)
     ∷ refuse 19 (noRoomForDep (dependence (current t ts) l ts) (regionAt (current t ts) (ts .regions) .deps))
     ∷ refuse 20 (isFull (slotFor l (regionAt (current t ts) (ts .regions) .slots)))

@@ -4,7 +4,7 @@ use mathlib.Core.Bool.{Bool, _&&_, cond, not, true}
 use mathlib.Core.List.{List}
 use lib.Dec.{eqb}
 use lib.ListN.{getD, length}
-use Rattle.rules.specs.Access.{read, storedIn, write}
+use Rattle.rules.specs.Access.{noteRead, read, storedIn, write}
 use Rattle.rules.specs.Acknowledge.{dataAck, logAck}
 use Rattle.rules.specs.Begin.{begin}
 use Rattle.rules.specs.Commit.{settled}
@@ -57,7 +57,7 @@ unfoldable pub apply : Board → Event → Did
 apply b (Setup n l s) = did 0 (withTables (setup n l s (b .tables)) b)
 apply b (Begin t) = did 0 (withTables (begin t (b .tables)) b)
 apply b (End t) = cond (eqb (depthOf t (b .tables)) 1) (settledBoard (endRegion t b)) (did 0 (withTables (shallower t (b .tables)) b))
-apply b (Read t l w) = did (getD (lineOf l (b .cur)) w 0) (withTables (read (current t (b .tables)) l (b .tables)) b)
+apply b (Read t l w) = did (getD (lineOf l (b .cur)) w 0) (withTables (noteRead t l (read (current t (b .tables)) l (b .tables))) b)
 apply b (Write t l w mask v) = did 0 (write t l (storedIn w mask v) b)
 apply b (LogAck l) = settledBoard (logAck l b)
 apply b (DataAck l) = settledBoard (dataAck l b)

@@ -6,7 +6,7 @@ use lib.Dec.{eqb, leb}
 use lib.ListN.{getD, length, replicate, set}
 use Rattle.rules.specs.Bytes.{lineAt}
 use Rattle.rules.specs.Lists.{place}
-use Rattle.rules.specs.Measures.{lineWords, mostDeps, mostEntries, mostLines, mostLogged, mostRegions, mostSlots, mostThreads, ripeCount}
+use Rattle.rules.specs.Measures.{lineWords, mostDeps, mostEntries, mostLines, mostLogged, mostRegions, mostSlots, mostThreads, readWords, ripeCount}
 use Rattle.rules.specs.declared.Entry.{Entry}
 use Rattle.rules.specs.declared.Region.{Region}
 use Rattle.rules.specs.declared.Shares.{Shares}
@@ -41,8 +41,12 @@ noRegion = record { key = 0; channel = 0; ended = false; done = false; stamp = 0
 abbrev pub noEntry : Entry
 noEntry = record { key = 0; line = 0; rank = 0; persistent = false }
 
+-- no line has been read
+abbrev pub noReads : List ℕ
+noReads = replicate readWords 0
+
 abbrev pub noThread : Thread
-noThread = record { depth = 0; last = 0; log = replicate mostEntries noEntry }
+noThread = record { depth = 0; last = 0; log = replicate mostEntries noEntry; reads = noReads }
 
 abbrev pub noShares : Shares
 noShares = record { parties = 0; reserves = 0 }
@@ -222,13 +226,16 @@ abbrev pub withPersistent : Bool → Entry → Entry
 withPersistent p e = record { key = e .key; line = e .line; rank = e .rank; persistent = p }
 
 abbrev pub withDepth : ℕ → Thread → Thread
-withDepth d th = record { depth = d; last = th .last; log = th .log }
+withDepth d th = record { depth = d; last = th .last; log = th .log; reads = th .reads }
 
 abbrev pub withLast : ℕ → Thread → Thread
-withLast n th = record { depth = th .depth; last = n; log = th .log }
+withLast n th = record { depth = th .depth; last = n; log = th .log; reads = th .reads }
 
 abbrev pub withLog : List Entry → Thread → Thread
-withLog es th = record { depth = th .depth; last = th .last; log = es }
+withLog es th = record { depth = th .depth; last = th .last; log = es; reads = th .reads }
+
+abbrev pub withReads : List ℕ → Thread → Thread
+withReads rs th = record { depth = th .depth; last = th .last; log = th .log; reads = rs }
 
 abbrev pub withTables : Tables → Board → Board
 withTables ts b = record { tables = ts; cur = b .cur; med = b .med; old = b .old; car = b .car }

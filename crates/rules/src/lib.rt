@@ -39,11 +39,12 @@ pub struct Entry {
     pub persistent: bool,
 }
 
-// A thread: its depth, the number of its last region, its log.
+// A thread: its depth, the number of its last region, its log. `reads` has a bit for each line, set where the thread's open region has read the line.
 pub struct Thread {
     pub depth: u8,
     pub last: u16,
     pub log: [Entry; measures::MOST_ENTRIES],
+    pub reads: [u64; measures::READ_WORDS],
 }
 
 // How the threads share the dependence list. `parties` are eight bytes, the party of each thread, and `reserves` two, the reserve of each party; the

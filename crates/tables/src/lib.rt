@@ -8,15 +8,17 @@ use measures::Regions;
 use measures::Threads;
 use rules::Region;
 use rules::Shares;
-ghost use Prim.Native.Nat.{_/_};
+ghost use Prim.Native.Nat.{_/_, _<_};
 ghost use mathlib.Core.Path.{_≡_};
-ghost use mathlib.Core.Bool.{cond};
+ghost use mathlib.Core.Bool.{_&&_, cond, not};
 ghost use lib.Dec.{eqb};
 ghost use lib.ListN.{set};
 ghost use Rattle.undo.specs.Table.{any};
 ghost use Rattle.rules.specs.Lists.{count};
-ghost use Rattle.rules.specs.Tables.{freePlace, inChannel, isHeld, isPlaced, keyOf, listed, placeOf};
+ghost use Rattle.rules.specs.Measures.{mostThreads};
+ghost use Rattle.rules.specs.Tables.{freePlace, inChannel, isHeld, isPlaced, keyOf, listed, noReads, placeOf, withReads};
 ghost use Rattle.rules.specs.Slots.{carries};
+ghost use Rattle.rules.specs.Access.{alsoRead, hasRead, wordPlaces};
 ghost use Rattle.rules.specs.Acknowledge.{flightPlace, kept, landed};
 ghost use Rattle.rules.specs.Refusal.{isModified, isOfParty, isOfThread, noRoomForDep};
 ghost use Rattle.rules.specs.Step.{isOther};
@@ -404,12 +406,59 @@ pub fn open_region(threads: &Threads, t: u8) -> u32
 
 // Thread t gets the depth d and the last number n; behind the list nothing changes.
 pub fn set_thread(threads: &mut Threads, t: u8, d: u8, n: u16)
-    ensures { λ _. ⌜ threadsOf (left threads) ≡ set (threadsOf (was threads)) t (record { depth = d; last = n; log = threadHeld (was threads) t .log }) ⌝ }
+    ensures { λ _. ⌜ threadsOf (left threads) ≡ set (threadsOf (was threads)) t (record { depth = d; last = n; log = threadHeld (was threads) t .log; reads = threadHeld (was threads) t .reads }) ⌝ }
 {
     rows::threads_length(threads);
     let i = t as usize;
     if i < MOST_THREADS {
         rows::set_place(&mut threads[i], d, n);
+    }
+}
+
+// Whether u is another thread than t and has read line l in its open region.
+fn read_by_other(threads: &Threads, u: usize, t: u8, l: u8) -> bool
+    requires { ⌜ u < mostThreads ⌝ }
+    ensures { λ r. ⌜ r ≡ (not (eqb u t) && hasRead l (threadHeld (was threads) u)) ⌝ }
+{
+    rows::threads_length(threads);
+    (u != t as usize) & rows::has_read(&threads[u], l)
+}
+
+// Whether the open region of another thread than t has read line l.
+pub fn read_elsewhere(threads: &Threads, t: u8, l: u8) -> bool
+    ensures { λ r. ⌜ r ≡ any (λ u. not (eqb u t) && hasRead l (threadHeld (was threads) u)) wordPlaces ⌝ }
+{
+    rows::one_of(
+        read_by_other(threads, 0, t, l),
+        read_by_other(threads, 1, t, l),
+        read_by_other(threads, 2, t, l),
+        read_by_other(threads, 3, t, l),
+        read_by_other(threads, 4, t, l),
+        read_by_other(threads, 5, t, l),
+        read_by_other(threads, 6, t, l),
+        read_by_other(threads, 7, t, l),
+    )
+}
+
+// The open region of thread t has read line l; behind the list nothing changes.
+pub fn note_read(threads: &mut Threads, t: u8, l: u8)
+    ensures { λ _. ⌜ threadsOf (left threads) ≡ set (threadsOf (was threads)) t (withReads (alsoRead l (threadHeld (was threads) t .reads)) (threadHeld (was threads) t)) ⌝ }
+{
+    rows::threads_length(threads);
+    let i = t as usize;
+    if i < MOST_THREADS {
+        rows::note_read(&mut threads[i], l);
+    }
+}
+
+// What thread t has read counts no more; behind the list nothing changes.
+pub fn forget_reads(threads: &mut Threads, t: u8)
+    ensures { λ _. ⌜ threadsOf (left threads) ≡ set (threadsOf (was threads)) t (withReads noReads (threadHeld (was threads) t)) ⌝ }
+{
+    rows::threads_length(threads);
+    let i = t as usize;
+    if i < MOST_THREADS {
+        rows::forget_reads(&mut threads[i]);
     }
 }
 

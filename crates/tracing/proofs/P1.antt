@@ -4,13 +4,13 @@ use mathlib.Core.List.{List, [], _∷_}
 use lib.Dec.{T}
 use Rattle.output.specs.Decimal.{decimal, digits}
 use Rattle.rules.proofs.Cases.{same}
-use Rattle.rules.specs.Access.{joined, logged, read, stored, wordAfter, write, wrote}
+use Rattle.rules.specs.Access.{joined, logged, noteRead, read, stored, wordAfter, write, wrote}
 use Rattle.rules.specs.Acknowledge.{dataAck, dropped, kept, keptEntry, landed, logAck, unlocked}
 use Rattle.rules.specs.Begin.{begin, opened}
 use Rattle.rules.specs.Bytes.{bytesOf, numOf, wordsBytes, wordsOf}
 use Rattle.rules.specs.Commit.{afterCommit, commit, commits, doneRegion, earlier, earliestFrom, freed, settle, settled}
 use Rattle.rules.specs.Contradiction.{anyBroken, anyClash, contradicts, inOrder, reaches, reachesIn}
-use Rattle.rules.specs.End.{closed, endRegion}
+use Rattle.rules.specs.End.{closed, endRegion, outside}
 use Rattle.rules.specs.Flight.{flown}
 use Rattle.rules.specs.Image.{encode, entryRecord, headRecord, image, lineRecord, regionRecord, save, saved, savedEntry, savedLog, savedRegion, savedRegions, savedThread}
 use Rattle.rules.specs.Kinds.{kindAt}
@@ -41,5 +41,5 @@ output =
     ∷ 32 ∷ 55 ∷ 10 ∷ []
 
 pub prints : T (same (traceText (fresh Zero) (recordsOf file)) output)
-unfolding file output same joined read logged wrote stored write dropped keptEntry kept unlocked logAck landed dataAck opened begin bytesOf numOf wordsBytes wordsOf doneRegion commits earlier earliestFrom afterCommit freed commit settle settled inOrder anyBroken reachesIn reaches anyClash contradicts closed endRegion flown savedRegion savedRegions savedEntry savedThread savedLog saved headRecord lineRecord regionRecord entryRecord encode image count place flat aboveFrom risingFrom headTurn lineTurn listedAt listedTurn loggedAt loggedTurn endTurn fieldsTurn turnBy readBy readImage eventOf readRecord restoreBy restore testsOf refusal slotFrom written flownSlots carried settledBoard setup fence apply stepBy stepEvent step lentLine lentFrom startLines fresh ownerOf nextPlace without walkFrom walk entriesOf entriesFrom walkEntries save wroteInto recordsFrom digits decimal numberText answerText wordText flatTo lineText memoryText finish recoveredText imageBuffer cutText behindText eventText traceText kindAt wordAfter
+unfolding file output same joined read noteRead logged wrote stored write dropped keptEntry kept unlocked logAck landed dataAck opened begin bytesOf numOf wordsBytes wordsOf doneRegion commits earlier earliestFrom afterCommit freed commit settle settled inOrder anyBroken reachesIn reaches anyClash contradicts outside closed endRegion flown savedRegion savedRegions savedEntry savedThread savedLog saved headRecord lineRecord regionRecord entryRecord encode image count place flat aboveFrom risingFrom headTurn lineTurn listedAt listedTurn loggedAt loggedTurn endTurn fieldsTurn turnBy readBy readImage eventOf readRecord restoreBy restore testsOf refusal slotFrom written flownSlots carried settledBoard setup fence apply stepBy stepEvent step lentLine lentFrom startLines fresh ownerOf nextPlace without walkFrom walk entriesOf entriesFrom walkEntries save wroteInto recordsFrom digits decimal numberText answerText wordText flatTo lineText memoryText finish recoveredText imageBuffer cutText behindText eventText traceText kindAt wordAfter
 prints = tt

@@ -16,7 +16,7 @@ use Rattle.undo.proofs.Inv.{Match, bottom, silent, settled, above, Valu
 
 module _ {Val : Type 0} {x : Val} where
   -- the entries are of ended regions
-  owned : {w : ℕ → Val → Val} {done : ℕ → Bool} {c : List (Entry Val)} {rs : List ℕ} {v : Val} (r : ℕ) → owns r c ≡ true → Match w done x c rs v
+  pub owned : {w : ℕ → Val → Val} {done : ℕ → Bool} {c : List (Entry Val)} {rs : List ℕ} {v : Val} (r : ℕ) → owns r c ≡ true → Match w done x c rs v
       → isIn r rs ≡ true
   owned r h (bottom q) = absurd (false≢true h)
   owned r h (silent {r = k} q mt) = or-right (eqb r k) (owned r h mt)
@@ -24,7 +24,7 @@ module _ {Val : Type 0} {x : Val} where
   owned r h (above {e = e} {r = k} o a q mt) = let d : eqb r k ≡ true = rw o h in rw d
 
   -- the ended regions' writes are as they were
-  match-same : {w : ℕ → Val → Val} {done : ℕ → Bool} {c : List (Entry Val)} {rs : List ℕ} {v : Val} (w′ : ℕ → Val → Val)
+  pub match-same : {w : ℕ → Val → Val} {done : ℕ → Bool} {c : List (Entry Val)} {rs : List ℕ} {v : Val} (w′ : ℕ → Val → Val)
       → ((k : ℕ) → isIn k rs ≡ true → (y : Val) → w′ k y ≡ w k y) → Match w done x c rs v → Match w′ done x c rs v
   match-same w′ f (bottom q) = bottom q
   match-same w′ f (silent {r = k} q mt) =
@@ -35,7 +35,7 @@ module _ {Val : Type 0} {x : Val} where
       above o a (f k (rw (is-same k)) (e .old) ∙ q) (match-same w′ (λ j b. f j (or-right (eqb j k) b)) mt)
 
   -- region r commits: it depends on none, so its entry is the oldest of its line
-  match-commit : {w : ℕ → Val → Val} {done : ℕ → Bool} {dep : ℕ → ℕ → Bool} {c : List (Entry Val)} {rs : List ℕ} {v : Val} (r : ℕ)
+  pub match-commit : {w : ℕ → Val → Val} {done : ℕ → Bool} {dep : ℕ → ℕ → Bool} {c : List (Entry Val)} {rs : List ℕ} {v : Val} (r : ℕ)
       → ((q : ℕ) → dep r q ≡ false) → Link dep c → Match w done x c rs v → Match w (put r true done) x (freed r c) rs v
   match-commit r h lk (bottom q) = bottom q
   match-commit r h lk (silent q mt) = silent q (match-commit r h lk mt)

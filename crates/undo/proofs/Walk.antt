@@ -125,7 +125,7 @@ module _ {Val : Type 0} where
   found w done x [] = x
   found w done x (r ∷ rs) = cond (done r) (w r (found w done x rs)) (found w done x rs)
 
-  match-found : {w : ℕ → Val → Val} {done : ℕ → Bool} {x : Val} {c : List (Entry Val)} {rs : List ℕ} {v : Val} → Match w done x c rs v
+  pub match-found : {w : ℕ → Val → Val} {done : ℕ → Bool} {x : Val} {c : List (Entry Val)} {rs : List ℕ} {v : Val} → Match w done x c rs v
       → undone (olds (λ k. true) c) v ≡ found w done x rs
   unfolding found
   match-found (bottom q) = sym q
@@ -139,7 +139,7 @@ module _ {Val : Type 0} where
   values-found (idle k mt) = match-found mt
   values-found (held a q k mt) = match-found mt
 
-  applied-at : (l r : ℕ) (ws : List (Wrote Val)) (m : ℕ → Val) → applied r ws m l ≡ change l ws r (m l)
+  pub applied-at : (l r : ℕ) (ws : List (Wrote Val)) (m : ℕ → Val) → applied r ws m l ≡ change l ws r (m l)
   unfolding applied
   applied-at l r [] m = refl
   applied-at l r (w ∷ ws) m =

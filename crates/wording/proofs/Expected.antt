@@ -22,6 +22,7 @@ use Rattle.rules.proofs.Recover.Sound.{sound}
 use Rattle.rules.proofs.Recover.Steps.{Standing, stands, start-stands, step-stands}
 use Rattle.rules.proofs.Recover.Valid.{saved-valid}
 use Rattle.rules.proofs.Sim.State.{Sim, Simulated, by}
+use Rattle.rules.proofs.Sim.Looks.{reach}
 use Rattle.rules.proofs.Sim.All.{every}
 use Rattle.rules.specs.Bytes.{lineBytes, wordsOf}
 use Rattle.rules.specs.Claim.{boardAfter, isByte, isByteMemory}
@@ -168,11 +169,11 @@ unfolding cutText
 words-expected m rs bm br cut = go (every m rs bm .simulated)
   where
     go : Simulated m (boardAfter m rs) (acceptedIn m rs) → cutText (boardAfter m rs) ≡ flatTo (λ l. lineText l (lineOf l (expected m rs))) 0 (linesIn (acceptedIn m rs))
-    go (by s h rc i) =
+    go (by s h w i) =
         let b = boardAfter m rs in
         let c : b .tables .cut ≡ true = cut-is m rs ∙ cut in
         let up = i .shape .cut-setup c in
-        let quiet = sound rc i (every m rs bm .rest) in
+        let quiet = sound (reach w) i (every m rs bm .rest) in
         let same = i .told .lines up in
-        saved-text (b .tables .size .lines) b imageBuffer up c (omega (arith, saved-short rc i up quiet, buffer-long))
-        ∙ (text-expected m rs bm br cut up same (finish-recovers rc i up quiet 256 (start-stands rc i up quiet)) ∙ rw same)
+        saved-text (b .tables .size .lines) b imageBuffer up c (omega (arith, saved-short (reach w) i up quiet, buffer-long))
+        ∙ (text-expected m rs bm br cut up same (finish-recovers (reach w) i up quiet 256 (start-stands (reach w) i up quiet)) ∙ rw same)

@@ -63,7 +63,7 @@ unfolding saved
 image-log b h = all-logs b h 8 0
 
 shaped : {m : Memory} {b : Board} {es : List Account} → Simulated m b es → (t : ℕ) → length (threadAt t (b .tables) .log) ≡ 32
-shaped (by s h rc i) = i .shape .threads .logs
+shaped (by s h w i) = i .shape .threads .logs
 
 module _ (m : Memory) (rs : List (List ℕ)) (bm : isByteMemory m ≡ true) (br : all (all isByte) rs ≡ true) (cut : hasCut (acceptedIn m rs) ≡ true) where
   -- a step that answers 0 leaves the expected memory

@@ -1,5 +1,5 @@
 use Rattle.rules.specs.Tables.{ownerOf}
-use Rattle.rules.specs.Access.{read}
+use Rattle.rules.specs.Access.{noteRead, read}
 use borrow.Author.Needs.{needs}
 use Rattle.access.proofs.read.Statement.{statement}
 use Rattle.access.proofs.read.Tie as tie
@@ -25,9 +25,15 @@ joined-region-requires c κs = search needs
 put-requires : tie.Need-put-requires
 put-requires c κs = search needs
 
+note-read-requires : tie.Need-note-read-requires
+note-read-requires c κs = search needs
+
 returns : tie.Need-returns
-unfolding read ownerOf
-returns c = λ h threads lock. rw (c .put .ensures, c .before .before .joined-region .ensures, c .before .before .before .get .ensures, c .before .before .before .before .before .place-of .ensures, c .before .before .before .before .before .before .before .dependence .ensures)
+unfolding noteRead read ownerOf
+returns c =
+    λ h lock.
+    let p = c .before .before in
+    rw (c .note-read .ensures, p .put .ensures, p .before .before .joined-region .ensures, p .before .before .before .get .ensures, p .before .before .before .before .before .place-of .ensures, p .before .before .before .before .before .before .before .dependence .ensures)
 
 pub read-spec : {M : Type 1} → statement M
 read-spec =
@@ -40,4 +46,5 @@ read-spec =
     get-requires
     joined-region-requires
     put-requires
+    note-read-requires
     returns)

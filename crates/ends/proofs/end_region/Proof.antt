@@ -17,8 +17,8 @@ current-requires c κs = search needs
 tick-requires : tie.Need-tick-requires
 tick-requires c κs = search needs
 
-shallower-requires : tie.Need-shallower-requires
-shallower-requires c κs = search needs
+outside-requires : tie.Need-outside-requires
+outside-requires c κs = search needs
 
 place-of-requires : tie.Need-place-of-requires
 place-of-requires c κs = search needs
@@ -40,7 +40,7 @@ returns c =
     let q = c .before .before .before .ended-region in
     let r = c .before .before .before .before .get in
     let i = c .before .before .before .before .before .before .place-of in
-    let f = c .before .before .before .before .before .before .before .before .shallower in
+    let f = c .before .before .before .before .before .before .before .before .outside in
     let x = c .before .before .before .before .before .before .before .before .before .before .tick in
     let k = c .before .before .before .before .before .before .before .before .before .before .before .current in
     let s = c .before .before .before .before .before .before .before .before .before .before .before .before .before .args in
@@ -65,7 +65,7 @@ end-region-spec =
     (tie.spec
     current-requires
     tick-requires
-    shallower-requires
+    outside-requires
     place-of-requires
     get-requires
     ended-region-requires

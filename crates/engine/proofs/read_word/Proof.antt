@@ -24,7 +24,16 @@ array-read-result : tie.Need-array-read-result
 array-read-result c = search needs
 
 returns : tie.Need-returns
-returns c = λ h lock med old car. let s = c .before .before .before .before .args in read-law (boardOf h (s .threads .now) (s .regions .now) (s .owner .now) lock (s .cur .now) med old car) (s .t) (s .l) (s .w) (c .before .before .before .current .result) _ (tablesOf h (s .threads .now) (c .before .read .last .0) (s .owner .now) lock) (c .before .before .before .current .ensures) (c .before .read .ensures h (s .threads .now) lock) refl
+returns c =
+    λ h lock med old car.
+    let r = c .before .read in
+    let k = c .before .before .before .before .current in
+    let s = c .before .before .before .before .before .before .args in
+    read-law (boardOf h (s .threads .now) (s .regions .now) (s .owner .now) lock (s .cur .now) med old car) (s .t) (s .l) (s .w) (k .result) _
+    (tablesOf h (r .last .0) (r .last .1 .0) (s .owner .now) lock)
+    (k .ensures)
+    (r .ensures h lock)
+    refl
 
 pub read-word-spec : {M : Type 1} → statement M
 read-word-spec =

@@ -1,5 +1,5 @@
 use Rattle.rows.proofs.Laws.{worked, worked-end, worked-more}
-use Rattle.rows.specs.Row.{threadOf}
+use Rattle.rows.specs.Row.{threadNumbers, threadOf}
 use Rattle.rules.specs.Commit.{freed, freedEntry}
 use lib.ListN.{length, length-set}
 use mathlib.Core.Path.{_∙_, _≡_, refl, sym}
@@ -9,7 +9,7 @@ use Rattle.rows.proofs.free_entries.Statement.{statement}
 use Rattle.rows.proofs.free_entries.Tie as tie
 
 abbrev Inv-loop : tie.InvT-loop
-Inv-loop row₀ k i₀ row i = (i ≤ 32) × ((length row ≡ 34) × (worked (freedEntry k) i row ≡ freed k (threadOf row₀)))
+Inv-loop row₀ k i₀ row i = (i ≤ 32) × ((length row ≡ threadNumbers) × (worked (freedEntry k) i row ≡ freed k (threadOf row₀)))
 
 abbrev μ-loop : tie.MeasureT-loop
 μ-loop row₀ k i₀ row i = 32 - i

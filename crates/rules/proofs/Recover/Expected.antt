@@ -46,10 +46,10 @@ expected-length m rs = effects-length (committed m rs) (writesIn (acceptedIn m r
 
 -- ---- values: two memories that agree below n lines
 
-abbrev Same : ℕ → List (List ℕ) → (ℕ → List ℕ) → Type 0
+abbrev pub Same : ℕ → List (List ℕ) → (ℕ → List ℕ) → Type 0
 Same n m f = (l : ℕ) → l < n → lineOf l m ≡ f l
 
-applied-same : (n k : ℕ) (ws : List Change) (m : List (List ℕ)) (f : ℕ → List ℕ) → length m ≡ n → Same n m f → Same n (applied k ws m) (v.applied k (conv ws) f)
+pub applied-same : (n k : ℕ) (ws : List Change) (m : List (List ℕ)) (f : ℕ → List ℕ) → length m ≡ n → Same n m f → Same n (applied k ws m) (v.applied k (conv ws) f)
 unfolding applied v.applied
 applied-same n k [] m f e g l h = g l h
 applied-same n k (w ∷ ws) m f e g l h =
@@ -63,7 +63,7 @@ applied-same n k (w ∷ ws) m f e g l h =
     (λ d. rw d (getD-set-other (applied k ws m) (w .line) l (w .change (lineOf (w .line) (applied k ws m))) [] (eqb-false l (w .line) d) ∙ ih l h))))
     (λ a. let a′ : eqb k (w .region) ≡ false = eqb-swap k (w .region) ∙ a in rw (a, a′) (ih l h))
 
-effects-same : (n : ℕ) (p q : ℕ → Bool) (ws : List Change) (m : List (List ℕ)) (f : ℕ → List ℕ) (ks : List ℕ) → length m ≡ n → Same n m f
+pub effects-same : (n : ℕ) (p q : ℕ → Bool) (ws : List Change) (m : List (List ℕ)) (f : ℕ → List ℕ) (ks : List ℕ) → length m ≡ n → Same n m f
     → ((k : ℕ) → isIn k ks ≡ true → p k ≡ q k) → Same n (effects p ws m ks) (v.effects q (conv ws) f ks)
 unfolding effects v.effects
 effects-same n p q ws m f [] e g t l h = g l h

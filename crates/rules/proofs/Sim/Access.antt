@@ -4,35 +4,38 @@ use Rattle.undo.specs.History as v
 use mathlib.Core.Option as o
 use Rattle.undo.specs.Machine.{act}
 use Rattle.undo.specs.History.{note}
-use Prim.Native.Nat.{ℕ}
+use Prim.Native.Nat.{_<_, ℕ}
 use mathlib.Core.Path.{_∙_, _≡_, ap, refl, sym}
 use mathlib.Core.Logic.{_≢_, _⊎_, inl, inr, ⊎-elim}
 use mathlib.Core.Bool.{_&&_, _||_, cond, false, not, true}
 use mathlib.Core.List.{List, _∷_}
 use lib.Dec.{eqb, ltb}
 use lib.ListN.{List·getD-eq-default, getD, length, length-set, set}
-use borrow.Author.Tests.{eq-eqb, eqb-false, eqb-true, ltb-false, ltb-true, not-false}
+use borrow.Author.Tests.{eq-eqb, eqb-false, eqb-true, leb-false, ltb-false, ltb-true, not-false}
+use native.Mathlib.Omega.{arith}
 use lib.Seq.{set-getD}
 use Rattle.rules.proofs.Places.{Once, entry-at, key-at, listed-key, listed-stored, region-stored}
 use Rattle.rules.proofs.Lists.{any-none, any-put, any-set, each-set, getD-set, place-lt, place-true}
-use Rattle.rules.proofs.Sim.State.{Finished, GoodRegion, Keeps, Kept, Rest, Sim, Simulated, Told, by}
-use Rattle.rules.proofs.Sim.Base.{orZero, writer-same}
+use Rattle.rules.proofs.Sim.State.{Finished, GoodRegion, Keeps, Kept, Rest, Shape, Sim, Simulated, Told, Watched, by, depth-of, shape-of}
+use Rattle.rules.proofs.Sim.Base.{lines-256, logs-same, no-change, orZero, rest-alter, shape-thread, sim-alter, thread-stored, threads-8, told-alike, writer-same}
+use Rattle.rules.proofs.Sim.Looks.{acted-same, marks-read, reach, watched-read}
 use Rattle.rules.proofs.Sim.Parts.{Owner, logs-kept, no-event, once-at, open-listed, owned, owner-is, owner-stored, part-stored, shape-stored, told-kept, unowned}
 use Rattle.rules.proofs.Views.{stateOf}
-use Rattle.rules.specs.Access.{dependence, isHad, joined, read}
+use Rattle.rules.specs.Access.{alsoRead, dependence, isHad, joined, noteRead, read}
 use Rattle.rules.specs.Acknowledge.{kept}
 use Rattle.rules.specs.Commit.{commits}
 use Rattle.rules.specs.History.{Account, Uses, depthIn, drawsOn, endsIn, lastWriter, linesIn, openedIn, regionIn, usesIn, writesIn}
 use Rattle.rules.specs.Lists.{place}
 use Rattle.rules.specs.Reader.{nothing}
-use Rattle.rules.specs.Refusal.{depthOf, isForeignOpen, noRoomForDep, testsOf}
+use Rattle.rules.specs.Refusal.{depthOf, isForeignOpen, isSetUp, noRoomForDep, testsOf}
 use Rattle.rules.specs.Step.{apply}
-use Rattle.rules.specs.Tables.{Board, current, isHeld, isPlaced, lineOf, listed, noRegion, ownerOf, placeOf, regionAt, startLines, threadOf, withDeps, withTables}
+use Rattle.rules.specs.Tables.{Board, current, isHeld, isPlaced, lineOf, listed, noRegion, ownerOf, placeOf, regionAt, startLines, threadAt, threadOf, withDeps, withReads, withTables, withThread}
 use Rattle.rules.specs.declared.Event.the-variants.{Read}
 use Rattle.rules.specs.declared.Region.{Region}
 use Rattle.rules.specs.declared.Tables.{Tables}
+use Rattle.rules.specs.declared.Thread.{Thread}
 use Rattle.undo.proofs.Laws.{and-true, flip, is-same, never, or-right, or-true, test}
-use Rattle.undo.specs.Claim.{Reach, then}
+use Rattle.undo.specs.Claim.{Reach}
 use Rattle.undo.specs.Table.{any, put}
 use Rattle.rules.proofs.Tests.{badAt, passed}
 use Rattle.rules.specs.Measures.{ripeCount}
@@ -96,7 +99,7 @@ read-none k l ts e = rw (e, set-getD (ts .regions) (placeOf k (ts .regions)) noR
 
 -- region k may read the line, and may write it if it is not locked
 pub data Joined (m : ℕ → List ℕ) (b : Board) (es : List Account) (k l : ℕ) : Type 0 where
-  joins : (s : u.State (List ℕ)) (h : v.History (List ℕ)) → Reach m s h → Sim b es s h → u.Open s k
+  joins : (s : u.State (List ℕ)) (h : v.History (List ℕ)) → Watched m b es s h → Sim b es s h → u.Open s k
       → (u.owns k (s .chain l) || u.follows (s .dep) k (s .chain l)) ≡ true → Joined m b es k l
 
 module _ {m : ℕ → List ℕ} {b : Board} {es : List Account} {s : u.State (List ℕ)} {h : v.History (List ℕ)} (t l : ℕ) (rc : Reach m s h) (i : Sim b es s h)
@@ -188,33 +191,38 @@ module _ {m : ℕ → List ℕ} {b : Board} {es : List Account} {s : u.State (Li
           (λ z. rw (z, joined-any o (r .deps) nz room d z) (test (eqb d o) (λ y. rw y) (λ y. rw y (i .dep k d ∙ rw z))))))
           (λ x. rw x (i .dep a d)))
 
+module _ {m : ℕ → List ℕ} {b : Board} {es : List Account} {s : u.State (List ℕ)} {h : v.History (List ℕ)} (t l : ℕ) (w : Watched m b es s h) (i : Sim b es s h)
+    (deep : depthOf t (b .tables) ≢ 0) where
+  open′ : u.Open s (current t (b .tables))
+  open′ = current-open t l (reach w) i deep
+
   -- an access of line l that is not refused with 17 or 19
   pub join : isForeignOpen t (ownerOf l (b .tables)) (b .tables) ≡ false
       → noRoomForDep (dependence (current t (b .tables)) l (b .tables)) (regionAt (current t (b .tables)) (b .tables .regions) .deps) ≡ false
       → Joined m (withTables (read (current t (b .tables)) l (b .tables)) b) es (current t (b .tables)) l
-  unfolding act
-  join fo room = go (owner-is rc i l)
+  unfolding act read
+  join fo room = go (owner-is (reach w) i l)
     where
       k : ℕ
       k = current t (b .tables)
 
       nothing : dependence k l (b .tables) ≡ 0 → (u.owns k (s .chain l) || u.follows (s .dep) k (s .chain l)) ≡ true
           → Joined m (withTables (read k l (b .tables)) b) es k l
-      nothing e f = rw (read-none k l (b .tables) e) (joins s h rc i current-open f)
+      nothing e f = rw (read-none k l (b .tables) e) (joins s h w i open′ f)
 
       go : Owner b s l → Joined m (withTables (read k l (b .tables)) b) es k l
       go (unowned q o) = nothing (rw o (test (eqb 0 k) (λ d. rw d) (λ d. rw d))) (rw q)
       go (owned e c q o bo dn li) =
           test (eqb (e .rid) k)
           (λ d. nothing (rw (o, d)) (rw (q, eqb-true (e .rid) k d, is-same k)))
-          (λ d. let ov : s .over (e .rid) ≡ true = owner-ended (e .rid) bo li (rw o at fo) d in
+          (λ d. let ov : s .over (e .rid) ≡ true = owner-ended t l (reach w) i deep (e .rid) bo li (rw o at fo) d in
           let de : dependence k l (b .tables) ≡ e .rid = rw (o, d) in
-          joins (act s (u.Depend k (e .rid))) (note h (u.Depend k (e .rid))) (then rc (u.Depend k (e .rid)) (u.depends current-open ov dn))
-          (join-other (e .rid) ov dn (listed-key (e .rid) (b .tables .regions) li) de (rw de at room))
+          joins (act s (u.Depend k (e .rid))) (note h (u.Depend k (e .rid))) (acted-same w (λ x. refl) (u.Depend k (e .rid)) (u.depends open′ ov dn) refl)
+          (join-other t l (reach w) i deep (e .rid) ov dn (listed-key (e .rid) (b .tables .regions) li) de (rw de at room))
           (still-open e) (follows-it e c q d))
         where
           still-open : (e : u.Entry (List ℕ)) → u.Open (act s (u.Depend k (e .rid))) k
-          still-open e = record { began = current-open .began; goes-on = current-open .goes-on }
+          still-open e = record { began = open′ .began; goes-on = open′ .goes-on }
 
           follows-it : (e : u.Entry (List ℕ)) (c : List (u.Entry (List ℕ))) → s .chain l ≡ e ∷ c → eqb (e .rid) k ≡ false
               → (u.owns k (act s (u.Depend k (e .rid)) .chain l) || u.follows (act s (u.Depend k (e .rid)) .dep) k (act s (u.Depend k (e .rid)) .chain l)) ≡ true
@@ -246,22 +254,22 @@ module _ {b : Board} {es : List Account} {s : u.State (List ℕ)} {h : v.History
 
 -- ---- a read
 
-told-read : {b : Board} {es : List Account} {s : u.State (List ℕ)} {h : v.History (List ℕ)} (t l w : ℕ) → Told b es s h
+told-read : {b : Board} {es : List Account} {s : u.State (List ℕ)} {h : v.History (List ℕ)} (t l : ℕ) → Told b es s h
     → Told b (Uses t l ∷ es) (act s (u.Read (regionIn t es) l)) (note h (u.Read (regionIn t es) l))
 unfolding act note depthIn openedIn linesIn endsIn writesIn usesIn
-told-read {es = es} t l w i =
+told-read {es = es} t l i =
     told-kept (λ t. refl) (λ t. refl) refl (record { depth = λ t. refl; opened = λ t. refl; lines = refl; ends = refl }) refl refl refl
     (i .writes) (λ x q d n. uses-access (regionIn t es) l i x q n d) (i .owner) i
 
-read-sim : {b : Board} {es : List Account} {s : u.State (List ℕ)} {h : v.History (List ℕ)} (t l w : ℕ) → Sim b es s h
+read-sim : {b : Board} {es : List Account} {s : u.State (List ℕ)} {h : v.History (List ℕ)} (t l : ℕ) → Sim b es s h
     → Sim b (Uses t l ∷ es) (act s (u.Read (regionIn t es) l)) (note h (u.Read (regionIn t es) l))
 unfolding act
-read-sim t l w i =
+read-sim t l i =
     record {
       shape = i .shape;
       memories = i .memories;
       logs = i .logs;
-      told = told-read t l w (i .told);
+      told = told-read t l (i .told);
       cur = i .cur;
       med = i .med;
       lock = i .lock;
@@ -303,8 +311,27 @@ rest-read {b} k l i o in′ r =
     r′ : Region
     r′ = withDeps (joined (dependence k l (b .tables)) (regionAt k (b .tables .regions) .deps)) (regionAt k (b .tables .regions))
 
+-- the line is marked: nothing else changes
+marked-sim : {b : Board} {es : List Account} {s : u.State (List ℕ)} {h : v.History (List ℕ)} (t l : ℕ) → t < length (b .tables .threads) → t < b .tables .size .threads
+    → Sim b es s h → Sim (withTables (noteRead t l (b .tables)) b) es s h
+unfolding noteRead
+marked-sim {b} {es} t l g lt i =
+    sim-alter {b = b} (b .tables .size) (b .tables .cut) (b .tables .clock) (set (b .tables .threads) t th)
+    (shape-thread t th (b .tables) lt (i .shape .threads .logs t) (i .shape))
+    (logs-same {b = b} (λ x. rw (at x) (test (eqb x t) (λ d. rw (d, eqb-true x t d)) (λ d. rw d))) refl refl (i .logs))
+    (told-alike {b = b} (no-change es)
+    (λ x. rw (at x) (test (eqb x t) (λ d. rw (d, eqb-true x t d) (i .told .depth t)) (λ d. rw d (i .told .depth x))))
+    (λ x. rw (at x) (test (eqb x t) (λ d. rw (d, eqb-true x t d)) (λ d. rw d)))
+    (i .told .lines) refl (i .told)) i
+  where
+    th : Thread
+    th = withReads (alsoRead l (threadAt t (b .tables) .reads)) (threadAt t (b .tables))
+
+    at : (x : ℕ) → threadAt x (withThread t th (b .tables)) ≡ cond (eqb x t) th (threadAt x (b .tables))
+    at = thread-stored t th (b .tables) g
+
 pub read-keeps : (t l w : ℕ) → Keeps (Read t l w)
-unfolding apply testsOf
+unfolding apply testsOf read noteRead
 read-keeps t l w m b es ref kept = go (kept .simulated)
   where
     p : (n : ℕ) → badAt n (testsOf (b .tables) (Read t l w)) ≡ false
@@ -313,18 +340,31 @@ read-keeps t l w m b es ref kept = go (kept .simulated)
     deep : depthOf t (b .tables) ≢ 0
     deep = eqb-false (depthOf t (b .tables)) 0 (p 12)
 
-    after : (s : u.State (List ℕ)) (h : v.History (List ℕ)) → Sim b es s h
-        → Joined (λ x. lineOf x (startLines m)) (withTables (read (current t (b .tables)) l (b .tables)) b) es (current t (b .tables)) l
-        → Simulated m (withTables (read (current t (b .tables)) l (b .tables)) b) (Uses t l ∷ es)
-    after s h i (joins s′ h′ rc′ i′ op f) =
-        let q : current t (b .tables) ≡ regionIn t es = rw (i .told .last t) in
-        by (act s′ (u.Read (regionIn t es) l)) (note h′ (u.Read (regionIn t es) l))
-        (then rc′ (u.Read (regionIn t es) l) (u.reads {r = regionIn t es} {l = l} (rw q at f))) (read-sim t l w i′)
+    shape : Shape (b .tables)
+    shape = shape-of (kept .simulated)
 
-    go : Simulated m b es → Kept m (withTables (read (current t (b .tables)) l (b .tables)) b) (Uses t l ∷ es)
-    go (by s h rc i) =
-        let o : u.Open s (current t (b .tables)) = current-open t l rc i deep in
+    lt : t < length (b .tables .threads)
+    lt = omega (arith, leb-false (b .tables .size .threads) t (p 3), threads-8 (b .tables) shape, shape .threads .count)
+
+    inside : l < 256
+    inside = omega (arith, leb-false (b .tables .size .lines) l (p 4), lines-256 (b .tables) (not-false (isSetUp (b .tables)) (p 6)))
+
+    -- the tables after the join and after the mark
+    joined′ : Tables
+    joined′ = read (current t (b .tables)) l (b .tables)
+
+    after : current t (b .tables) ≡ regionIn t es → Joined (λ x. lineOf x (startLines m)) (withTables joined′ b) es (current t (b .tables)) l
+        → Simulated m (withTables (noteRead t l joined′) b) (Uses t l ∷ es)
+    after q (joins s h watched i op f) =
+        by (act s (u.Read (regionIn t es) l)) (note h (u.Read (regionIn t es) l))
+        (watched-read t l watched i (rw q at op) (u.reads {r = regionIn t es} {l = l} (rw q at f)) (marks-read t l inside lt (λ e. deep (depth-of (kept .simulated) t ∙ e)) (i .told .numbers) (watched .marks)))
+        (read-sim t l (marked-sim t l lt (leb-false (b .tables .size .threads) t (p 3)) i))
+
+    go : Simulated m b es → Kept m (withTables (noteRead t l joined′) b) (Uses t l ∷ es)
+    go (by s h watched i) =
+        let o : u.Open s (current t (b .tables)) = current-open t l (reach watched) i deep in
         record {
-          simulated = after s h i (join t l rc i deep (p 17) (p 19));
-          rest = rest-read (current t (b .tables)) l i o (open-listed rc i (current t (b .tables)) o) (kept .rest);
+          simulated = after (current-is t l (reach watched) i deep) (join t l watched i deep (p 17) (p 19));
+          rest = rest-alter {b = withTables joined′ b} (b .tables .size) (b .tables .cut) (b .tables .clock) (noteRead t l joined′ .threads)
+              (rest-read (current t (b .tables)) l i o (open-listed (reach watched) i (current t (b .tables)) o) (kept .rest));
         }

@@ -1,7 +1,6 @@
 -- A log acknowledgement as actions of the undo log: `LogAck` of the line's owner, then its flights.
 use Rattle.undo.specs.Machine as u
 use Rattle.undo.specs.History as v
-use Rattle.undo.specs.Claim as c
 use Rattle.undo.specs.Machine.{act}
 use Rattle.undo.specs.History.{note}
 use Prim.Native.Nat.{_<_, ℕ}
@@ -14,16 +13,17 @@ use native.Mathlib.Omega.{arith}
 use borrow.Author.Tests.{eq-eqb, eqb-false, eqb-true, leb-false, ltb-false, ltb-true, ne-eqb, not-false}
 use Rattle.rules.proofs.Places.{Good, good-free, key-at, listed-key, listed-mapped, region-mapped, region-none, regions-mapped}
 use Rattle.rules.proofs.Lists.{any-map, count-map, getD-map, getD-set}
-use Rattle.rules.proofs.Sim.State.{GoodEntry, GoodRegion, Kept, Logs, Rest, Shape, Sim, Simulated, Told, by}
+use Rattle.rules.proofs.Sim.State.{GoodEntry, GoodRegion, Kept, Logs, Rest, Shape, Sim, Simulated, Told, Watched, by, other}
 use Rattle.rules.proofs.Sim.Base.{clear-waits, lines-256, memories-same, shape-kept, thread-stored, threads-8, threads-stored}
 use Rattle.rules.proofs.Sim.Flight.{flights, flown-rest}
+use Rattle.rules.proofs.Sim.Looks.{acted, marks-same, reach}
 use Rattle.rules.proofs.Sim.Parts.{Flown, Owner, owned, owner-is, told-kept, unowned}
 use Rattle.rules.proofs.Sim.Write.{top-owner}
 use Rattle.rules.proofs.SlotLaws.{distinct-dropped, dropped-none, state-dropped, state-dropped-other}
 use Rattle.rules.proofs.Views.{carryOf, entryAt, newest, stateOf}
 use Rattle.rules.specs.Access.{isOf}
 use Rattle.rules.specs.Acknowledge.{dropped, droppedSlot, isEntry, kept, keptEntry, logAck, unlocked}
-use Rattle.rules.specs.History.{Account, Nothing, depthIn, endsIn, linesIn, openedIn, usesIn, writesIn}
+use Rattle.rules.specs.History.{Account, Nothing, depthIn, endsIn, hasReadIn, linesIn, openedIn, usesIn, writesIn}
 use Rattle.rules.specs.Lists.{count}
 use Rattle.rules.specs.Refusal.{isSetUp, refusal, testsOf}
 use Rattle.rules.specs.Slots.{isFlight}
@@ -36,8 +36,6 @@ use Rattle.rules.specs.declared.SlotState.the-variants.{Empty, InFlight,
 use Rattle.rules.specs.declared.Tables.{Tables}
 use Rattle.undo.proofs.Laws.{and-true, flip, is-same, never, test}
 use Rattle.undo.proofs.Main.{structured}
-use Rattle.undo.proofs.Steps.{reached}
-use Rattle.undo.specs.Claim.{Reach, then}
 use Rattle.undo.specs.Table.{any, put}
 use Rattle.rules.proofs.Tests.{badAt, passed}
 use Rattle.rules.specs.Measures.{ripeCount}
@@ -282,6 +280,10 @@ module _ {b : Board} {es : List Account} {s : u.State (List ℕ)} {h : v.History
       (λ x. rw (unlocked-thread (e .rid) l rid-nz (i .shape) rid-thread x) (test (eqb x (threadOf (e .rid))) (λ d. rw (d, eqb-true x (threadOf (e .rid)) d)) (λ d. rw d)))
       refl (record { depth = λ t. refl; opened = λ t. refl; lines = refl; ends = refl }) refl refl refl (i .told .writes) (i .told .uses) (i .told .owner) (i .told)
 
+  ack-reads : (x : ℕ) → threadAt x (unlocked (e .rid) l (b .tables)) .reads ≡ threadAt x (b .tables) .reads
+  unfolding unlocked kept
+  ack-reads x = rw (unlocked-thread (e .rid) l rid-nz (i .shape) rid-thread x) (test (eqb x (threadOf (e .rid))) (λ d. rw (d, eqb-true x (threadOf (e .rid)) d)) (λ d. rw d))
+
   ack-sim : Sim (withTables (unlocked (e .rid) l (b .tables)) b) (Nothing ∷ es) (act s (u.LogAck (e .rid) l)) h
   unfolding act unlocked ownerOf
   ack-sim =
@@ -334,14 +336,9 @@ module _ {b : Board} {es : List Account} {s : u.State (List ℕ)} {h : v.History
 
 -- ---- an accepted log acknowledgement, before what becomes done or commits
 
-acked : {m : ℕ → List ℕ} {s : u.State (List ℕ)} {h : v.History (List ℕ)} → Reach m s h → (k l : ℕ) → u.owns k (s .chain l) ≡ true → s .lock l ≡ true
-    → Reach m (act s (u.LogAck k l)) h
-unfolding note
-acked rc k l own lo = then rc (u.LogAck k l) (u.log-acks own lo)
-
 pub log-ack : (l : ℕ) (m : Memory) (b : Board) (es : List Account) → refusal (b .tables) (LogAck l) ≡ 0 → Kept m b es
     → Simulated m (logAck l b) (Nothing ∷ es) × Flown (logAck l b)
-unfolding testsOf logAck
+unfolding testsOf logAck note depthIn openedIn hasReadIn
 log-ack l m b es ref kept = go (kept .simulated)
   where
     p : (n : ℕ) → badAt n (testsOf (b .tables) (LogAck l)) ≡ false
@@ -354,18 +351,21 @@ log-ack l m b es ref kept = go (kept .simulated)
     inside = omega (arith, leb-false (b .tables .size .lines) l (p 4), lines-256 (b .tables) (not-false (isSetUp (b .tables)) (p 6)))
 
     go : Simulated m b es → Simulated m (logAck l b) (Nothing ∷ es) × Flown (logAck l b)
-    go (by s h rc i) = pass (owner-is rc i l)
+    go (by s h w i) = pass (owner-is (reach w) i l)
       where
         pass : Owner b s l → Simulated m (logAck l b) (Nothing ∷ es) × Flown (logAck l b)
-        pass (unowned q o) = absurd (structured (λ x. lineOf x (startLines m)) s h rc .lock-logged l (i .lock l ∙ loc) q)
+        pass (unowned q o) = absurd (structured (λ x. lineOf x (startLines m)) s h (reach w) .lock-logged l (i .lock l ∙ loc) q)
         pass (owned e ch q o bo dn in′) =
             let k : getD (b .tables .owner) l 0 ≡ e .rid = top-owner (e .rid) l i (listed-key (e .rid) (b .tables .regions) in′) (rw q) in
             rw k (
               flights (e .rid) (unlocked-listed l e ch i q in′ loc inside)
-                  (by (act s (u.LogAck (e .rid) l)) h (reached e (rw (q, is-same (e .rid)))) (ack-sim l e ch i q in′ loc inside)),
+                  (by (act s (u.LogAck (e .rid) l)) h (watched e ch q in′) (ack-sim l e ch i q in′ loc inside)),
               flown-rest (e .rid) (withTables (unlocked (e .rid) l (b .tables)) b) (unlocked-listed l e ch i q in′ loc inside)
                   (ack-rest l e ch i q in′ loc inside (kept .rest)),
             )
           where
-            reached : (e : u.Entry (List ℕ)) → u.owns (e .rid) (s .chain l) ≡ true → Reach (λ x. lineOf x (startLines m)) (act s (u.LogAck (e .rid) l)) h
-            reached e own = acked rc (e .rid) l own (i .lock l ∙ loc)
+            watched : (e : u.Entry (List ℕ)) (ch : List (u.Entry (List ℕ))) → s .chain l ≡ e ∷ ch → listed (e .rid) (b .tables .regions) ≡ true
+                → Watched (λ x. lineOf x (startLines m)) (withTables (unlocked (e .rid) l (b .tables)) b) (Nothing ∷ es) (act s (u.LogAck (e .rid) l)) h
+            watched e ch q in′ =
+                acted w (λ ks x. other refl x) (marks-same (ack-reads l e ch i q in′ loc inside) (λ t x. refl)) (u.LogAck (e .rid) l)
+                (u.log-acks (rw (q, is-same (e .rid))) (i .lock l ∙ loc)) refl

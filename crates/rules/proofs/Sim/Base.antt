@@ -15,15 +15,16 @@ use native.Mathlib.Omega.{arith}
 use borrow.Author.Tests.{leb-true, ne-eqb}
 use Rattle.rules.proofs.Places.{eqb-swap}
 use Rattle.rules.proofs.Lists.{getD-set}
-use Rattle.rules.proofs.Sim.State.{GoodEntry, GoodRegions, GoodThreads, Logs, Memories, Rest, Shape, Sim, Told, conv}
+use Rattle.rules.proofs.Sim.State.{GoodEntry, GoodRegions, GoodThreads, Logs, Looks, Memories, Rest, Shape, Sim, Told, conv}
 use Rattle.rules.proofs.Views.{entryAt}
-use Rattle.rules.specs.History.{Account, Change, depthIn, endsIn, lastWriter, linesIn, openedIn, usesIn, writesIn}
+use Rattle.rules.specs.History.{Account, Change, depthIn, endsIn, lastWriter, linesIn, openedIn, readIn, usesIn, writesIn}
 use Rattle.rules.specs.Refusal.{isSetUp}
 use Rattle.rules.specs.Tables.{Board, keyOf, noThread, numberOf, ownerOf, threadAt, threadOf, withClock, withCut, withSize, withTables, withThread, withThreads}
 use Rattle.rules.specs.declared.Entry.{Entry}
 use Rattle.rules.specs.declared.Size.{Size}
 use Rattle.rules.specs.declared.Tables.{Tables}
 use Rattle.rules.specs.declared.Thread.{Thread}
+use Rattle.serial.specs.Looks.{Look}
 use Rattle.undo.proofs.Inv.{owner}
 use Rattle.undo.proofs.Laws.{and-true, is-same, test}
 use Rattle.undo.proofs.Steps.{reached}
@@ -132,6 +133,13 @@ pub record Alike (es es′ : List Account) : Type 0 where
   pub ends : endsIn es′ ≡ endsIn es
   pub writes : writesIn es′ ≡ writesIn es
   pub uses : usesIn es′ ≡ usesIn es
+  pub reads : (t l : ℕ) → readIn t l es′ ≡ readIn t l es
+  pub looks : (ks : List (Look (List ℕ))) → Looks es ks → Looks es′ ks
+
+-- no event
+pub no-change : (es : List Account) → Alike es es
+no-change es =
+    record { opened = λ t. refl; inside = λ t n. n; outside = λ t n. n; ends = refl; writes = refl; uses = refl; reads = λ t l. refl; looks = λ ks x. x }
 
 pub told-alike : {b b′ : Board} {es es′ : List Account} {s : u.State (List ℕ)} {h : v.History (List ℕ)} → Alike es es′
     → ((t : ℕ) → threadAt t (b′ .tables) .depth ≡ depthIn t es′) → ((t : ℕ) → threadAt t (b′ .tables) .last ≡ threadAt t (b .tables) .last)

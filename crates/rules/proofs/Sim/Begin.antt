@@ -13,13 +13,13 @@ use borrow.Author.Tests.{eqb-false, eqb-true, le-leb, leb-false, leb-true, lt-le
 use Rattle.rules.proofs.Recover.Rising.{no-more}
 use Rattle.rules.proofs.Lists.{count-room, each-set, getD-set}
 use Rattle.rules.proofs.Places.{eqb-swap, good-free, listed-key, listed-new, once-one, region-new, region-none, regions-new, room-left, unlisted-any}
-use Rattle.rules.proofs.Sim.State.{Distinct, Finished, GoodRegion, Keeps, Kept, Rest, Shape, Sim, Simulated, Told, by, more, none}
+use Rattle.rules.proofs.Sim.State.{Distinct, Finished, GoodRegion, Keeps, Kept, Rest, Shape, Sim, Simulated, Told, Watched, by, more, none, other}
 use Rattle.rules.proofs.Sim.Base.{key-number, key-split, key-thread, logs-over, logs-same, memories-same, owner-born, shape-kept, threads-8, threads-stored}
 use Rattle.rules.proofs.Views.{isOpened, stateOf}
 use Rattle.rules.specs.Begin.{begin, begun, opened}
 use Rattle.rules.specs.Commit.{commits}
 use Rattle.rules.specs.Flight.{flown}
-use Rattle.rules.specs.History.{Account, Opens, depthIn, drawsOn, endsIn, linesIn, openedIn, regionIn, usesIn, writesIn}
+use Rattle.rules.specs.History.{Account, Opens, depthIn, drawsOn, endsIn, hasReadIn, linesIn, openedIn, regionIn, usesIn, writesIn}
 use Rattle.rules.specs.Lists.{count}
 use Rattle.rules.specs.Refusal.{depthOf, refusal, testsOf}
 use Rattle.rules.specs.Step.{apply}
@@ -31,7 +31,8 @@ use Rattle.rules.specs.declared.Tables.{Tables}
 use Rattle.rules.specs.declared.Thread.{Thread}
 use Rattle.undo.proofs.Laws.{and-true, is-same, never, or-right, or-true, test}
 use Rattle.undo.proofs.Main.{structured}
-use Rattle.undo.specs.Claim.{Reach, Structure, then}
+use Rattle.rules.proofs.Sim.Looks.{acted, acted-same, marks-same, reach, unread-yet}
+use Rattle.undo.specs.Claim.{Reach, Structure}
 use Rattle.undo.specs.Machine.{ends}
 use Rattle.undo.specs.Recovery.{older}
 use Rattle.undo.specs.Table.{any, put}
@@ -262,17 +263,30 @@ module _ {m : ℕ → List ℕ} {b : Board} {es : List Account} {s : u.State (Li
         (λ d. absurd (i .told .open-last (current t (b .tables)) (record { began = z; goes-on = d }) .1 (rw (p-thread, d0))))
 
     abbrev Opened : Type 0
-    Opened = (s′ : u.State (List ℕ)) × (h′ : v.History (List ℕ)) × (Reach m s′ h′ × Sim (withTables (opened t (b .tables)) b) (Opens t ∷ es) s′ h′)
+    Opened =
+        (s′ : u.State (List ℕ)) × (h′ : v.History (List ℕ))
+        × (Watched m (withTables (opened t (b .tables)) b) (Opens t ∷ es) s′ h′ × Sim (withTables (opened t (b .tables)) b) (Opens t ∷ es) s′ h′)
 
-    opens-after : listed (current t (b .tables)) (b .tables .regions) ≡ true → Opened
+    -- the new region begins, and the thread's marks stay, which are none
+    watched-begun : Watched m b es s h → Watched m (withTables (opened t (b .tables)) b) (Opens t ∷ es) (u.act s (u.Begin (newKey t (b .tables)))) h
+    unfolding v.note hasReadIn
+    watched-begun w =
+        acted w (λ ks x. other refl x)
+        (marks-same (λ j. rw (thread-begun j) (test (eqb j t) (λ d. rw (d, eqb-true j t d)) (λ d. rw d)))
+        (λ j l. rw (depth-begun j, number-begun j) (test (eqb j t)
+        (λ d. rw (d, eqb-true j t d, d0) (unread-yet es (i .told .numbers) t (openedIn t es + 1) l (omega arith) (omega arith)))
+        (λ d. rw d))))
+        (u.Begin (newKey t (b .tables))) u.begins refl
+
+    opens-after : Watched m b es s h → listed (current t (b .tables)) (b .tables .regions) ≡ true → Opened
     unfolding u.act v.note
-    opens-after y =
+    opens-after w y =
         let z = and-true (s .born (current t (b .tables))) (not (s .done (current t (b .tables)))) (sym (i .live (current t (b .tables))) ∙ y) in (
           _,
           _,
           (
-            then (then rc (u.Begin (newKey t (b .tables))) u.begins) (u.Depend (newKey t (b .tables)) (current t (b .tables)))
-                (u.depends {r = newKey t (b .tables)} (record { began = rw (is-same (newKey t (b .tables))); goes-on = unover }) (p-over (z .0)) (not-true (s .done (current t (b .tables))) (z .1))),
+            acted-same (watched-begun w) (λ j. refl) (u.Depend (newKey t (b .tables)) (current t (b .tables)))
+                (u.depends {r = newKey t (b .tables)} (record { began = rw (is-same (newKey t (b .tables))); goes-on = unover }) (p-over (z .0)) (not-true (s .done (current t (b .tables))) (z .1))) refl,
             sim-begun (put (newKey t (b .tables)) (put (current t (b .tables)) true (s .dep (newKey t (b .tables)))) (s .dep))
                 (record { from = newKey t (b .tables); on = current t (b .tables) } ∷ h .uses)
                 (λ a q. test (eqb a (newKey t (b .tables)))
@@ -287,13 +301,13 @@ module _ {m : ℕ → List ℕ} {b : Board} {es : List Account} {s : u.State (Li
           ),
         )
 
-    opens-alone : listed (current t (b .tables)) (b .tables .regions) ≡ false → Opened
+    opens-alone : Watched m b es s h → listed (current t (b .tables)) (b .tables .regions) ≡ false → Opened
     unfolding u.act v.note
-    opens-alone y = (
+    opens-alone w y = (
       _,
       _,
       (
-        then rc (u.Begin (newKey t (b .tables))) u.begins,
+        watched-begun w,
         sim-begun (s .dep) (h .uses)
             (λ a q. test (eqb a (newKey t (b .tables)))
             (λ d. rw (d, y, eqb-true a (newKey t (b .tables)) d, no-dep q) (test (eqb q 0) (λ w. rw w) (λ w. rw w)))
@@ -337,13 +351,14 @@ keeps-begin t m b es r k =
     lt = leb-false (b .tables .size .threads) t (passed (b .tables) (Begin t) r 3)
 
     opens : eqb (depthOf t (b .tables)) 0 ≡ true → Simulated m b es → Rest b → Kept m (withTables (opened t (b .tables)) b) (Opens t ∷ es)
-    opens d (by s h rc i) rt =
+    opens d (by s h w i) rt =
+        let rc = reach w in
         let d0 : depthIn t es ≡ 0 = sym (i .told .depth t) ∙ eqb-true (depthOf t (b .tables)) 0 d in
         let few : openedIn t es < 65535 = rw (i .told .last t) at (leb-false 65535 (threadAt t (b .tables) .last) (rw d at (passed (b .tables) (Begin t) r 14))) in
         let room = new-room (b .tables) t r d in
         record {
           simulated = test (listed (current t (b .tables)) (b .tables .regions))
-              (λ y. let z = opens-after rc i t lt d0 few room y in by (z .0) (z .1) (z .2 .0) (z .2 .1))
-              (λ y. let z = opens-alone rc i t lt d0 few room y in by (z .0) (z .1) (z .2 .0) (z .2 .1));
+              (λ y. let z = opens-after rc i t lt d0 few room w y in by (z .0) (z .1) (z .2 .0) (z .2 .1))
+              (λ y. let z = opens-alone rc i t lt d0 few room w y in by (z .0) (z .1) (z .2 .0) (z .2 .1));
           rest = rest-begun rc i t lt d0 few room rt;
         }

@@ -16,6 +16,7 @@ use Rattle.rules.proofs.Places.{Unique, at-commit, channels-commit, goo
 use Rattle.rules.proofs.Lists.{any-map, any-none, count-le, count-map, count-zero, getD-map}
 use Rattle.rules.proofs.Sim.State.{Finished, GoodEntry, Kept, Logs, Shape, Sim, Simulated, Told, by}
 use Rattle.rules.proofs.Sim.Base.{clear-waits, memories-same, shape-kept, thread-stored, threads-8, threads-stored}
+use Rattle.rules.proofs.Sim.Looks.{acted-same, reach, stayed-same}
 use Rattle.rules.proofs.Sim.Parts.{Flown}
 use Rattle.rules.proofs.Sim.Begin.{state-free}
 use Rattle.rules.proofs.SlotLaws.{no-slots}
@@ -33,7 +34,7 @@ use Rattle.rules.specs.declared.SlotState.the-variants.{Empty, Waiting}
 use Rattle.undo.proofs.Laws.{and-true, flip, never, or-false, test}
 use Rattle.undo.proofs.Shape.{rest}
 use Rattle.undo.proofs.Steps.{reached}
-use Rattle.undo.specs.Claim.{Reach, then}
+use Rattle.undo.specs.Claim.{Reach}
 use Rattle.undo.specs.Table.{any}
 use Rattle.rules.proofs.Sim.Done.{afterDone, any-without, earliest-none, finished-done, flown-done, freed-entry, freed-none, freed-of, good-after, logged-freed, map-same, newest-freed, no-deps, olds-freed, once-after, owns-freed, ready, sim-done}
 
@@ -77,15 +78,18 @@ module _ {m : ℕ → List ℕ} {b : Board} {es : List Account} {s : u.State (Li
       let x = and-true (not (eqb (numberOf k) 0)) (leb (numberOf k) (openedIn (threadOf k) es)) (sym (i .told .born k) ∙ k-born) in
       absurd (omega (arith, z, leb-true (numberOf k) (openedIn (threadOf k) es) (x .1), eqb-false (numberOf k) 0 (not-true (eqb (numberOf k) 0) (x .0)))))
 
-  reach-commit : Reach m (u.act s (u.Commit k)) h
-  unfolding v.note
-  reach-commit = then rc (u.Commit k) (u.commits {r = k} k-over k-clear k-alone)
+  commit-allowed : u.Allowed s (u.Commit k)
+  commit-allowed = u.commits {r = k} k-over k-clear k-alone
 
   thread-commit : (j : ℕ) → threadAt j (commit k (b .tables)) ≡ cond (eqb j (threadOf k)) (freed k (threadAt (threadOf k) (b .tables))) (threadAt j (b .tables))
   unfolding commit
   thread-commit =
       thread-stored (threadOf k) (freed k (threadAt (threadOf k) (b .tables))) (withRegions (map (afterCommit k) (b .tables .regions)) (b .tables))
       (omega (arith, k-thread, threads-8 (b .tables) (i .shape), i .shape .threads .count))
+
+  reads-commit : (t : ℕ) → threadAt t (commit k (b .tables)) .reads ≡ threadAt t (b .tables) .reads
+  unfolding freed
+  reads-commit t = rw (thread-commit t) (test (eqb t (threadOf k)) (λ d. rw (d, eqb-true t (threadOf k) d)) (λ d. rw d))
 
   -- an entry of another thread is not of region k
   entry-other : (t j : ℕ) → eqb t (threadOf k) ≡ false → freedEntry k (entryAt t j (b .tables)) ≡ entryAt t j (b .tables)
@@ -255,10 +259,15 @@ finished-commit k rs nz f j =
 
 commits-one : {m : Memory} {b : Board} {es : List Account} (k : ℕ) → listed k (b .tables .regions) ≡ true → commits (regionAt k (b .tables .regions)) ≡ true
     → Simulated m b es → Flown b → Simulated m (withTables (commit k (b .tables)) b) es × Flown (withTables (commit k (b .tables)) b)
-commits-one k in′ cm (by s h rc i) f = (by (u.act s (u.Commit k)) h (reach-commit rc i k in′ cm) (sim-commit rc i k in′ cm), flown-commit rc i k in′ cm f)
+unfolding v.note
+commits-one k in′ cm (by s h w i) f =
+    let rc = reach w in (
+      by (u.act s (u.Commit k)) h (acted-same w (reads-commit rc i k in′ cm) (u.Commit k) (commit-allowed rc i k in′ cm) refl) (sim-commit rc i k in′ cm),
+      flown-commit rc i k in′ cm f,
+    )
 
 pub unique-regions : {m : Memory} {b : Board} {es : List Account} → Simulated m b es → Unique (b .tables .regions)
-unique-regions (by s h rc i) = i .shape .regions .unique
+unique-regions (by s h w i) = i .shape .regions .unique
 
 -- no region of the list commits
 none-commits : (rs : List Region) → any commits rs ≡ false → (j : ℕ) → commits (getD rs j noRegion) ≡ false
@@ -316,7 +325,7 @@ settle-kept {m} {es} (suc n) b le k f g = go (commits (earliest (b .tables .regi
 -- what the done pass and the commits make of a board
 pub settles : {m : Memory} {b : Board} {es : List Account} → Simulated m b es → Flown b → Kept m (settledBoard b .board) es
 unfolding settledBoard settled
-settles {b} (by s h rc i) f =
+settles {b} (by s h w i) f =
     settle-kept (length (b .tables .regions)) (afterDone b)
     (omega (arith, count-le isHeld (map doneRegion (b .tables .regions)), length-map (b .tables .regions) doneRegion))
-    (by s h rc (sim-done i)) (flown-done i f) (finished-done (b .tables .regions))
+    (by s h (stayed-same w (λ t. refl)) (sim-done i)) (flown-done i f) (finished-done (b .tables .regions))

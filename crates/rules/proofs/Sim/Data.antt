@@ -12,14 +12,15 @@ use native.Mathlib.Omega.{arith}
 use borrow.Author.Tests.{eqb-false, eqb-true, leb-false, not-false}
 use Rattle.rules.proofs.Places.{Good, Unique, entry-at, key-at, listed-at, listed-key, listed-stored, region-stored}
 use Rattle.rules.proofs.Lists.{getD-set, place-lt, place-true}
-use Rattle.rules.proofs.Sim.State.{GoodRegion, Keeps, Kept, Memories, Sim, Simulated, by}
+use Rattle.rules.proofs.Sim.State.{GoodRegion, Keeps, Kept, Memories, Sim, Simulated, by, other}
 use Rattle.rules.proofs.Sim.Base.{clear-waits, lines-256}
 use Rattle.rules.proofs.Sim.Commit.{settles}
+use Rattle.rules.proofs.Sim.Looks.{acted, marks-same, reach}
 use Rattle.rules.proofs.Sim.Parts.{Flown, Quiet, logs-kept, once-at, owner-stored, part-stored, rebuilt, shape-stored, told-kept}
 use Rattle.rules.proofs.SlotLaws.{distinct-dropped, dropped-none, flight-carried, flight-state, landed-dropped, state-dropped, state-dropped-other}
 use Rattle.rules.proofs.Views.{carryOf, newest, slotView, stateOf}
 use Rattle.rules.specs.Acknowledge.{dataAck, droppedSlot, flightPlace, kept, landed}
-use Rattle.rules.specs.History.{Account, Nothing, depthIn, endsIn, linesIn, openedIn, usesIn, writesIn}
+use Rattle.rules.specs.History.{Account, Nothing, depthIn, endsIn, hasReadIn, linesIn, openedIn, usesIn, writesIn}
 use Rattle.rules.specs.Refusal.{inFlight, isSetUp, refusal, testsOf}
 use Rattle.rules.specs.Slots.{carries, isFlight}
 use Rattle.rules.specs.Step.{apply}
@@ -29,7 +30,7 @@ use Rattle.rules.specs.declared.Region.{Region}
 use Rattle.rules.specs.declared.SlotState.the-variants.{Empty, Waiting}
 use Rattle.undo.proofs.Inv.{flying}
 use Rattle.undo.proofs.Laws.{is-same, test}
-use Rattle.undo.specs.Claim.{Reach, then}
+use Rattle.undo.specs.Claim.{Reach}
 use Rattle.undo.specs.Table.{any, put}
 use Rattle.rules.proofs.Tests.{badAt, passed}
 
@@ -126,9 +127,8 @@ module _ {m : ℕ → List ℕ} {b : Board} {es : List Account} {s : u.State (Li
         waits = landed-waits;
       }
 
-  landed-reach : Reach m (u.act s (u.DataAck k l (lineOf l (b .car)))) h
-  unfolding v.note
-  landed-reach = then rc (u.DataAck k l (lineOf l (b .car))) (u.data-acks flies-here)
+  landed-allowed : u.Allowed s (u.DataAck k l (lineOf l (b .car)))
+  landed-allowed = u.data-acks flies-here
 
   landed-flown : Flown b → Flown (landedBoard k l b)
   landed-flown f q j c e w =
@@ -159,7 +159,7 @@ module _ (rs : List Region) (l : ℕ) (g : Good rs) (e : any (λ r. any (carries
 
 pub lands : (l : ℕ) (m : Memory) (b : Board) (es : List Account) → refusal (b .tables) (DataAck l) ≡ 0 → Kept m b es
     → Simulated m (dataAck l b) (Nothing ∷ es) × Flown (dataAck l b)
-unfolding testsOf
+unfolding testsOf v.note depthIn openedIn hasReadIn
 lands l m b es r kept = go (kept .simulated)
   where
     p : (n : ℕ) → badAt n (testsOf (b .tables) (DataAck l)) ≡ false
@@ -178,13 +178,17 @@ lands l m b es r kept = go (kept .simulated)
     k = getD (b .tables .regions) (flightPlace l (b .tables .regions)) noRegion .key
 
     go : Simulated m b es → Simulated m (dataAck l b) (Nothing ∷ es) × Flown (dataAck l b)
-    go (by s h rc i) =
+    go (by s h w i) =
+        let rc = reach w in
         let in′ : listed k (b .tables .regions) ≡ true = found-listed (b .tables .regions) l (i .shape .regions .good) flying (i .shape .regions .unique) in
         let at : placeOf k (b .tables .regions) ≡ flightPlace l (b .tables .regions)
         = i .shape .regions .unique (flightPlace l (b .tables .regions)) (found-key (b .tables .regions) l (i .shape .regions .good) flying) in
         let fl : any (carries l) (regionAt k (b .tables .regions) .slots) ≡ true = rw at (found-flight (b .tables .regions) l (i .shape .regions .good) flying) in
-        rw (ack-is k l rc i ln in′ fl (sym at))
-        (by _ _ (landed-reach k l rc i ln in′ fl) (landed-sim k l rc i ln in′ fl), landed-flown k l rc i ln in′ fl (kept .rest .flown))
+        rw (ack-is k l rc i ln in′ fl (sym at)) (
+          by _ _ (acted w (λ ks x. other refl x) (marks-same (λ t. refl) (λ t x. refl)) (u.DataAck k l (lineOf l (b .car))) (landed-allowed k l rc i ln in′ fl) refl)
+              (landed-sim k l rc i ln in′ fl),
+          landed-flown k l rc i ln in′ fl (kept .rest .flown),
+        )
 
 pub keeps-data : (l : ℕ) → Keeps (DataAck l)
 unfolding apply

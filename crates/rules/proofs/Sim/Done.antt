@@ -15,7 +15,7 @@ use borrow.Author.Tests.{eqb-false, eqb-true, not-false, not-true}
 use Rattle.rules.proofs.Places.{Once, Unique, listed-at, listed-mapped, once-one, region-at, region-mapped, regions-mapped}
 use Rattle.rules.proofs.Lists.{getD-map}
 use Rattle.rules.proofs.Sim.State.{Finished, GoodRegion, Shape, Sim}
-use Rattle.rules.proofs.Sim.Base.{logs-same, memories-same, shape-kept, told-alike}
+use Rattle.rules.proofs.Sim.Base.{logs-same, memories-same, no-change, shape-kept, told-alike}
 use Rattle.rules.proofs.Sim.Parts.{Flown}
 use Rattle.rules.proofs.Sim.Begin.{free-slots}
 use Rattle.rules.proofs.Views.{newest}
@@ -83,7 +83,7 @@ module _ {b : Board} {es : List Account} {s : u.State (List ℕ)} {h : v.History
         shape = shape-done;
         memories = memories-same (afterDone b .tables) (i .memories);
         logs = logs-same {b = b} (λ t. refl) refl refl (i .logs);
-        told = told-alike {b = b} (record { opened = λ t. refl; inside = λ t p. p; outside = λ t p. p; ends = refl; writes = refl; uses = refl })
+        told = told-alike {b = b} (no-change es)
             (i .told .depth) (λ t. refl) (i .told .lines) refl (i .told);
         cur = i .cur;
         med = i .med;

@@ -1,7 +1,7 @@
 -- An end to depth 0 keeps the relation, before its flights and commits.
 use Rattle.undo.specs.Machine as u
 use Rattle.undo.specs.History as v
-use Prim.Native.Nat.{_-_, _<_, ℕ}
+use Prim.Native.Nat.{_%_, _-_, _/_, _<_, ℕ}
 use mathlib.Core.Path.{_∙_, _≡_, refl, sym}
 use mathlib.Core.Logic.{_≢_}
 use mathlib.Core.Bool.{_||_, cond, false, true, true≢false}
@@ -10,24 +10,26 @@ use lib.Dec.{eqb}
 use lib.ListN.{getD}
 use native.Mathlib.Omega.{arith}
 use borrow.Author.Tests.{eqb-false, eqb-true, leb-false, ne-eqb}
-use Rattle.rules.proofs.Places.{entry-at, eqb-swap, key-at, listed-key, listed-stored, region-stored, regions-stored}
-use Rattle.rules.proofs.Sim.State.{GoodRegion, Kept, Rest, Shape, Sim, Simulated, Told, by}
+use Rattle.rules.proofs.Bits.{bit-zero}
+use Rattle.rules.proofs.Places.{entry-at, eqb-swap, getD-same, key-at, listed-key, listed-stored, region-stored, regions-stored}
+use Rattle.rules.proofs.Sim.State.{GoodRegion, Kept, Marks, Rest, Shape, Sim, Simulated, Told, by, other}
 use Rattle.rules.proofs.Sim.Base.{key-thread, logs-over, logs-same, memories-same, shape-kept, thread-stored, threads-8, threads-stored}
 use Rattle.rules.proofs.Sim.Flight.{flights, flown-rest}
+use Rattle.rules.proofs.Sim.Looks.{acted, reach}
 use Rattle.rules.proofs.Sim.Parts.{Flown, once-at, open-listed}
 use Rattle.rules.proofs.Views.{stateOf}
-use Rattle.rules.specs.End.{closed, endRegion, endedRegion, shallower, tick}
+use Rattle.rules.specs.End.{closed, endRegion, endedRegion, outside, tick}
 use Rattle.rules.specs.Flight.{flown}
-use Rattle.rules.specs.History.{Account, Closes, depthIn, endsIn, linesIn, openedIn, regionIn, usesIn, writesIn}
+use Rattle.rules.specs.History.{Account, Closes, depthIn, endsIn, hasReadIn, linesIn, openedIn, regionIn, usesIn, writesIn}
 use Rattle.rules.specs.Refusal.{depthOf, refusal, testsOf}
-use Rattle.rules.specs.Tables.{Board, Memory, current, isPlaced, listed, ownerOf, placeOf, regionAt, threadAt, threadOf, withDepth, withTables}
+use Rattle.rules.specs.Tables.{Board, Memory, current, isPlaced, listed, noReads, ownerOf, placeOf, regionAt, threadAt, threadOf, withDepth, withReads, withTables}
 use Rattle.rules.specs.declared.Event.the-variants.{End}
 use Rattle.rules.specs.declared.Region.{Region}
 use Rattle.rules.specs.declared.SlotState.the-variants.{Waiting}
 use Rattle.rules.specs.declared.Tables.{Tables}
 use Rattle.rules.specs.declared.Thread.{Thread}
 use Rattle.undo.proofs.Laws.{test}
-use Rattle.undo.specs.Claim.{Reach, then}
+use Rattle.undo.specs.Claim.{Reach}
 use Rattle.undo.specs.Machine.{ends}
 use Rattle.undo.specs.Table.{put}
 use Rattle.rules.proofs.Tests.{passed}
@@ -37,13 +39,13 @@ use Rattle.rules.specs.Measures.{ripeCount}
 
 -- the tables after the end
 abbrev over : ℕ → Tables → Tables
-over t ts = closed (current t ts) (shallower t ts)
+over t ts = closed (current t ts) (outside t ts)
 
 abbrev overRegion : ℕ → Tables → Region
 overRegion t ts = endedRegion (tick (ts .clock)) (regionAt (current t ts) (ts .regions))
 
 abbrev overThread : ℕ → Tables → Thread
-overThread t ts = withDepth (threadAt t ts .depth - 1) (threadAt t ts)
+overThread t ts = withReads noReads (withDepth (threadAt t ts .depth - 1) (threadAt t ts))
 
 module _ {m : ℕ → List ℕ} {b : Board} {es : List Account} {s : u.State (List ℕ)} {h : v.History (List ℕ)} (rc : Reach m s h) (i : Sim b es s h)
     (t : ℕ) (lt : t < b .tables .size .threads) (d1 : depthIn t es ≡ 1) where
@@ -61,11 +63,11 @@ module _ {m : ℕ → List ℕ} {b : Board} {es : List Account} {s : u.State (Li
 
   region-over : (j : ℕ) → regionAt j (over t (b .tables) .regions)
       ≡ cond (eqb j (current t (b .tables))) (overRegion t (b .tables)) (regionAt j (b .tables .regions))
-  unfolding closed
+  unfolding closed outside
   region-over = region-stored (current t (b .tables)) (b .tables .regions) (overRegion t (b .tables)) ended-listed key-over
 
   listed-over : (j : ℕ) → listed j (over t (b .tables) .regions) ≡ listed j (b .tables .regions)
-  unfolding closed
+  unfolding closed outside
   listed-over = listed-stored (current t (b .tables)) (b .tables .regions) (overRegion t (b .tables)) ended-listed key-over
 
   -- what the end leaves alone of the region is left alone of each
@@ -86,11 +88,11 @@ module _ {m : ℕ → List ℕ} {b : Board} {es : List Account} {s : u.State (Li
       }
 
   thread-over : (j : ℕ) → threadAt j (over t (b .tables)) ≡ cond (eqb j t) (overThread t (b .tables)) (threadAt j (b .tables))
-  unfolding closed
+  unfolding closed outside
   thread-over = thread-stored t (overThread t (b .tables)) (b .tables) (omega (arith, threads-8 (b .tables) (i .shape), i .shape .threads .count))
 
   shape-over : Shape (over t (b .tables))
-  unfolding closed
+  unfolding closed outside
   shape-over =
       let sh : Shape (b .tables) = i .shape in
       shape-kept (b .tables) _ refl refl
@@ -104,7 +106,7 @@ module _ {m : ℕ → List ℕ} {b : Board} {es : List Account} {s : u.State (Li
 
   told-over : Told (withTables (over t (b .tables)) b) (Closes t ∷ es) (u.withOver (put (current t (b .tables)) true (s .over)) s)
       (record { writes = h .writes; ends = current t (b .tables) ∷ h .ends; uses = h .uses })
-  unfolding openedIn writesIn endsIn usesIn linesIn closed
+  unfolding openedIn writesIn endsIn usesIn linesIn closed outside
   told-over =
       record {
         depth = λ j. rw (thread-over j, depth-over j)
@@ -134,7 +136,7 @@ module _ {m : ℕ → List ℕ} {b : Board} {es : List Account} {s : u.State (Li
 
   sim-over : Sim (withTables (over t (b .tables)) b) (Closes t ∷ es) (u.withOver (put (current t (b .tables)) true (s .over)) s)
       (record { writes = h .writes; ends = current t (b .tables) ∷ h .ends; uses = h .uses })
-  unfolding closed ownerOf
+  unfolding closed outside ownerOf
   sim-over =
       record {
         shape = shape-over;
@@ -154,15 +156,20 @@ module _ {m : ℕ → List ℕ} {b : Board} {es : List Account} {s : u.State (Li
         waits = i .waits;
       }
 
-  pub reach-over : Reach m (u.withOver (put (current t (b .tables)) true (s .over)) s)
-      (record { writes = h .writes; ends = current t (b .tables) ∷ h .ends; uses = h .uses })
-  unfolding u.act v.note
-  reach-over = then rc (u.End (current t (b .tables))) (u.ends mine-open)
+  -- the thread's marks are gone
+  marks-over : Marks b es → Marks (withTables (over t (b .tables)) b) (Closes t ∷ es)
+  unfolding hasReadIn openedIn
+  marks-over w =
+      record {
+        words = λ j. rw (thread-over j) (test (eqb j t) (λ d. rw d) (λ d. rw d (w .words j)));
+        marks = λ j l g. rw (thread-over j, depth-over j)
+            (test (eqb j t) (λ d. rw (d, getD-same {A = ℕ} 4 (l / 64) 0) (bit-zero (l % 64))) (λ d. rw d (w .marks j l g)));
+      }
 
   -- the slots of the other regions are as they were
   rest-over : Rest b → (q l c : ℕ) → eqb q (current t (b .tables)) ≡ false → (eqb c ripeCount || regionAt q (over t (b .tables) .regions) .ended) ≡ true
       → stateOf l (regionAt q (over t (b .tables) .regions) .slots) ≡ Waiting c → getD (over t (b .tables) .lock) l false ≡ true
-  unfolding closed
+  unfolding closed outside
   rest-over r q l c n e w = r .flown q l c (rw (region-over q, n) at e) (rw (region-over q, n) at w)
 
   over-listed : listed (current t (b .tables)) (over t (b .tables) .regions) ≡ true
@@ -171,7 +178,7 @@ module _ {m : ℕ → List ℕ} {b : Board} {es : List Account} {s : u.State (Li
 -- the end to depth 0, with its flights
 pub ends-region : (t : ℕ) (m : Memory) (b : Board) (es : List Account) → refusal (b .tables) (End t) ≡ 0 → eqb (depthOf t (b .tables)) 1 ≡ true → Kept m b es
     → Simulated m (endRegion t b) (Closes t ∷ es) × Flown (endRegion t b)
-unfolding testsOf endRegion
+unfolding testsOf endRegion u.act v.note
 ends-region t m b es r d k = go (k .simulated) (k .rest)
   where
     lt : t < b .tables .size .threads
@@ -180,8 +187,10 @@ ends-region t m b es r d k = go (k .simulated) (k .rest)
     go : Simulated m b es → Rest b
         → Simulated m (flown (current t (b .tables)) (withTables (over t (b .tables)) b)) (Closes t ∷ es)
         × Flown (flown (current t (b .tables)) (withTables (over t (b .tables)) b))
-    go (by s h rc i) rt =
-        let d1 : depthIn t es ≡ 1 = sym (i .told .depth t) ∙ eqb-true (depthOf t (b .tables)) 1 d in (
-          flights (current t (b .tables)) (over-listed rc i t lt d1) (by _ _ (reach-over rc i t lt d1) (sim-over rc i t lt d1)),
+    go (by s h w i) rt =
+        let d1 : depthIn t es ≡ 1 = sym (i .told .depth t) ∙ eqb-true (depthOf t (b .tables)) 1 d in
+        let rc = reach w in (
+          flights (current t (b .tables)) (over-listed rc i t lt d1)
+              (by _ _ (acted w (λ ks x. other refl x) (marks-over rc i t lt d1) (u.End (current t (b .tables))) (u.ends (mine-open rc i t lt d1)) refl) (sim-over rc i t lt d1)),
           flown-rest (current t (b .tables)) (withTables (over t (b .tables)) b) (over-listed rc i t lt d1) (rest-over rc i t lt d1 rt),
         )

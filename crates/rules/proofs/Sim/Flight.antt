@@ -13,6 +13,7 @@ use native.Mathlib.Omega.{arith}
 use borrow.Author.Tests.{eqb-false, eqb-true, not-true}
 use Rattle.rules.proofs.Places.{entry-at, key-at, listed-key, listed-stored, region-stored}
 use Rattle.rules.proofs.Sim.State.{GoodRegion, Memories, Sim, Simulated, by}
+use Rattle.rules.proofs.Sim.Looks.{acted-same, reach}
 use Rattle.rules.proofs.Sim.Parts.{Flown, logs-kept, no-event, once-at, owner-stored, part-stored, shape-stored, told-kept}
 use Rattle.rules.proofs.SlotLaws.{distinct-flown, flight-state, flown-none, length-carried, length-flown, line-carried, offAt, state-flown, takesOff}
 use Rattle.rules.proofs.Views.{carryOf, newest, stateOf}
@@ -24,7 +25,7 @@ use Rattle.rules.specs.declared.SlotState.{SlotState}
 use Rattle.rules.specs.declared.SlotState.the-variants.{Empty, InFlight, Waiting}
 use Rattle.undo.proofs.Laws.{and-true, never, test}
 use Rattle.undo.proofs.Main.{structured}
-use Rattle.undo.specs.Claim.{Reach, then}
+use Rattle.undo.specs.Claim.{Reach}
 use Rattle.rules.specs.History.{Account}
 use Rattle.rules.specs.Measures.{ripeCount}
 
@@ -145,16 +146,18 @@ module _ {m : ℕ → List ℕ} {b : Board} {es : List Account} {s : u.State (Li
         waits = flown-waits;
       }
 
-  flown-reach : Reach m (act s (u.Launch (λ l q. eqb q k && off k b l))) h
-  unfolding note
-  flown-reach = then rc (u.Launch (λ l q. eqb q k && off k b l)) (u.launches (λ l q e. allowed l q e .0) (λ l q e. allowed l q e .1))
+  flown-allowed : u.Allowed s (u.Launch (λ l q. eqb q k && off k b l))
+  flown-allowed = u.launches (λ l q e. allowed l q e .0) (λ l q e. allowed l q e .1)
     where
       allowed : (l q : ℕ) → (eqb q k && off k b l) ≡ true → (s .slot l q ≡ u.Waits) × (s .lock l ≡ false)
       allowed l q e = let z = and-true (eqb q k) (off k b l) e in rw (eqb-true q k (z .0)) (off-facts l (z .1))
 
 -- region k's slots fly where they can
 pub flights : {m : Memory} {b : Board} {es : List Account} (k : ℕ) → listed k (b .tables .regions) ≡ true → Simulated m b es → Simulated m (flown k b) es
-flights {b = b} k in′ (by s h rc i) = by (act s (u.Launch (λ l q. eqb q k && off k b l))) h (flown-reach k rc i in′) (flown-sim k rc i in′)
+unfolding flown note
+flights {b = b} k in′ (by s h w i) =
+    by (act s (u.Launch (λ l q. eqb q k && off k b l))) h
+    (acted-same w (λ t. refl) (u.Launch (λ l q. eqb q k && off k b l)) (flown-allowed k (reach w) i in′) refl) (flown-sim k (reach w) i in′)
 
 -- after it no slot of region k that could fly waits
 pub flown-rest : (k : ℕ) (b : Board) → listed k (b .tables .regions) ≡ true

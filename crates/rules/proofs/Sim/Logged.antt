@@ -298,6 +298,7 @@ module _ {b : Board} {es : List Account} {s : u.State (List ℕ)} {h : v.History
         logs = logs-first;
         depth = λ x. rw (thread-logged t (regionIn t es) l b inside-thread room key-nz x) (test (eqb x t) (λ d. rw (d, eqb-true x t d)) (λ d. rw d));
         last = λ x. rw (thread-logged t (regionIn t es) l b inside-thread room key-nz x) (test (eqb x t) (λ d. rw (d, eqb-true x t d)) (λ d. rw d));
+        reads = λ x. rw (thread-logged t (regionIn t es) l b inside-thread room key-nz x) (test (eqb x t) (λ d. rw (d, eqb-true x t d)) (λ d. rw d));
         old = length-set (b .old) (32 * t + freeEntry t (b .tables)) (lineOf l (b .cur)) ∙ i .memories .old;
         old-lines = λ x n. rw (getD-set (b .old) (32 * t + freeEntry t (b .tables)) x (lineOf l (b .cur)) [] place-256)
             (test (eqb x (32 * t + freeEntry t (b .tables))) (λ d. rw d (i .memories .cur-lines l inside-line)) (λ d. rw d (i .memories .old-lines x n)));

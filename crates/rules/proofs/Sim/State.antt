@@ -5,16 +5,16 @@ use Rattle.undo.specs.Claim as c
 use Prim.Native.Nat.{_*_, _+_, _<_, _≤_, ℕ}
 use mathlib.Core.Path.{_≡_}
 use mathlib.Core.Logic.{_≢_, _⊎_}
-use mathlib.Core.Bool.{_&&_, _||_, false, not, true}
+use mathlib.Core.Bool.{Bool, _&&_, _||_, false, not, true}
 use mathlib.Core.List.{List, [], _∷_}
 use lib.Dec.{eqb}
 use lib.ListN.{getD, length}
 use Rattle.rules.proofs.Codec.Bytes.{isLine}
 use Rattle.rules.proofs.Views.{depView, entryAt, isOpened, newest, slotView, stateOf}
-use Rattle.rules.specs.Access.{isOf}
+use Rattle.rules.specs.Access.{hasRead, isOf}
 use Rattle.rules.specs.Acknowledge.{isEntry}
 use Rattle.rules.specs.Commit.{commits}
-use Rattle.rules.specs.History.{Account, Change, accountOf, depthIn, drawsOn, endsIn, lastWriter, linesIn, openedIn, regionIn, usesIn, writesIn}
+use Rattle.rules.specs.History.{Account, Change, Closes, Cuts, Nothing, Opens, Sets, Stores, Uses, accountOf, depthIn, drawsOn, endsIn, lastWriter, linesIn, openedIn, readIn, regionIn, usesIn, writesIn}
 use Rattle.rules.specs.Lists.{count}
 use Rattle.rules.specs.Refusal.{isSetUp, refusal}
 use Rattle.rules.specs.Slots.{hasSlot, isEmpty}
@@ -27,7 +27,7 @@ use Rattle.rules.specs.declared.Slot.{Slot}
 use Rattle.rules.specs.declared.SlotState.the-variants.{Empty, Waiting}
 use Rattle.rules.specs.declared.Tables.{Tables}
 use Rattle.rules.specs.declared.Thread.{Thread}
-use Rattle.undo.specs.Claim.{Reach}
+use Rattle.serial.specs.Looks.{Look, Seeing}
 use Rattle.undo.specs.Recovery.{olds}
 use Rattle.undo.specs.Table.{any}
 use Rattle.rules.specs.Measures.{mostInChannel, ripeCount}
@@ -126,6 +126,15 @@ pub record Told (b : Board) (es : List Account) (s : u.State (List ℕ)) (h : v.
   pub last-open : (t : ℕ) → depthIn t es ≢ 0 → u.Open s (regionIn t es)
   pub owner : (l : ℕ) → getD (b .tables .owner) l 0 ≡ lastWriter l (writesIn es)
 
+abbrev pub isUse : Account → Bool
+isUse (Sets l s) = false
+isUse (Opens t) = false
+isUse (Closes t) = false
+isUse (Uses t l) = true
+isUse (Stores t l f) = false
+isUse Cuts = false
+isUse Nothing = false
+
 -- ---- the whole relation, inside an event and between two
 
 pub record Sim (b : Board) (es : List Account) (s : u.State (List ℕ)) (h : v.History (List ℕ)) : Type 0 where
@@ -156,9 +165,37 @@ pub record Rest (b : Board) : Type 0 where
   pub finished : (i : ℕ) → Finished (getD (b .tables .regions) i noRegion)
   pub settled : (i : ℕ) → commits (getD (b .tables .regions) i noRegion) ≡ false
 
+-- ---- request 5: what the accepted reads saw (crate serial), and the lines that the threads have marked
+
+-- the looks of the reads among the accepted events
+pub data Looks : List Account → List (Look (List ℕ)) → Type 0 where
+  unread : Looks [] []
+  looks : {t l : ℕ} {es : List Account} {ks : List (Look (List ℕ))} (k : Look (List ℕ)) → k .rid ≡ regionIn t es → k .line ≡ l
+      → k .before ≡ conv (writesIn es) → Looks es ks → Looks (Uses t l ∷ es) (k ∷ ks)
+  other : {e : Account} {es : List Account} {ks : List (Look (List ℕ))} → isUse e ≡ false → Looks es ks → Looks (e ∷ es) ks
+
+-- a thread's marks are the lines that its open region has read
+pub record Marks (b : Board) (es : List Account) : Type 0 where
+  pub words : (t : ℕ) → length (threadAt t (b .tables) .reads) ≡ 4
+  pub marks : (t l : ℕ) → l < 256 → hasRead l (threadAt t (b .tables)) ≡ readIn t l es
+
+-- allowed actions lead to the state from starting memory m, and break none of the looks of the accepted reads
+pub record Watched (m : ℕ → List ℕ) (b : Board) (es : List Account) (s : u.State (List ℕ)) (h : v.History (List ℕ)) : Type 0 where
+  pub seen : List (Look (List ℕ))
+  pub seeing : Seeing m s h seen
+  pub looks : Looks es seen
+  pub marks : Marks b es
+
 -- some reachable state of the undo log has the board's tables
 pub data Simulated (m : Memory) (b : Board) (es : List Account) : Type 0 where
-  by : (s : u.State (List ℕ)) (h : v.History (List ℕ)) → Reach (λ l. lineOf l (startLines m)) s h → Sim b es s h → Simulated m b es
+  by : (s : u.State (List ℕ)) (h : v.History (List ℕ)) → Watched (λ l. lineOf l (startLines m)) b es s h → Sim b es s h → Simulated m b es
+
+pub shape-of : {m : Memory} {b : Board} {es : List Account} → Simulated m b es → Shape (b .tables)
+shape-of (by s h w i) = i .shape
+
+-- the thread's depth by the events
+pub depth-of : {m : Memory} {b : Board} {es : List Account} → Simulated m b es → (t : ℕ) → threadAt t (b .tables) .depth ≡ depthIn t es
+depth-of (by s h w i) t = i .told .depth t
 
 -- what every accepted event keeps
 pub record Kept (m : Memory) (b : Board) (es : List Account) : Type 0 where

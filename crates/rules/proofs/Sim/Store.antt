@@ -57,6 +57,7 @@ pub record Ready (b : Board) (es : List Account) (s : u.State (List ℕ)) (t l :
   pub logs : Logs (relogged ths ow lo ol b) (after ch lk (regionIn t es) l change s)
   pub depth : (x : ℕ) → threadAt x (relogged ths ow lo ol b .tables) .depth ≡ threadAt x (b .tables) .depth
   pub last : (x : ℕ) → threadAt x (relogged ths ow lo ol b .tables) .last ≡ threadAt x (b .tables) .last
+  pub reads : (x : ℕ) → threadAt x (relogged ths ow lo ol b .tables) .reads ≡ threadAt x (b .tables) .reads
   pub old : length ol ≡ 256
   pub old-lines : (x : ℕ) → x < 256 → isLine (lineOf x ol) ≡ true
   pub lock : (x : ℕ) → lk x ≡ getD lo x false
@@ -174,6 +175,7 @@ module _ {b : Board} {es : List Account} {s : u.State (List ℕ)} {h : v.History
         logs = logs-kept (b .tables .regions) (b .cur) (b .med) (b .car) refl refl (i .logs);
         depth = λ x. refl;
         last = λ x. refl;
+        reads = λ x. refl;
         old = i .memories .old;
         old-lines = i .memories .old-lines;
         lock = i .lock;

@@ -17,10 +17,11 @@ use lib.Seq.{set-set}
 use Rattle.rules.proofs.Recover.Live.{live-listed}
 use Rattle.rules.proofs.Lists.{each-set, getD-set}
 use Rattle.rules.proofs.Places.{entry-at, listed-key, listed-stored, place-stored, region-stored}
-use Rattle.rules.proofs.Sim.State.{Finished, Keeps, Kept, Rest, Sim, Simulated, by}
+use Rattle.rules.proofs.Sim.State.{Finished, Keeps, Kept, Rest, Sim, Simulated, Watched, by}
 use Rattle.rules.proofs.Sim.Access.{Joined, current-is, current-open, join, joins, open-undone, owner-ended, rest-read, undone-stays}
 use Rattle.rules.proofs.Sim.Base.{lines-256}
 use Rattle.rules.proofs.Sim.Flight.{flights, flown-rest}
+use Rattle.rules.proofs.Sim.Looks.{reach, watched-write}
 use Rattle.rules.proofs.Sim.Parts.{Owner, logged-live, open-listed, owned, owner-is, part-stored, rebuilt, unowned}
 use Rattle.rules.proofs.Views.{carryOf, newest, stateOf}
 use Rattle.rules.specs.Access.{changeLine, dependence, isOf, joined, logged, loggedOnce, needsLog, read, stored, storedIn, write, wrote, wroteLine}
@@ -28,7 +29,7 @@ use Rattle.rules.specs.Acknowledge.{kept}
 use Rattle.rules.specs.Commit.{commits}
 use Rattle.rules.specs.Flight.{flown}
 use Rattle.rules.specs.History.{Account, Stores, regionIn}
-use Rattle.rules.specs.Refusal.{depthOf, isForeignOpen, isSetUp, testsOf}
+use Rattle.rules.specs.Refusal.{depthOf, isForeignOpen, isReadElsewhere, isSetUp, testsOf}
 use Rattle.rules.specs.Slots.{flownSlots, isFull, slotFor}
 use Rattle.rules.specs.Step.{apply, setup}
 use Rattle.rules.specs.Tables.{Board, Memory, current, isPlaced, lineOf, listed, locked, noRegion, ownerOf, placeOf, regionAt, startLines, threadAt, withDeps, withSlots, withTables}
@@ -45,7 +46,7 @@ use Rattle.undo.specs.Claim.{Reach, then}
 use Rattle.undo.specs.Recovery.{olds}
 use Rattle.undo.specs.Table.{any}
 use Rattle.rules.proofs.Tests.{badAt, passed}
-use Rattle.rules.proofs.Sim.Store.{KeepsLine, ready-again, relogged, slotted, store-sim, word-keeps}
+use Rattle.rules.proofs.Sim.Store.{KeepsLine, Ready, ready-again, relogged, slotted, store-sim, word-keeps}
 use Rattle.rules.proofs.Sim.Logged.{chainOf, lockOf, loggedOld, loggedThreads, no-length, ready-first}
 use Rattle.rules.specs.Measures.{ripeCount}
 
@@ -53,7 +54,7 @@ use Rattle.rules.specs.Measures.{ripeCount}
 
 -- a state of the undo log in which region k goes on
 data Going (m : ℕ → List ℕ) (b : Board) (es : List Account) (k : ℕ) : Type 0 where
-  going : (s : u.State (List ℕ)) (h : v.History (List ℕ)) → Reach m s h → Sim b es s h → u.Open s k → Going m b es k
+  going : (s : u.State (List ℕ)) (h : v.History (List ℕ)) → Watched m b es s h → Sim b es s h → u.Open s k → Going m b es k
 
 -- the owner of a line is the region of its newest entry
 owner-top : {b : Board} {es : List Account} {s : u.State (List ℕ)} {h : v.History (List ℕ)} (k l : ℕ) → Sim b es s h → listed k (b .tables .regions) ≡ true
@@ -77,37 +78,40 @@ newest-owns : (k : ℕ) (c : List (u.Entry (List ℕ))) → eqb k 0 ≡ false �
 newest-owns k [] nz e = absurd (eqb-false k 0 nz (sym e))
 newest-owns k (x ∷ c) nz e = eq-eqb k (x .rid) (sym e)
 
-module _ {m : ℕ → List ℕ} {b : Board} {es : List Account} {s : u.State (List ℕ)} {h : v.History (List ℕ)} (t l : ℕ) (change : List ℕ → List ℕ) (rc : Reach m s h) (i : Sim b es s h)
-    (op : u.Open s (regionIn t es)) (joined : (u.owns (regionIn t es) (s .chain l) || u.follows (s .dep) (regionIn t es) (s .chain l)) ≡ true)
+module _ {m : ℕ → List ℕ} {b : Board} {es : List Account} {s : u.State (List ℕ)} {h : v.History (List ℕ)} (t l : ℕ) (change : List ℕ → List ℕ) (w : Watched m b es s h) (i : Sim b es s h)
+    (unread : isReadElsewhere t l (b .tables) ≡ false) (op : u.Open s (regionIn t es)) (joined : (u.owns (regionIn t es) (s .chain l) || u.follows (s .dep) (regionIn t es) (s .chain l)) ≡ true)
     (setup : isSetUp (b .tables) ≡ true) (inT : t < b .tables .size .threads) (inL : l < b .tables .size .lines) (kl : KeepsLine change)
     (room : isFull (slotFor l (regionAt (regionIn t es) (b .tables .regions) .slots)) ≡ false) where
   going-in : listed (regionIn t es) (b .tables .regions) ≡ true
-  going-in = open-listed rc i (regionIn t es) op
+  going-in = open-listed (reach w) i (regionIn t es) op
+
+  inside : l < 256
+  inside = omega (arith, lines-256 (b .tables) setup)
 
   still : (a : u.Action (List ℕ)) → act s a .born ≡ s .born → act s a .over ≡ s .over → u.Open (act s a) (regionIn t es)
   still a p q = record { began = rw p (op .began); goes-on = rw q (op .goes-on) }
 
   go-again : eqb (getD (b .tables .owner) l 0) (regionIn t es) ≡ true → Going m (stored (regionIn t es) (slotted (regionIn t es) l b) l change b) (Stores t l change ∷ es) (regionIn t es)
-  unfolding act note
+  unfolding act note stored
   go-again own =
       let top : newest (s .chain l) ≡ regionIn t es = owner-top (regionIn t es) l i going-in (eqb-true (getD (b .tables .owner) l 0) (regionIn t es) own) in
       going (act s (u.Again (regionIn t es) l change)) (note h (u.Again (regionIn t es) l change))
-      (then rc (u.Again (regionIn t es) l change)
-      (u.again op (newest-owns (regionIn t es) (s .chain l) (listed-key (regionIn t es) (b .tables .regions) going-in) top)))
+      (watched-write w i t l inside unread change (λ x. refl) (u.Again (regionIn t es) l change)
+      (u.again op (newest-owns (regionIn t es) (s .chain l) (listed-key (regionIn t es) (b .tables .regions) going-in) top)) refl)
       (store-sim t l change (b .tables .threads) (b .tables .owner) (b .tables .lock) (b .old) (s .chain) (s .lock) i (ready-again t l change i own top) going-in room
-      (omega (arith, lines-256 (b .tables) setup)) kl op)
+      inside kl op)
       (still (u.Again (regionIn t es) l change) refl refl)
 
   go-first : eqb (getD (b .tables .owner) l 0) (regionIn t es) ≡ false → getD (b .tables .lock) l false ≡ false
       → any (isOf 0) (threadAt t (b .tables) .log) ≡ true → ((q : ℕ) → s .slot l q ≡ u.Waits → ⊥)
       → Going m (stored (regionIn t es) (slotted (regionIn t es) l b) l change (logged t (regionIn t es) l b)) (Stores t l change ∷ es) (regionIn t es)
-  unfolding act note logged
+  unfolding act note logged stored
   go-first own unl free calm =
-      going (act s (u.First (regionIn t es) l change)) (note h (u.First (regionIn t es) l change)) first
+      going (act s (u.First (regionIn t es) l change)) (note h (u.First (regionIn t es) l change))
+      (watched-write w i t l inside unread change (ready .reads) (u.First (regionIn t es) l change) first refl)
       (store-sim t l change (loggedThreads t (regionIn t es) l (b .tables)) (set (b .tables .owner) l (regionIn t es)) (set (b .tables .lock) l true) (loggedOld t l b)
-      (chainOf (regionIn t es) l s) (lockOf l s) i
-      (ready-first t l change i going-in unl free setup inT inL new (λ q x e. listed-key q (b .tables .regions) (live q x e)) calm) going-in room
-      (omega (arith, lines-256 (b .tables) setup)) kl op)
+      (chainOf (regionIn t es) l s) (lockOf l s) i ready going-in room
+      inside kl op)
       (still (u.First (regionIn t es) l change) refl refl)
     where
       nz : eqb (regionIn t es) 0 ≡ false
@@ -119,18 +123,22 @@ module _ {m : ℕ → List ℕ} {b : Board} {es : List Account} {s : u.State (Li
           (λ d. never (eq-eqb (getD (b .tables .owner) l 0) (regionIn t es) (top-owner (regionIn t es) l i nz (owns-newest (regionIn t es) (s .chain l) d))) own)
           (λ d. rw d at joined)
 
-      first : Reach m (act s (u.First (regionIn t es) l change)) (note h (u.First (regionIn t es) l change))
-      first = then rc (u.First (regionIn t es) l change) (u.firsts op follows (i .lock l ∙ unl))
+      first : u.Allowed s (u.First (regionIn t es) l change)
+      first = u.firsts op follows (i .lock l ∙ unl)
 
       new : olds (eqb (regionIn t es)) (s .chain l) ≡ []
       new =
           no-length (olds (eqb (regionIn t es)) (s .chain l))
-          (let z = structured m (act s (u.First (regionIn t es) l change)) (note h (u.First (regionIn t es) l change)) first .single l (regionIn t es) in
+          (let z = structured m (act s (u.First (regionIn t es) l change)) (note h (u.First (regionIn t es) l change)) (then (reach w) (u.First (regionIn t es) l change) first) .single l (regionIn t es) in
           let z′ : suc (length (olds (eqb (regionIn t es)) (s .chain l))) ≤ 1 = rw (is-same l, is-same (regionIn t es)) at z in
           omega arith)
 
       live : (q x : ℕ) → c.logged q (s .chain x) ≡ true → listed q (b .tables .regions) ≡ true
-      live q x e = let z = logged-live rc i q x e in live-listed rc i q (z .0) (z .1)
+      live q x e = let z = logged-live (reach w) i q x e in live-listed (reach w) i q (z .0) (z .1)
+
+      ready : Ready b es s t l change (loggedThreads t (regionIn t es) l (b .tables)) (set (b .tables .owner) l (regionIn t es)) (set (b .tables .lock) l true)
+          (loggedOld t l b) (chainOf (regionIn t es) l s) (lockOf l s)
+      ready = ready-first t l change i going-in unl free setup inT inL new (λ q x e. listed-key q (b .tables .regions) (live q x e)) calm
 
 -- ---- the whole write
 
@@ -219,7 +227,7 @@ grown l lo n x e = rw (getD-set lo l x true false n) (test (eqb x l) (λ d. rw d
 
 -- log, store and flights, after the join
 write-joined : {m : Memory} {b : Board} {es : List Account} {s : u.State (List ℕ)} {h : v.History (List ℕ)} (t l : ℕ) (change : List ℕ → List ℕ)
-    → Reach (λ x. lineOf x (startLines m)) s h → Sim b es s h → Rest b → u.Open s (regionIn t es)
+    → Watched (λ x. lineOf x (startLines m)) b es s h → Sim b es s h → Rest b → isReadElsewhere t l (b .tables) ≡ false → u.Open s (regionIn t es)
     → (u.owns (regionIn t es) (s .chain l) || u.follows (s .dep) (regionIn t es) (s .chain l)) ≡ true
     → isSetUp (b .tables) ≡ true → t < b .tables .size .threads → l < b .tables .size .lines → KeepsLine change
     → (needsLog (regionIn t es) l (b .tables) && locked l (b .tables)) ≡ false
@@ -228,25 +236,25 @@ write-joined : {m : Memory} {b : Board} {es : List Account} {s : u.State (List �
     → (eqb (getD (b .tables .owner) l 0) (regionIn t es) ≡ false → getD (b .tables .lock) l false ≡ false → (q : ℕ) → s .slot l q ≡ u.Waits → ⊥)
     → Kept m (flown (regionIn t es) (stored (regionIn t es) (slotted (regionIn t es) l b) l change (loggedOnce t (regionIn t es) l b))) (Stores t l change ∷ es)
 unfolding logged
-write-joined {m} {b} {es} t l change rc i re op jo su inT inL so lo ro fr calm =
+write-joined {m} {b} {es} t l change w i re un op jo su inT inL so lo ro fr calm =
     test (eqb (getD (b .tables .owner) l 0) (regionIn t es))
     (λ d. rw d (finish (b .tables .threads) (b .tables .owner) (b .tables .lock) (b .old) (λ x e. e)
-    (go-again t l change rc i op jo su inT inL so ro d)))
+    (go-again t l change w i un op jo su inT inL so ro d)))
     (λ d. let unl : getD (b .tables .lock) l false ≡ false = rw d at lo in
     let z : any (isOf 0) (threadAt t (b .tables) .log) ≡ true = not-false (any (isOf 0) (threadAt t (b .tables) .log)) (rw d at fr) in
     rw d (finish (loggedThreads t (regionIn t es) l (b .tables)) (set (b .tables .owner) l (regionIn t es)) (set (b .tables .lock) l true) (loggedOld t l b)
     (grown l (b .tables .lock) (rw (i .shape .lock) (omega (arith, lines-256 (b .tables) su))))
-    (go-first t l change rc i op jo su inT inL so ro d unl z (calm d unl))))
+    (go-first t l change w i un op jo su inT inL so ro d unl z (calm d unl))))
   where
     in′ : listed (regionIn t es) (b .tables .regions) ≡ true
-    in′ = open-listed rc i (regionIn t es) op
+    in′ = open-listed (reach w) i (regionIn t es) op
 
     finish : (ths : List Thread) (ow : List ℕ) (lo : List Bool) (ol : List (List ℕ)) → ((x : ℕ) → getD (b .tables .lock) x false ≡ true → getD lo x false ≡ true)
         → Going (λ x. lineOf x (startLines m)) (stored (regionIn t es) (slotted (regionIn t es) l b) l change (relogged ths ow lo ol b)) (Stores t l change ∷ es) (regionIn t es)
         → Kept m (flown (regionIn t es) (stored (regionIn t es) (slotted (regionIn t es) l b) l change (relogged ths ow lo ol b))) (Stores t l change ∷ es)
-    finish ths ow lo ol grow (going s h rc′ i′ op′) =
+    finish ths ow lo ol grow (going s h w′ i′ op′) =
         record {
-          simulated = flights (regionIn t es) (open-listed rc′ i′ (regionIn t es) op′) (by s h rc′ i′);
+          simulated = flights (regionIn t es) (open-listed (reach w′) i′ (regionIn t es) op′) (by s h w′ i′);
           rest = rest-wrote (regionIn t es) l change b ths ow lo ol grow in′ (i .ended (regionIn t es) in′ ∙ op .goes-on) (open-undone (regionIn t es) i op in′) re;
         }
 
@@ -270,12 +278,13 @@ write-keeps t l w mask y m b es ref kept = go (kept .simulated)
     change = storedIn w mask y
 
     go : Simulated m b es → Kept m (write t l change b) (Stores t l change ∷ es)
-    go (by s h rc i) =
+    go (by s h watched i) =
+        let rc = reach watched in
         let cur : current t (b .tables) ≡ regionIn t es = current-is t l rc i deep in
         let op : u.Open s (regionIn t es) = rw (← cur) (current-open t l rc i deep) in
         let in′ : listed (regionIn t es) (b .tables .regions) ≡ true = open-listed rc i (regionIn t es) op in
         rw (write-is t l (regionIn t es) change b cur in′)
-        (after-join cur op in′ (rw cur at (join t l rc i deep (p 17) (p 19))))
+        (after-join cur op in′ (rw cur at (join t l watched i deep (p 17) (p 19))))
       where
         b′ : Board
         b′ = withTables (read (regionIn t es) l (b .tables)) b
@@ -283,8 +292,8 @@ write-keeps t l w mask y m b es ref kept = go (kept .simulated)
         after-join : current t (b .tables) ≡ regionIn t es → u.Open s (regionIn t es) → listed (regionIn t es) (b .tables .regions) ≡ true
             → Joined (λ x. lineOf x (startLines m)) b′ es (regionIn t es) l
             → Kept m (flown (regionIn t es) (stored (regionIn t es) (slotted (regionIn t es) l b′) l change (loggedOnce t (regionIn t es) l b′))) (Stores t l change ∷ es)
-        after-join cur op in′ (joins s′ h′ rc′ i′ op′ f) =
-            write-joined t l change rc′ i′ (rest-read (regionIn t es) l i op in′ (kept .rest)) op′ f
+        after-join cur op in′ (joins s′ h′ w′ i′ op′ f) =
+            write-joined t l change w′ i′ (rest-read (regionIn t es) l i op in′ (kept .rest)) (p 25) op′ f
             (not-false (isSetUp (b .tables)) (p 6))
             (leb-false (b .tables .size .threads) t (p 3))
             (leb-false (b .tables .size .lines) l (p 4))
@@ -292,5 +301,5 @@ write-keeps t l w mask y m b es ref kept = go (kept .simulated)
             (rw cur at (p 18))
             (rw (slots-read (regionIn t es) l (b .tables) in′ (regionIn t es)) (rw cur at (p 20)))
             (rw cur at (p 21))
-            (λ own unl q e. calm-line t l rc i (kept .rest) deep (p 17) own unl q
+            (λ own unl q e. calm-line t l (reach watched) i (kept .rest) deep (p 17) own unl q
             (i .slot l q ∙ sym (ap (λ ss. carryOf (b .car) l (stateOf l ss)) (slots-read (regionIn t es) l (b .tables) in′ q)) ∙ sym (i′ .slot l q) ∙ e))
