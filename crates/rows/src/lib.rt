@@ -447,6 +447,7 @@ pub fn has_read(row: &ThreadRow, l: u8) -> bool
     (row[READS_AT + i / WORD_BITS] >> (i % WORD_BITS)) % 2 == 1
 }
 
+// The number with bit i alone.
 fn bit(i: usize) -> u64
     requires { ⌜ i < 64 ⌝ }
     ensures { λ r. ⌜ r ≡ 2 ^ i ⌝ }
@@ -454,7 +455,7 @@ fn bit(i: usize) -> u64
     1u64 << i
 }
 
-// The thread's open region has read line l.
+// Line l counts as read by the thread's open region.
 pub fn note_read(row: &mut ThreadRow, l: u8)
     ensures { λ _. ⌜ threadOf (left row) ≡ withReads (alsoRead l (threadOf (was row) .reads)) (threadOf (was row)) ⌝ }
 {
@@ -464,7 +465,7 @@ pub fn note_read(row: &mut ThreadRow, l: u8)
     row[at] = bit(i % WORD_BITS) | row[at];
 }
 
-// The thread is in no region: it has read no line.
+// No line counts as read any more.
 pub fn forget_reads(row: &mut ThreadRow)
     ensures { λ _. ⌜ threadOf (left row) ≡ withReads noReads (threadOf (was row)) ⌝ }
 {

@@ -184,10 +184,10 @@ cases =
       words = [];
     }
     -- request 5: thread 0 reads line 0 at depth 2. Thread 1 is kept from the line, not from the next, until thread 0 is back at depth 0; its next region has not
-    -- read the line, and the refused read leaves no mark
+    -- read the line, and the refused read leaves no mark. Then line 1 is locked and thread 0 has read it: 25 comes before 18
     ∷ record {
       file =
-          setup′ 2 2
+          setup′ 3 2
           ∷ begin′ 0
           ∷ begin′ 0
           ∷ read′ 0 0 3
@@ -201,9 +201,15 @@ cases =
           ∷ write′ 1 0 0 9
           ∷ read′ 0 0 0
           ∷ write′ 1 0 1 8
+          ∷ end′ 1
+          ∷ read′ 0 1 0
+          ∷ begin′ 2
+          ∷ write′ 2 1 0 5
+          ∷ end′ 0
+          ∷ write′ 2 1 0 5
           ∷ [];
-      refusals = 0 ∷ 0 ∷ 0 ∷ 0 ∷ 0 ∷ 25 ∷ 0 ∷ 0 ∷ 25 ∷ 0 ∷ 0 ∷ 0 ∷ 17 ∷ 0 ∷ [];
-      values = times 9 0 ++ (1 ∷ times 4 0);
+      refusals = 0 ∷ 0 ∷ 0 ∷ 0 ∷ 0 ∷ 25 ∷ 0 ∷ 0 ∷ 25 ∷ 0 ∷ 0 ∷ 0 ∷ 17 ∷ 0 ∷ 0 ∷ 0 ∷ 0 ∷ 25 ∷ 0 ∷ 18 ∷ [];
+      values = times 9 0 ++ (1 ∷ (times 5 0 ++ (9 ∷ times 4 0)));
       imageLength = 0;
       words = [];
     }

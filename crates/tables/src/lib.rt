@@ -16,7 +16,7 @@ ghost use lib.ListN.{set};
 ghost use Rattle.undo.specs.Table.{any};
 ghost use Rattle.rules.specs.Lists.{count};
 ghost use Rattle.rules.specs.Measures.{mostThreads};
-ghost use Rattle.rules.specs.Tables.{freePlace, inChannel, isHeld, isPlaced, keyOf, listed, noReads, placeOf, withReads};
+ghost use Rattle.rules.specs.Tables.{freePlace, inChannel, isHeld, isPlaced, keyOf, listed, noReads, placeOf, withDepth, withLast, withReads};
 ghost use Rattle.rules.specs.Slots.{carries};
 ghost use Rattle.rules.specs.Access.{alsoRead, hasRead, wordPlaces};
 ghost use Rattle.rules.specs.Acknowledge.{flightPlace, kept, landed};
@@ -406,7 +406,7 @@ pub fn open_region(threads: &Threads, t: u8) -> u32
 
 // Thread t gets the depth d and the last number n; behind the list nothing changes.
 pub fn set_thread(threads: &mut Threads, t: u8, d: u8, n: u16)
-    ensures { λ _. ⌜ threadsOf (left threads) ≡ set (threadsOf (was threads)) t (record { depth = d; last = n; log = threadHeld (was threads) t .log; reads = threadHeld (was threads) t .reads }) ⌝ }
+    ensures { λ _. ⌜ threadsOf (left threads) ≡ set (threadsOf (was threads)) t (withDepth d (withLast n (threadHeld (was threads) t))) ⌝ }
 {
     rows::threads_length(threads);
     let i = t as usize;
@@ -440,7 +440,7 @@ pub fn read_elsewhere(threads: &Threads, t: u8, l: u8) -> bool
     )
 }
 
-// The open region of thread t has read line l; behind the list nothing changes.
+// Line l counts as read by the open region of thread t; behind the list nothing changes.
 pub fn note_read(threads: &mut Threads, t: u8, l: u8)
     ensures { λ _. ⌜ threadsOf (left threads) ≡ set (threadsOf (was threads)) t (withReads (alsoRead l (threadHeld (was threads) t .reads)) (threadHeld (was threads) t)) ⌝ }
 {

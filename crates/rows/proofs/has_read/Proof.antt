@@ -1,5 +1,4 @@
 use Rattle.rows.proofs.Laws.{reads-at}
-use native.Mathlib.Omega.{arith}
 use Prim.Native.Nat.{_/_}
 use borrow.Author.Needs.{needs}
 use Rattle.rows.proofs.has_read.Statement.{statement}

@@ -1,6 +1,5 @@
 use Rattle.rows.proofs.Laws.{reads-at, reads-stored}
 use mathlib.Core.Path.{_∙_}
-use native.Mathlib.Omega.{arith}
 use Prim.Native.Nat.{_/_}
 use borrow.Author.Needs.{needs}
 use Rattle.rows.proofs.note_read.Statement.{statement}

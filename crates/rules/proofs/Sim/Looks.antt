@@ -70,9 +70,9 @@ pub stayed-same : {m : ℕ → List ℕ} {b b′ : Board} {es : List Account} {s
     → ((t : ℕ) → threadAt t (b′ .tables) .reads ≡ threadAt t (b .tables) .reads) → Watched m b′ es s h
 stayed-same w f = stayed w (λ ks x. x) (marks-same f (λ t l. refl))
 
--- ---- the bit of a line
+-- ---- the bit of a line: one more is set, the others stay
 
-pub read-more : (l x : ℕ) (rs : List ℕ) → l < 256 → length rs ≡ 4
+read-more : (l x : ℕ) (rs : List ℕ) → l < 256 → length rs ≡ 4
     → isSet (x % 64) (getD (alsoRead l rs) (x / 64) 0) ≡ (eqb l x || isSet (x % 64) (getD rs (x / 64) 0))
 read-more l x rs h n =
     test (eqb (x / 64) (l / 64))
@@ -157,7 +157,8 @@ module _ {m : ℕ → List ℕ} {b : Board} {es : List Account} {s : u.State (Li
       (λ d. let z = any-none (λ y. not (eqb y t) && hasRead l (threadAt y (b .tables))) wordPlaces x 0 free g in
       never (w .marks .marks x l lt ∙ r) (rw d at (rw (eight (λ y. y) x g) at z)))
 
-  pub ended-look : (k : Look (List ℕ)) → List·Memᴰ k (w .seen) → k .line ≡ l → eqb (regionIn t es) (k .rid) ≡ false → s .over (k .rid) ≡ true
+  -- a look at the line is the writer's own, or of a region that has ended
+  ended-look : (k : Look (List ℕ)) → List·Memᴰ k (w .seen) → k .line ≡ l → eqb (regionIn t es) (k .rid) ≡ false → s .over (k .rid) ≡ true
   ended-look k p e n =
       test (s .over (k .rid)) (λ d. d)
       (λ d. let x : ℕ = threadOf (k .rid) in
