@@ -349,7 +349,7 @@ read-keeps t l w m b es ref kept = go (kept .simulated)
     inside : l < 256
     inside = omega (arith, leb-false (b .tables .size .lines) l (p 4), lines-256 (b .tables) (not-false (isSetUp (b .tables)) (p 6)))
 
-    -- the tables after the join and after the mark
+    -- the tables after the join, before the mark
     joined′ : Tables
     joined′ = read (current t (b .tables)) l (b .tables)
 
