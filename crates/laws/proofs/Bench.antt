@@ -82,7 +82,7 @@ pub record InStep (r : Recovering) (c : Bench) : Type 0 where
   pub near : r .at ≤ 256
 
 -- the eight bytes are read back
-call-same : {r : Recovering} {c : Bench} → InStep r c → nextCall c ≡ calledBy (restore r)
+pub call-same : {r : Recovering} {c : Bench} → InStep r c → nextCall c ≡ calledBy (restore r)
 unfolding recoveryCall
 call-same {r} {c} s =
     let l = length-bytes 8 (r .at) in
@@ -108,7 +108,7 @@ module _ {start : ℕ → List ℕ} {b : Board} {es : List Account} {s : u.State
       go [] k = n
       go (e ∷ fs) k = let l = length-drop (r .at) (walkEntries (saved b)) in let q = ap length k in let w = few-walked in omega arith
 
-  act-in-step : {r : Recovering} {c : Bench} (a : Act) → Standing rc i up quiet r → InStep r c → InStep (act r a) (benchAct c a)
+  pub act-in-step : {r : Recovering} {c : Bench} (a : Act) → Standing rc i up quiet r → InStep r c → InStep (act r a) (benchAct c a)
   unfolding act benchAct bytesOf
   act-in-step Restore p t =
       let q = call-same t in
@@ -121,7 +121,7 @@ module _ {start : ℕ → List ℕ} {b : Board} {es : List Account} {s : u.State
   acts-in-step (Restore ∷ as′) p t = acts-in-step as′ (step-stands rc i up quiet p) (act-in-step Restore p t)
   acts-in-step (PowerCut ∷ as′) p t = acts-in-step as′ (cut-stands rc i up quiet p) (act-in-step PowerCut p t)
 
-restores-acts : (n : ℕ) (r : Recovering) → acts r (replicate n Restore) ≡ restores n r
+pub restores-acts : (n : ℕ) (r : Recovering) → acts r (replicate n Restore) ≡ restores n r
 unfolding acts act restores
 restores-acts zero r = refl
 restores-acts (suc n) r = restores-acts n (restore r .after)
@@ -139,14 +139,14 @@ wrote-front bs d e =
     test (leb (length bs) (length d)) (λ a. rw a (take-append-seam bs (drop (0 + length bs) d)))
     (λ a. let z : 6 ≡ 0 = rw a at e in absurd (omega arith))
 
-save-accepted : (b : Board) (d : List ℕ) → save b d .answer .refusal ≡ 0 → FromCut b (save b d)
+pub save-accepted : (b : Board) (d : List ℕ) → save b d .answer .refusal ≡ 0 → FromCut b (save b d)
 unfolding save
 save-accepted b d e =
     test (isSetUp (b .tables) && b .tables .cut)
     (λ a. rw a (record { cut = and-true (isSetUp (b .tables)) (b .tables .cut) a .1; front = wrote-front (image b) d (rw a at e) }))
     (λ a. let z : 6 ≡ 0 = rw a at e in absurd (omega arith))
 
-zero-place : bytesOf 8 0 ≡ replicate 8 0
+pub zero-place : bytesOf 8 0 ≡ replicate 8 0
 unfolding bytesOf
 zero-place = refl
 

@@ -29,28 +29,28 @@ use Rattle.rules.specs.Walk.{entriesFrom, entriesOf, nextPlace, walk, wa
 -- ---- records
 
 -- request 1: "Document 01's cases have zeros there"
-abbrev setup′ : ℕ → ℕ → List ℕ
+abbrev pub setup′ : ℕ → ℕ → List ℕ
 setup′ n l = 0 ∷ n ∷ bytesOf 2 l ++ replicate 10 0
 
-abbrev begin′ : ℕ → List ℕ
+abbrev pub begin′ : ℕ → List ℕ
 begin′ t = 1 ∷ t ∷ []
 
-abbrev end′ : ℕ → List ℕ
+abbrev pub end′ : ℕ → List ℕ
 end′ t = 2 ∷ t ∷ []
 
 abbrev read′ : ℕ → ℕ → ℕ → List ℕ
 read′ t l w = 3 ∷ t ∷ l ∷ w ∷ []
 
-abbrev write′ : ℕ → ℕ → ℕ → ℕ → List ℕ
+abbrev pub write′ : ℕ → ℕ → ℕ → ℕ → List ℕ
 write′ t l w v = 4 ∷ t ∷ l ∷ w ∷ bytesOf 8 v
 
-abbrev logAck′ : ℕ → List ℕ
+abbrev pub logAck′ : ℕ → List ℕ
 logAck′ l = 5 ∷ l ∷ []
 
 abbrev dataAck′ : ℕ → List ℕ
 dataAck′ l = 6 ∷ l ∷ []
 
-abbrev cut′ : List ℕ
+abbrev pub cut′ : List ℕ
 cut′ = 8 ∷ []
 
 -- ---- a case: a file, its answers as pairs of refusal and value, the length of the image if it is cut (0 if not) and the recovered nonzero words
@@ -224,12 +224,12 @@ same (x ∷ xs) [] = false
 same (x ∷ xs) (y ∷ ys) = eqb x y && same xs ys
 
 -- the nonzero words of a line, from word w on
-lineWords : ℕ → ℕ → List ℕ → List ℕ
+unfoldable pub lineWords : ℕ → ℕ → List ℕ → List ℕ
 lineWords l w [] = []
 lineWords l w (v ∷ vs) = cond (eqb v 0) (lineWords l (suc w) vs) (l ∷ w ∷ v ∷ lineWords l (suc w) vs)
 
 -- the nonzero words of n lines found in an image, from line l on
-foundWords : ℕ → ℕ → List ℕ → List ℕ
+unfoldable pub foundWords : ℕ → ℕ → List ℕ → List ℕ
 unfolding lineWords wordsOf numOf
 foundWords l zero bs = []
 foundWords l (suc n) bs = lineWords l 0 (lineAt bs (lineStart l)) ++ foundWords (suc l) n bs

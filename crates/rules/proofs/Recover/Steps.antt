@@ -52,21 +52,21 @@ each-back : {A : Type 0} {P : A → Type 0} {xs ys : List A} → Each P xs → E
 each-back no-element f = f
 each-back (element a e) f = each-back e (element a f)
 
-each-drop : {A : Type 0} {P : A → Type 0} {xs : List A} (n : ℕ) → Each P xs → Each P (drop n xs)
+pub each-drop : {A : Type 0} {P : A → Type 0} {xs : List A} (n : ℕ) → Each P xs → Each P (drop n xs)
 each-drop zero no-element = no-element
 each-drop (suc n) no-element = no-element
 each-drop zero (element a e) = element a e
 each-drop (suc n) (element a e) = each-drop n e
 
-each-first : {A : Type 0} {P : A → Type 0} {x : A} {xs : List A} → Each P (x ∷ xs) → P x
+pub each-first : {A : Type 0} {P : A → Type 0} {x : A} {xs : List A} → Each P (x ∷ xs) → P x
 each-first (element a e) = a
 
-each-walked : {P : Logged → Type 0} {es : List Logged} (gs : List ℕ) → Each P es → Each P (entriesFrom es gs)
+pub each-walked : {P : Logged → Type 0} {es : List Logged} (gs : List ℕ) → Each P es → Each P (entriesFrom es gs)
 unfolding entriesFrom entriesOf
 each-walked [] e = no-element
 each-walked (g ∷ gs) e = each-append (each-back (each-keep (λ x. eqb (x .key) g) e) no-element) (each-walked gs e)
 
-undos-drop : (n : ℕ) (es : List Logged) → drop n (undos es) ≡ undos (drop n es)
+pub undos-drop : (n : ℕ) (es : List Logged) → drop n (undos es) ≡ undos (drop n es)
 undos-drop zero es = refl
 undos-drop (suc n) [] = refl
 undos-drop (suc n) (e ∷ es) = undos-drop n es
@@ -101,11 +101,11 @@ module _ {start : ℕ → List ℕ} {b : Board} {es : List Account} {s : u.State
         entries = λ r l. aimed-entries (savedLog 0 8 b) r l (single-chosen rc i r l) ∙ log-chosen rc i r l;
       }
 
-  the-walk : undos (walkEntries (saved b)) ≡ along entriesWalked regionsWalked
+  pub the-walk : undos (walkEntries (saved b)) ≡ along entriesWalked regionsWalked
   unfolding walkEntries entriesWalked
   the-walk = walk-along (saved b .log) (walk (saved b)) ∙ rw walk-is
 
-  walked : Each (GoodSaved b s) (walkEntries (saved b))
+  pub walked : Each (GoodSaved b s) (walkEntries (saved b))
   unfolding walkEntries saved
   walked = each-walked (walk (saved b)) (each-saved rc i 0 8 (omega arith))
 

@@ -57,7 +57,7 @@ module _ {m : ℕ → List ℕ} {b : Board} {es : List Account} {s : u.State (Li
   in-flight : isFlight (stateOf l (regionAt k (b .tables .regions) .slots)) ≡ true
   in-flight = sym (flight-carried l (good-at .distinct)) ∙ fl
 
-  flies-here : s .slot l k ≡ u.Flies (lineOf l (b .car))
+  pub flies-here : s .slot l k ≡ u.Flies (lineOf l (b .car))
   flies-here = i .slot l k ∙ ap (carryOf (b .car) l) (flight-state (stateOf l (regionAt k (b .tables .regions) .slots)) in-flight)
 
   good-landed : GoodRegion (landedRegion k l b)
@@ -148,13 +148,13 @@ module _ {m : ℕ → List ℕ} {b : Board} {es : List Account} {s : u.State (Li
 
 -- where a flight of line l is found
 module _ (rs : List Region) (l : ℕ) (g : Good rs) (e : any (λ r. any (carries l) (r .slots)) rs ≡ true) where
-  found-flight : any (carries l) (getD rs (flightPlace l rs) noRegion .slots) ≡ true
+  pub found-flight : any (carries l) (getD rs (flightPlace l rs) noRegion .slots) ≡ true
   found-flight = place-true (λ r. any (carries l) (r .slots)) rs noRegion e
 
-  found-key : getD rs (flightPlace l rs) noRegion .key ≢ 0
+  pub found-key : getD rs (flightPlace l rs) noRegion .key ≢ 0
   found-key z = false≢true (rw (g (flightPlace l rs) .free z) at found-flight)
 
-  found-listed : Unique rs → listed (getD rs (flightPlace l rs) noRegion .key) rs ≡ true
+  pub found-listed : Unique rs → listed (getD rs (flightPlace l rs) noRegion .key) rs ≡ true
   found-listed un = listed-at (flightPlace l rs) rs un found-key (place-lt (λ r. any (carries l) (r .slots)) rs e)
 
 pub lands : (l : ℕ) (m : Memory) (b : Board) (es : List Account) → refusal (b .tables) (DataAck l) ≡ 0 → Kept m b es

@@ -1,0 +1,4 @@
+pub mod Mixed
+pub mod Torn
+pub mod Choices
+pub mod Bench

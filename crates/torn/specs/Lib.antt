@@ -1,0 +1,3 @@
+pub mod Torn
+pub mod Choices
+pub mod Bench
