@@ -30,7 +30,8 @@ board_answer board_events(const uint8_t *file, size_t file_len, const uint8_t *m
    6 if no cut was accepted or the buffer is shorter than the image. */
 board_answer board_image(const uint8_t *file, size_t file_len, const uint8_t *memory, size_t memory_len, uint8_t *image, size_t image_len);
 
-/* One recovery step inside the image, which is lent alone, at the place in eight bytes, little-endian; a cut sets the place to 0.
+/* One recovery step inside the image, which is lent alone, at the place in eight bytes, little-endian; a cut sets the place to 0, between two steps or
+   inside one. Words of a line in flight at the cut, or of the line that a step was restoring, may be in the image or not: recovery finds the same memory.
    Its value is 1 while log entries remain after it ('more'), else 0 ('finished'). 6 if the place is not of eight bytes, then 1 to 8 for an image that is refused. */
 board_answer board_recovery_step(uint8_t *image, size_t image_len, uint8_t *place, size_t place_len);
 

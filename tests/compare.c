@@ -1,7 +1,7 @@
 /* compare SEED LISTS: the proved engine against the plain one, on random event files, valid and damaged: answers, images, images after
-   every recovery step, places, refusals of short buffers and of damaged images; and on every mask, every party and reserve of a setup, all pairs of
-   reserves that setup accepts, with begins that fill the channels, and every line that each thread reads and others write. The last line is 'N passed, M
-   failed'. */
+   every recovery step, of torn images and behind cuts inside a step too, places, refusals of short buffers and of damaged images; and on every mask, every
+   party and reserve of a setup, all pairs of reserves that setup accepts, with begins that fill the channels, and every line that each thread reads and
+   others write. The last line is 'N passed, M failed'. */
 #include <stdio.h>
 #include <stdlib.h>
 #include <string.h>
@@ -47,18 +47,58 @@ static size_t compare_image(size_t length, size_t memory_len, size_t room, unsig
     return a.refusal == 0 ? (size_t)a.value : 0;
 }
 
-/* Recovery steps with cuts between, until both have finished twice. */
-static void compare_recovery(size_t length, random_source *source, unsigned long long seed) {
+static size_t line_at(size_t line) { return 4 + 65 * line + 1; }
+
+/* A cut inside stores: of the words of lines that differ from an earlier image any are still as they were, in both images alike. */
+static void tear(random_source *source, const uint8_t *earlier, size_t length) {
+    for (size_t w = 0, at; (at = line_at(w / PLAIN_WORDS) + 8 * (w % PLAIN_WORDS)) + 8 <= length; w++)
+        if (memcmp(image[0] + at, earlier + at, 8) != 0 && random_chance(source, 2))
+            for (int k = 0; k < 2; k++) memcpy(image[k] + at, earlier + at, 8);
+}
+
+/* Recovery steps with cuts between and inside, until both have finished twice; gives whether they have. */
+static int compare_recovery(size_t length, random_source *source, unsigned long long seed) {
+    static uint8_t earlier[sizeof image[0]];
     uint8_t place[2][8] = {{0}, {0}};
-    for (int finished = 0, steps = 0; finished < 2 && steps < 2000; steps++) {
-        if (random_chance(source, 40)) memset(place, 0, sizeof place);
+    int finished = 0;
+    for (int steps = 0; finished < 2 && steps < 2000; steps++) {
+        uint64_t cut = random_below(source, 80);
+        if (cut == 0) memset(place, 0, sizeof place);
+        memcpy(earlier, image[0], length);
         board_answer a = board_recovery_step(image[0], length, place[0], 8);
         plain_answer b = plain_recovery_step(image[1], length, place[1], 8);
         check(agree(a, b), "answer of a recovery step", seed);
         check(memcmp(image[0], image[1], sizeof image[0]) == 0 && memcmp(place[0], place[1], 8) == 0, "image or place after a step", seed);
-        if (a.refusal != 0) return;
-        finished += a.value == 0;
+        if (a.refusal != 0) return 0;
+        if (cut == 1) {
+            tear(source, earlier, length);
+            memset(place, 0, sizeof place);
+        } else {
+            finished += a.value == 0;
+        }
     }
+    return finished == 2;
+}
+
+/* Both images with every line in flight at the file's cut as its flight carries it. */
+static void land_flights(size_t length, size_t memory_len) {
+    static plain_engine e;
+    plain_init_lent(&e, memory, memory_len);
+    for (size_t at = 0, next; (next = plain_record_length(file + at, length - at)) > 0; at += next) plain_event(&e, file + at, next);
+    for (size_t l = 0; l < e.lines; l++)
+        for (int k = 0; k < 2 && e.flight[l].number != 0; k++) put_line(image[k] + line_at(l), e.carried[l]);
+}
+
+/* Recovery of the saved image, and of the same torn by the cut: the memory found is the same. */
+static void compare_torn(size_t length, size_t memory_len, size_t image_len, random_source *source, unsigned long long seed) {
+    static uint8_t saved[sizeof image[0]], found[sizeof image[0]];
+    memcpy(saved, image[0], sizeof saved);
+    int finished = compare_recovery(image_len, source, seed);
+    memcpy(found, image[0], sizeof found);
+    for (int k = 0; k < 2; k++) memcpy(image[k], saved, sizeof saved);
+    land_flights(length, memory_len);
+    tear(source, saved, image_len);
+    if (compare_recovery(image_len, source, seed) && finished) check(memcmp(image[0], found, image_len) == 0, "memory found from a torn image", seed);
 }
 
 /* A recovery step on an image with one byte changed, cut short or lengthened. */
@@ -115,7 +155,7 @@ static void compare_file(unsigned long long seed) {
     if (image_len == 0) return;
     if (image_len < 700 && seed % 16 == 0) compare_every_byte(image_len, seed);
     compare_damaged(image_len, &source, seed);
-    if (compare_image(length, memory_len, sizeof image[0], seed) == image_len) compare_recovery(image_len, &source, seed);
+    if (compare_image(length, memory_len, sizeof image[0], seed) == image_len) compare_torn(length, memory_len, image_len, &source, seed);
 }
 
 /* The start call, also with fewer and more than ten bytes of parties and reserves. */

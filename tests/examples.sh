@@ -1,9 +1,11 @@
 #!/usr/bin/env bash
-# examples.sh BUILD: the example benches of that directory, on every sample. The readable form, the answers and the recovered words must be those of the
-# proved programs totext, tobytes and trace. The last line is 'N passed, M failed'.
+# examples.sh BUILD CC: the example benches of that directory, on every sample. The readable form, the answers and the recovered words must be those of the
+# proved programs totext, tobytes and trace; over wrong boards, which the compiler makes of the plain engine, tear must tell. The last line is 'N passed,
+# M failed'.
 set -euo pipefail
 cd "$(dirname "$0")"
 build=$1
+cc=$2
 bin=../target/bin
 scratch=$(mktemp -d)
 trap 'rm -rf "$scratch"' EXIT
@@ -31,12 +33,15 @@ in_words() {
     if [ "$1" = 0 ]; then echo "accepted, value $2"; else echo "refusal $1, value $2"; fi
 }
 
-# replayed FILE ANSWERS: what replay prints, without the words of a refusal, and its exit code.
-replayed() {
-    local code=0 said
-    said=$("$build/replay" "$1" "$2") || code=$?
-    printf '%s\nexit %d\n' "$said" "$code" | sed 's/ ([^)]*)//g'
+# said COMMAND: what a program prints, and its exit code.
+said() {
+    local code=0
+    "$@" 2>&1 || code=$?
+    echo "exit $code"
 }
+
+# replayed FILE ANSWERS: what replay prints, without the words of a refusal, and its exit code.
+replayed() { said "$build/replay" "$1" "$2" | sed 's/ ([^)]*)//g'; }
 
 # replay_file FILE: right answers agree; a wrong refusal and a wrong value are found at each event; answers too few and too many.
 replay_file() {
@@ -63,14 +68,23 @@ replay_file() {
         "$(replayed "$1" "$cut")"
 }
 
-# found FILE STEPS: the words that the bench finds in the end, as the trace program prints them.
-found() { "$build/bench" "$@" | sed -e '1,/^words found:/d' -e 's/^  line \([0-9]*\) word \([0-9]*\): /M \1 \2 /'; }
+# found EXAMPLE FILE [STEPS]: the words that an example finds in the end, as the trace program prints them, and its exit code.
+found() { said "$build/$1" "${@:2}" | sed -e '1,/^words found:/d' -e 's/^  line \([0-9]*\) word \([0-9]*\): /M \1 \2 /'; }
+
+# due FILE: the words that recovery leaves, by the trace program, and the exit code that is due with them.
+due() {
+    "$bin/trace" < "$1" | grep '^M' || true
+    echo 'exit 0'
+}
 
 for text in ../samples/*.txt; do
     file=${text%.txt}.events
     check "$text" "$(od -An -tx1 "$file")" "$("$bin/tobytes" < "$text" | od -An -tx1)"
     replay_file "$file"
-    if grep -q '^cut' "$text"; then check "$file" "$("$bin/trace" < "$file" | grep '^M' || true)" "$(found "$file")"; fi
+    if grep -q '^cut' "$text"; then
+        check "$file" "$(due "$file")" "$(found bench "$file")"
+        check "$file torn" "$(due "$file")" "$(found tear "$file")"
+    fi
 done
 
 check 'the values of the fences' '1 1 0 0 0 1 1 0' "$("$bin/trace" < ../samples/fence.events | grep '^7' | cut -d ' ' -f 3 | paste -sd ' ')"
@@ -103,8 +117,33 @@ check 'setups with other lines, refused' '6 6 6 0 16 0' "$(od -An -v -w9 -tu1 "$
 # power lost after any number of recovery steps: the same memory is found
 check 'the whole output of the bench' "$(cat recovery.expected)" "$("$build/bench" ../samples/recovery.events)"
 for steps in 0 1 2 3 4 5 6 7 8 9 10 11; do
-    check "power lost after step $steps" "$("$bin/trace" < ../samples/recovery.events | grep '^M')" "$(found ../samples/recovery.events $steps)"
+    check "power lost after step $steps" "$(due ../samples/recovery.events)" "$(found bench ../samples/recovery.events $steps)"
 done
+
+# power lost inside a store: the lines in flight are those at the accepted cut, wherever it stands in the file
+torn=$(cat torn.expected)$'\nexit 0'
+check 'the whole output of tear' "$torn" "$(said "$build/tear" ../samples/torn.events)"
+printf '%s\n' cut 'setup 9 5 0 0 0 0 0 0 0 0 0 0' "$(cat ../samples/torn.txt)" 'data-ack 1' cut 'bytes 200' | "$bin/tobytes" > "$scratch/between"
+check 'a cut between others that are refused' "$torn" "$(said "$build/tear" "$scratch/between")"
+check 'no file' 'usage: tear FILE'$'\n''exit 2' "$(said "$build/tear")"
+check 'a file that is not there' "tear: cannot read $scratch/none"$'\n''exit 2' "$(said "$build/tear" "$scratch/none")"
+check 'a file without a cut' 'no image: refused with 6'$'\n''exit 1' "$(said "$build/tear" ../samples/p4.events)"
+
+# torn_on EDIT: what tear says of a board that is the plain engine with its recovery step edited.
+torn_on() {
+    sed "$1" plain/image.c > "$scratch/image.c"
+    "$cc" -std=c11 -Iplain -Dboard_answer=plain_answer -Dboard_events=plain_events -Dboard_image=plain_image -Dboard_recovery_step=plain_recovery_step \
+        -o "$scratch/tear" ../examples/tear.c ../examples/event_file.c ../examples/saved_image.c plain/plain.c "$scratch/image.c"
+    said "$scratch/tear" ../samples/torn.events
+}
+check 'the plain engine' "$torn" "$(torn_on '')"
+check 'a step that leaves the first word' $'line 0, torn by the words 0: recovery finds other memory\nexit 1' \
+    "$(torn_on 's/image + line_at(log->line), image + log->old_at, PLAIN_LINE_BYTES/8 + image + line_at(log->line), 8 + image + log->old_at, 56/' | tail -n 2)"
+check 'a step that takes a line for restored if the first word is' $'recovery step 3, torn by the words 0: recovery finds other memory\nexit 1' \
+    "$(torn_on 's/^    memcpy(image + line_at(log->line),/    if (get64(image + line_at(log->line)) != get64(image + log->old_at))&/' | tail -n 2)"
+check "a step that says 'finished' too early" $'the image as it was saved: \'finished\' comes too early or too late\nexit 1' \
+    "$(torn_on 's/step + 1 < c.logs/step + 2 < c.logs/' | tail -n 2)"
+
 # in_parts FILE SIZE: the bytes of a file through a pipe, so many at a time.
 in_parts() {
     local at=0 n

@@ -1,8 +1,9 @@
-/* Demand 3 tried on the plain engine: seeded event lists, a cut after any event, recovery steps with cuts between.
-   What must be found is worked out of the list of accepted events and the set of committed regions. So is what a party holds in a channel: below its
-   reserve it never meets 16 at a begin whose number falls there. So is the count of every slot: the different other lines that its region has written
-   since its last write of the slot's line. So are the lines that open regions have read, and what a read gives: as if the committed regions ran one after
-   another in the order they ended. */
+/* Demand 3 tried on the plain engine: seeded event lists, a cut after any event, recovery steps with cuts between. Each image is tried as it was saved, and
+   torn: any words of each line in flight at the cut are in the medium, and cuts fall inside recovery steps, with any words of the line that was restored.
+   What must be found is the same in both, worked out of the list of accepted events and the set of committed regions. So is what a party holds in a
+   channel: below its reserve it never meets 16 at a begin whose number falls there. So is the count of every slot: the different other lines that its
+   region has written since its last write of the slot's line; and what a flight carries: the line as that write left it. So are the lines that open
+   regions have read, and what a read gives: as if the committed regions ran one after another in the order they ended. */
 #include <stdio.h>
 #include <stdlib.h>
 #include <string.h>
@@ -10,7 +11,7 @@
 #include "common.h"
 #include "random.h"
 
-static uint64_t seed, cuts_tried, steps_tried, regions_committed, reads_committed, writes_kept_off;
+static uint64_t seed, cuts_tried, steps_tried, lines_torn, steps_torn, regions_committed, reads_committed, writes_kept_off;
 
 static void require(int holds, const char *what) {
     if (holds) return;
@@ -159,7 +160,15 @@ static void check_channel(const plain_engine *e, int channel) {
     }
 }
 
-/* ---- Counts ---- */
+/* ---- Slots ---- */
+
+static uint8_t start_memory[PLAIN_LINES * PLAIN_LINE_BYTES];
+
+/* The bytes of a write go into its word. */
+static void store(const history_write *w, uint8_t word[8]) {
+    for (int b = 0; b < 8; b++)
+        if ((w->mask & 1 << b) != 0) word[b] = w->bytes[b];
+}
 
 enum { NEIGHBOURS = 4 }; /* the request's number, whatever the engine's is */
 
@@ -191,9 +200,21 @@ static void check_count(plain_region r, const plain_modified *m, const plain_slo
     else require(m->ended || different == NEIGHBOURS, "a flight out of an open region");
 }
 
-/* ---- Reads ---- */
+/* A flight carries the line as its region's last write of it left it, whoever has written it since. */
+static void check_carried(int region, size_t line, plain_line carried) {
+    uint8_t now[PLAIN_LINE_BYTES], due[PLAIN_LINE_BYTES] = {0}, found[PLAIN_LINE_BYTES];
+    memcpy(now, start_memory + PLAIN_LINE_BYTES * line, sizeof now);
+    for (int i = 0; i < history.writes; i++) {
+        const history_write *w = &history.write[i];
+        if (w->at / PLAIN_LINE_BYTES != line) continue;
+        store(w, now + w->at % PLAIN_LINE_BYTES);
+        if (w->region == region) memcpy(due, now, sizeof due);
+    }
+    put_line(found, carried);
+    require(memcmp(found, due, sizeof due) == 0, "what a flight carries");
+}
 
-static uint8_t start_memory[PLAIN_LINES * PLAIN_LINE_BYTES];
+/* ---- Reads ---- */
 
 /* An accepted read of a region that is open now, of another thread than the writer, has been of this line. */
 static int is_being_read(uint8_t line, uint8_t writer) {
@@ -217,9 +238,7 @@ static void check_writer(const uint8_t *record, uint8_t refusal) {
 static void apply_writes(uint8_t word[8], size_t at, int region, int writes) {
     for (int i = 0; i < writes; i++) {
         const history_write *w = &history.write[i];
-        if (w->region != region || w->at != at) continue;
-        for (int b = 0; b < 8; b++)
-            if ((w->mask & 1 << b) != 0) word[b] = w->bytes[b];
+        if (w->region == region && w->at == at) store(w, word);
     }
 }
 
@@ -255,6 +274,7 @@ static void check_slots(const plain_engine *e, plain_region r, const plain_modif
         if (s->state == SLOT_IN_FLIGHT) {
             flights[s->line]++;
             require(same(e->flight[s->line], r), "the line's flight is another's");
+            check_carried(index_of(r), s->line, e->carried[s->line]);
         } else {
             require(e->locked[s->line] || (s->count < NEIGHBOURS && !m->ended), "a waiting slot that may fly");
         }
@@ -291,14 +311,14 @@ static void check_tables(const plain_engine *e) {
 
 /* ---- A cut here, and recovery ---- */
 
+enum { TEARS = 4 }; /* times that each image is torn */
+
 /* The starting memory with the writes of the committed regions, in event order. */
 static void expected_memory(uint8_t *memory, size_t length) {
     memcpy(memory, start_memory, length);
     for (int i = 0; i < history.writes; i++) {
         const history_write *w = &history.write[i];
-        if (!history.region[w->region].committed) continue;
-        for (int b = 0; b < 8; b++)
-            if ((w->mask & 1 << b) != 0) memory[w->at + b] = w->bytes[b];
+        if (history.region[w->region].committed) store(w, memory + w->at);
     }
 }
 
@@ -308,13 +328,46 @@ static uint64_t count_logs(const uint8_t *image, size_t length) {
     return contents.logs;
 }
 
-/* Steps with cuts between, then from the last cut on until 'finished', which must come in time and not before. */
-static void recover(random_source *source, uint8_t *image, size_t length) {
+static size_t line_at(size_t line) { return 4 + 65 * line + 1; }
+
+/* None, one, all or any words of the whole line have reached the line. Gives whether it is torn: neither as it was nor whole. */
+static int tear_line(random_source *source, uint8_t *line, const uint8_t *whole) {
+    uint8_t was[PLAIN_LINE_BYTES], words = random_mask(source);
+    memcpy(was, line, sizeof was);
+    for (int w = 0; w < PLAIN_WORDS; w++)
+        if ((words & 1 << w) != 0) memcpy(line + 8 * w, whole + 8 * w, 8);
+    return memcmp(line, was, sizeof was) != 0 && memcmp(line, whole, sizeof was) != 0;
+}
+
+/* The lines in flight at the cut, each by words of the line that its flight carries. */
+static void tear_flights(random_source *source, const plain_engine *e, uint8_t *image) {
+    for (size_t l = 0; l < e->lines; l++) {
+        uint8_t whole[PLAIN_LINE_BYTES];
+        if (e->flight[l].number == 0) continue;
+        put_line(whole, e->carried[l]);
+        lines_torn += tear_line(source, image + line_at(l), whole);
+    }
+}
+
+/* The line that the step at this place was restoring, if one is left there. */
+static void tear_step(random_source *source, uint8_t *image, size_t length, uint64_t place) {
+    plain_contents contents;
+    uint32_t order[PLAIN_LOGGED];
+    require(plain_read_image(image, length, &contents) == 0, "an image is refused before a step");
+    if (place >= contents.logs) return;
+    plain_walk(&contents, order);
+    const plain_image_log *log = &contents.log[order[place]];
+    steps_torn += tear_line(source, image + line_at(log->line), image + log->old_at);
+}
+
+/* Steps with cuts between, or inside a step, then from the last cut on until 'finished', which must come in time and not before. */
+static void recover(random_source *source, uint8_t *image, size_t length, int torn) {
     uint8_t place[8] = {0};
     uint64_t logs = count_logs(image, length), due = logs > 0 ? logs : 1;
     for (uint64_t cuts = random_below(source, 4); cuts > 0; cuts--) {
         for (uint64_t steps = random_below(source, due + 2); steps > 0; steps--)
             require(plain_recovery_step(image, length, place, sizeof place).refusal == 0, "a step is refused");
+        if (torn) tear_step(source, image, length, get64(place));
         memset(place, 0, sizeof place);
     }
     for (uint64_t i = 1; i <= due; i++, steps_tried++) {
@@ -324,23 +377,30 @@ static void recover(random_source *source, uint8_t *image, size_t length) {
     require(get64(place) == logs, "place at 'finished'");
 }
 
-/* Cuts a copy of the engine, saves, recovers, and compares the memory found. */
+/* Recovers a copy of the saved image, torn or not, and compares the memory found; nothing but lines may have changed. */
+static void try_image(random_source *source, const plain_engine *e, const uint8_t *saved, size_t length, int torn) {
+    static uint8_t image[PLAIN_IMAGE_BYTES], memory[sizeof start_memory];
+    size_t behind = 4 + 65 * (size_t)e->lines;
+    memcpy(image, saved, length);
+    if (torn) tear_flights(source, e, image);
+    recover(source, image, length, torn);
+    expected_memory(memory, PLAIN_LINE_BYTES * (size_t)e->lines);
+    for (size_t l = 0; l < e->lines; l++)
+        require(memcmp(image + line_at(l), memory + PLAIN_LINE_BYTES * l, PLAIN_LINE_BYTES) == 0, "the memory found");
+    require(memcmp(image + behind, saved + behind, length - behind) == 0, "a step changed more than a line");
+}
+
+/* Cuts a copy of the engine and saves; tries the image as it is, then torn. */
 static void try_cut(random_source *source, const plain_engine *engine) {
     static plain_engine e;
-    static uint8_t image[PLAIN_IMAGE_BYTES], saved[PLAIN_IMAGE_BYTES], memory[sizeof start_memory];
+    static uint8_t image[PLAIN_IMAGE_BYTES];
     int uncommitted = 0;
     for (int i = 0; i < history.regions; i++) uncommitted += !history.region[i].committed;
     e = *engine;
     plain_answer cut = plain_event(&e, (uint8_t[]){EVENT_CUT}, 1), save = plain_save(&e, image, sizeof image);
     require(cut.refusal == 0 && cut.value == (uint64_t)uncommitted, "value of the cut");
     require(save.refusal == 0, "the image is not saved");
-    memcpy(saved, image, save.value);
-    recover(source, image, save.value);
-    expected_memory(memory, PLAIN_LINE_BYTES * (size_t)e.lines);
-    for (size_t l = 0; l < e.lines; l++)
-        require(memcmp(image + 4 + 65 * l + 1, memory + PLAIN_LINE_BYTES * l, PLAIN_LINE_BYTES) == 0, "the memory found");
-    size_t behind = 4 + 65 * (size_t)e.lines;
-    require(memcmp(image + behind, saved + behind, save.value - behind) == 0, "a step changed more than a line");
+    for (int torn = 0; torn <= TEARS; torn++) try_image(source, &e, image, save.value, torn > 0);
     cuts_tried++;
 }
 
@@ -429,8 +489,9 @@ static void try_list(void) {
 int main(int argc, char **argv) {
     uint64_t lists = argc > 1 ? strtoull(argv[1], NULL, 10) : 2000;
     for (seed = 1; seed <= lists; seed++) try_list();
-    printf("demand 3: %llu lists, %llu cuts, %llu last-run recovery steps, %llu commits, %llu reads of committed regions, %llu times 25, 0 failed\n",
-           (unsigned long long)lists, (unsigned long long)cuts_tried, (unsigned long long)steps_tried, (unsigned long long)regions_committed,
-           (unsigned long long)reads_committed, (unsigned long long)writes_kept_off);
+    printf("demand 3: %llu lists, %llu cuts, %llu last-run recovery steps, %llu lines torn by a cut, %llu by a cut inside a step, %llu commits, "
+           "%llu reads of committed regions, %llu times 25, 0 failed\n",
+           (unsigned long long)lists, (unsigned long long)cuts_tried, (unsigned long long)steps_tried, (unsigned long long)lines_torn,
+           (unsigned long long)steps_torn, (unsigned long long)regions_committed, (unsigned long long)reads_committed, (unsigned long long)writes_kept_off);
     return 0;
 }

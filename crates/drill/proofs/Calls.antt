@@ -8,6 +8,7 @@ use Rattle.rules.specs.Run.{run}
 use Rattle.rules.specs.Step.{Stepped}
 use Rattle.rules.specs.Tables.{Board}
 use Rattle.rules.specs.declared.Answer.{Answer}
+use Rattle.torn.proofs.Torn.{torn-recovery}
 
 pub calls-run : {b c : Board} {rs : List (List ℕ)} {as′ : List Answer} → Calls b rs c as′ → (c ≡ run b rs .board) × (as′ ≡ run b rs .answers)
 unfolding run
@@ -19,4 +20,4 @@ calls-run (call {b = b} {r = r} {rs = rs} {a = a} e k) =
     )
 
 pub calls-recover : CallsRecover
-calls-recover m rs b as′ ss k bm br cut = (calls-run k .0, recovery-is-right m rs ss bm br cut)
+calls-recover m rs b as′ ss p ts k bm br cut = (calls-run k .0, (recovery-is-right m rs ss bm br cut, torn-recovery m rs p ts bm br cut))

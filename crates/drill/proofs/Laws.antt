@@ -1,6 +1,6 @@
 -- The bytes of a file are those of its records; what an accepted and a refused save give; what is then true of a drill.
 use Prim.Native.Nat.{_+_, _<_, _≤_, suc, ℕ}
-use mathlib.Core.Bool.{_&&_, true}
+use mathlib.Core.Bool.{Bool, _&&_, false, true}
 use mathlib.Core.List.{List, _++_}
 use mathlib.Core.Logic.{_≢_}
 use mathlib.Core.Path.{_∙_, _≡_, ap, refl, sym}
@@ -12,40 +12,65 @@ use native.Mathlib.Omega.{arith}
 use borrow.Author.Tests.{eq-eqb, ne-eqb}
 use Rattle.rules.proofs.Cuts.{cut-is}
 use Rattle.rules.proofs.Laws.{records-bytes}
-use Rattle.rules.proofs.Main.{recovery-is-right}
 use Rattle.rules.specs.Bytes.{paste}
-use Rattle.rules.specs.Claim.{Holds, boardAfter, isByte}
+use Rattle.rules.specs.Claim.{boardAfter, isByte}
 use Rattle.rules.specs.History.{memoryFound}
 use Rattle.rules.specs.Image.{image, imageCall, save}
 use Rattle.rules.specs.Lists.{all}
 use Rattle.rules.specs.Record.{recordsOf}
-use Rattle.rules.specs.Recovery.{Recovering, act, acts, isFinished, restore}
+use Rattle.rules.specs.Recovery.{Recovering, Restored, act, isFinished, restore}
 use Rattle.rules.specs.Refusal.{isSetUp}
 use Rattle.rules.specs.Run.{Wrote, wroteInto}
-use Rattle.rules.specs.Tables.{Board, Lent}
+use Rattle.rules.specs.Tables.{Board, Lent, Memory}
 use Rattle.rules.specs.declared.Answer.{Answer}
+use Rattle.torn.proofs.Choices.{at-the-cut}
+use Rattle.torn.proofs.Torn.{cut-place, torn-recovery}
+use Rattle.torn.specs.Torn.{Inside, TornHolds, tornAct, tornActs, tornRecovering}
 use Rattle.undo.proofs.Laws.{and-true, test}
-use Rattle.drill.specs.Drilled.{Drilled, Step, actOf, actsOf, ended, lastStep, stepOf, stepped}
+use Rattle.drill.specs.Drilled.{Drilled, Recovered, Step, TornFrom, actOf, actsOf, afterActs, ended, lastStep, stepOf, stepped, wordsOf}
 
 -- ---- acts one by one
 
 module _ (r : Recovering) where
-  pub act-cut : (w : ℕ) → w ≢ 0 → _≡_ {A = Recovering} (record { bytes = r .bytes; at = 0 }) (act r (actOf w))
-  unfolding act
-  act-cut w n = rw (ne-eqb w 0 n)
+  pub act-between : (a : ℕ) → a ≡ 0 → _≡_ {A = Recovering} (record { bytes = r .bytes; at = 0 }) (tornAct r (actOf a))
+  unfolding actOf tornAct act
+  act-between a e = rw (eq-eqb a 0 e)
 
-  pub act-step : (w : ℕ) → w ≡ 0 → restore r .after ≡ act r (actOf w)
-  unfolding act
-  act-step w e = rw (eq-eqb w 0 e)
+  pub act-step : (a : ℕ) → a ≢ 0 → a ≡ 255 → restore r .after ≡ tornAct r (actOf a)
+  unfolding actOf tornAct act
+  act-step a n e = rw (ne-eqb a 0 n, eq-eqb a 255 e)
+
+  pub act-inside : (a : ℕ) → a ≢ 0 → a ≢ 255 → _≡_ {A = Recovering} (record { bytes = tornAct r (Inside (wordsOf a)) .bytes; at = 0 }) (tornAct r (actOf a))
+  unfolding actOf
+  act-inside a n k =
+      let z : tornAct r (Inside (wordsOf a)) .at ≡ 0 = cut-place r (Inside (wordsOf a)) refl in
+      rw (ne-eqb a 0 n, ne-eqb a 255 k) (λ i. record { bytes = tornAct r (Inside (wordsOf a)) .bytes; at = sym z i })
 
   module _ (as′ : List ℕ) (i : ℕ) where
-    pub acts-more : i < length as′ → (s : Recovering) → s ≡ act r (actOf (getD as′ i 0)) → acts s (actsOf (drop (i + 1) as′)) ≡ acts r (actsOf (drop i as′))
-    unfolding acts
+    pub acts-more : i < length as′ → (s : Recovering) → s ≡ tornAct r (actOf (getD as′ i 0)) → tornActs s (actsOf (drop (i + 1) as′)) ≡ tornActs r (actsOf (drop i as′))
+    unfolding tornActs
     acts-more h s e = let n : i + 1 ≡ suc i = omega arith in rw (n, e, drop-cons as′ i 0 h)
 
-    pub acts-none : length as′ ≤ i → acts r (actsOf (drop i as′)) ≡ r
-    unfolding acts
+    pub acts-none : length as′ ≤ i → tornActs r (actsOf (drop i as′)) ≡ r
+    unfolding tornActs
     acts-none h = rw (drop-of-length-le as′ h)
+
+-- ---- acts and one more step, on a torn image
+
+pub recovered-right : (bs as′ e : List ℕ) (r : Answer) → stepped r e ≡ lastStep bs as′ → Recovered bs as′ e r
+recovered-right bs as′ e r s =
+    record {
+      steps = s;
+      accepts = λ m rs p t. ap (λ (x : Step). x .answer .refusal) (s ∙ begun m rs p t) ∙ holds m rs p t .accepts;
+      recovers = λ m rs p t f. ap (λ (x : Step). memoryFound (x .bytes)) (s ∙ begun m rs p t)
+          ∙ holds m rs p t .recovers (sym (ap (λ (x : Step). isFinished (x .answer)) (s ∙ begun m rs p t)) ∙ f);
+    }
+  where
+    holds : (m : Memory) (rs : List (List ℕ)) (p : ℕ → ℕ → Bool) → TornFrom m rs p bs → TornHolds m rs p (actsOf as′)
+    holds m rs p t = torn-recovery m rs p (actsOf as′) (t .memory) (t .records) (t .cut)
+
+    begun : (m : Memory) (rs : List (List ℕ)) (p : ℕ → ℕ → Bool) → TornFrom m rs p bs → lastStep bs as′ ≡ stepOf (restore (tornRecovering m rs p (actsOf as′)))
+    begun m rs p t = ap (λ x. lastStep x as′) (t .image)
 
 -- ---- an image at the start of a buffer
 
@@ -128,9 +153,13 @@ module _ (file memory as′ d e : List ℕ) (a : Answer) (q : _≡_ {A = Wrote} 
     back = rw (size, buffer) (drop-image d (image left))
 
     module _ (bf : all isByte file ≡ true) (bm : all isByte memory ≡ true) where
-      holds : Holds (Lent memory) (recordsOf file) (actsOf as′)
-      holds = recovery-is-right (Lent memory) (recordsOf file) (actsOf as′) bm (records-bytes 0 file bf)
+      holds : TornHolds (Lent memory) (recordsOf file) (λ l w. false) (actsOf as′)
+      holds = torn-recovery (Lent memory) (recordsOf file) (λ l w. false) (actsOf as′) bm (records-bytes 0 file bf)
           (sym (cut-is (Lent memory) (recordsOf file)) ∙ accepted .0)
+
+      -- with no word torn the acts begin on the image saved
+      begun : restore (tornRecovering (Lent memory) (recordsOf file) (λ l w. false) (actsOf as′)) ≡ ended file memory as′
+      begun = ap (λ bs. restore (afterActs bs 0 as′)) (at-the-cut left .none)
 
       -- the buffer's front was lent, and holds zs behind the last step
       pub drill-accepted : (l : Answer) (zs : List ℕ) → length zs ≡ length (take (a .value) e) → stepped l zs ≡ lastStep (take (a .value) e) as′
@@ -145,7 +174,8 @@ module _ (file memory as′ d e : List ℕ) (a : Answer) (q : _≡_ {A = Wrote} 
             refuses = λ f. absurd (f z);
             restores = λ _. ap (λ bs. bs ++ drop (a .value) e) bytes ∙ ap (λ bs. ended file memory as′ .after .bytes ++ bs) back;
             answers = λ _. ap (λ (x : Step). x .answer) s;
-            accepts = λ _. ap (λ (x : Step). x .answer .refusal) s ∙ holds .accepts;
-            recovers = λ _ f. ap memoryFound (t ∙ bytes) ∙ holds .recovers (sym (ap (λ (x : Step). isFinished (x .answer)) s) ∙ f);
+            accepts = λ _. ap (λ (x : Step). x .answer .refusal) s ∙ (ap (λ (x : Restored). x .answer .refusal) (sym begun) ∙ holds .accepts);
+            recovers = λ _ f. ap memoryFound (t ∙ bytes) ∙ (ap (λ (x : Restored). memoryFound (x .after .bytes)) (sym begun)
+                ∙ holds .recovers (ap (λ (x : Restored). isFinished (x .answer)) begun ∙ (sym (ap (λ (x : Step). isFinished (x .answer)) s) ∙ f)));
             holds = λ _. holds;
           }

@@ -2,29 +2,47 @@
 use Prim.Native.Nat.{ℕ}
 use mathlib.Core.Path.{_≡_}
 use mathlib.Core.Logic.{_≢_}
-use mathlib.Core.Bool.{cond, true}
+use mathlib.Core.Bool.{Bool, cond, false, true}
 use mathlib.Core.List.{List, _++_, map}
 use lib.Dec.{eqb}
 use lib.ListN.{drop, take}
 use Rattle.drill.specs.declared.DrillAnswers.{DrillAnswers}
-use Rattle.rules.specs.Claim.{Holds, recovering}
-use Rattle.rules.specs.History.{expectedBytes, memoryFound}
-use Rattle.rules.specs.Image.{imageCall}
+use Rattle.rules.specs.Access.{isSet}
+use Rattle.rules.specs.Claim.{boardAfter, isByte, isByteMemory}
+use Rattle.rules.specs.History.{acceptedIn, expectedBytes, hasCut, memoryFound}
+use Rattle.rules.specs.Image.{image, imageCall}
+use Rattle.rules.specs.Lists.{all}
 use Rattle.rules.specs.Record.{recordsOf}
-use Rattle.rules.specs.Recovery.{Act, PowerCut, Recovering, Restore, Restored, acts, isFinished, restore}
-use Rattle.rules.specs.Tables.{Lent}
+use Rattle.rules.specs.Recovery.{Recovering, Restored, isFinished, restore}
+use Rattle.rules.specs.Tables.{Lent, Memory}
 use Rattle.rules.specs.declared.Answer.{Answer}
+use Rattle.torn.specs.Torn.{Between, Inside, TornAct, TornHolds, Whole, tornAct, tornActs, tornImage}
 
--- the act of a byte: 0 is a recovery step, any other a power cut
-abbrev pub actOf : ℕ → Act
-actOf a = cond (eqb a 0) Restore PowerCut
+-- the words that the bits of a byte choose, bit 0 for word 0
+abbrev pub wordsOf : ℕ → ℕ → Bool
+wordsOf a w = isSet w a
 
-abbrev pub actsOf : List ℕ → List Act
+-- the act of a byte: 255 is a recovery step, 0 a power cut between two steps, any other one inside a step, by which the words of its bits had been restored
+unfoldable pub actOf : ℕ → TornAct
+actOf a = cond (eqb a 0) Between (cond (eqb a 255) Whole (Inside (wordsOf a)))
+
+abbrev pub actsOf : List ℕ → List TornAct
 actsOf as′ = map actOf as′
+
+-- the bytes of an image after a step at a place that was cut inside
+abbrev pub cutInside : List ℕ → ℕ → ℕ → List ℕ
+cutInside bs at a = tornAct (record { bytes = bs; at = at }) (Inside (wordsOf a)) .bytes
 
 -- image and place after acts on an image at a place
 abbrev pub afterActs : List ℕ → ℕ → List ℕ → Recovering
-afterActs bs at as′ = acts (record { bytes = bs; at = at }) (actsOf as′)
+afterActs bs at as′ = tornActs (record { bytes = bs; at = at }) (actsOf as′)
+
+-- the image is what the choice p of words leaves of the list of events, in which a cut was accepted
+pub record TornFrom (m : Memory) (rs : List (List ℕ)) (p : ℕ → ℕ → Bool) (bs : List ℕ) : Type 0 where
+  pub memory : isByteMemory m ≡ true
+  pub records : all (all isByte) rs ≡ true
+  pub cut : hasCut (acceptedIn m rs) ≡ true
+  pub image : bs ≡ tornImage p (boardAfter m rs)
 
 -- an answer, and the bytes of the image
 pub record Step : Type 0 where
@@ -41,9 +59,17 @@ stepOf s = stepped (s .answer) (s .after .bytes)
 abbrev pub lastStep : List ℕ → List ℕ → Step
 lastStep bs as′ = stepOf (restore (afterActs bs 0 as′))
 
+-- acts on an image and one more step, which answers r and leaves the bytes e
+pub record Recovered (bs as′ e : List ℕ) (r : Answer) : Type 0 where
+  pub steps : stepped r e ≡ lastStep bs as′
+  -- on every image that a choice of words has left at the cut of a list of events: the step is accepted, and if it answers 'finished', the memory found is the
+  -- expected memory
+  pub accepts : (m : Memory) (rs : List (List ℕ)) (p : ℕ → ℕ → Bool) → TornFrom m rs p bs → r .refusal ≡ 0
+  pub recovers : (m : Memory) (rs : List (List ℕ)) (p : ℕ → ℕ → Bool) → TornFrom m rs p bs → isFinished r ≡ true → memoryFound e ≡ expectedBytes m rs
+
 -- the last step of a drill, by the definitions alone: on the image that the events of the file left
 abbrev pub ended : List ℕ → List ℕ → List ℕ → Restored
-ended file memory as′ = restore (recovering (Lent memory) (recordsOf file) (actsOf as′))
+ended file memory as′ = restore (afterActs (image (boardAfter (Lent memory) (recordsOf file))) 0 as′)
 
 -- a drill with a buffer that held d before it and holds e after it
 pub record Drilled (file memory as′ d e : List ℕ) (r : DrillAnswers) : Type 0 where
@@ -59,4 +85,4 @@ pub record Drilled (file memory as′ d e : List ℕ) (r : DrillAnswers) : Type 
   -- and if it answers 'finished', the memory found in the buffer is the expected memory
   pub recovers : r .saved .refusal ≡ 0 → isFinished (r .last) ≡ true → memoryFound (take (r .saved .value) e) ≡ expectedBytes (Lent memory) (recordsOf file)
   -- and all of demand 3 holds of the file and the acts: a pass finishes in time, and what a committed region drew on had committed
-  pub holds : r .saved .refusal ≡ 0 → Holds (Lent memory) (recordsOf file) (actsOf as′)
+  pub holds : r .saved .refusal ≡ 0 → TornHolds (Lent memory) (recordsOf file) (λ l w. false) (actsOf as′)

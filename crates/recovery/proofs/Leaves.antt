@@ -15,16 +15,15 @@ use Rattle.reading.specs.Scan.{readOf, scanOf}
 use Rattle.reading.specs.declared.Read.{Read}
 use Rattle.reading.specs.declared.Scan.{Scan}
 use Rattle.recovery.proofs.Accepted.{image-said, log-front, logged-few, reads-plain, refuses-plain, regions-front, scan-read, stateRead}
-use Rattle.recovery.proofs.Places.{image-short, line-inside}
-use Rattle.recovery.proofs.Steps.{step-more, step-past, step-refused}
-use Rattle.recovery.specs.Places.{foundAt, moreOf}
+use Rattle.recovery.proofs.Places.{image-short}
+use Rattle.recovery.specs.Places.{foundAt, moreOf, nextOf, noEntry}
 use Rattle.rules.proofs.Codec.Image.{only-image, read-records, read-valid}
 use Rattle.rules.specs.Bytes.{lineAt, lineBytes, paste}
 use Rattle.rules.specs.Claim.{isByte}
 use Rattle.rules.specs.Image.{Logged, Persistent, noListed, noLogged}
 use Rattle.rules.specs.Lists.{all}
 use Rattle.rules.specs.Marks.{markAt, marksOf, oldsIn}
-use Rattle.rules.specs.Reader.{Reads, nothing, readImage, recordsRead}
+use Rattle.rules.specs.Reader.{Reads, Refuses, nothing, readImage, recordsRead}
 use Rattle.rules.specs.Recovery.{answered, lineStart, restore}
 use Rattle.rules.specs.Walk.{nextPlace, walk, walkEntries, walkFrom, without}
 use Rattle.rules.specs.declared.Found.the-variants.{At, Full}
@@ -72,7 +71,7 @@ walk-short (suc n) rs = go (ltb (nextPlace rs) (length rs)) (walk-short n (witho
     go false h = omega arith
     go true h = omega arith
 
-walk-few : (p : Persistent) → (length (p .regions) ≤ 32) × (length (p .log) ≤ 256) → length (walkEntries p) ≤ 8192
+pub walk-few : (p : Persistent) → (length (p .regions) ≤ 32) × (length (p .log) ≤ 256) → length (walkEntries p) ≤ 8192
 unfolding walk
 walk-few p few =
     let m : length (keysOf p) ≡ length (p .log) = length-map (p .log) (λ e. e .key) in
@@ -120,8 +119,8 @@ module _ (ps : List ℕ) (s : Scan) (p : Persistent) (e : s ≡ scanOf ps p) (fe
 -- ---- a step
 
 module _ (bs : List ℕ) (bytes : all isByte bs ≡ true) (r : Read) (e : r ≡ readOf bs (readImage bs)) (at : ℕ) where
-  pub leaves-refused : (r .refusal ≡ 0 → ⊥) → record { after = record { bytes = bs; at = at }; answer = answered (r .refusal) 0 } ≡ restore (record { bytes = bs; at = at })
-  leaves-refused z = sym (step-refused bs at (r .refusal) (rw (← e) at (refuses-plain bs (readImage bs) (rw e at z))))
+  pub next-refused : (r .refusal ≡ 0 → ⊥) → noEntry (r .refusal) ≡ nextOf (readImage bs) at
+  next-refused z = let q : readImage bs ≡ Refuses (r .refusal) = rw (← e) at (refuses-plain bs (readImage bs) (rw e at z)) in rw q
 
   module _ (z : r .refusal ≡ 0) where
     abbrev state : Persistent
@@ -142,8 +141,8 @@ module _ (bs : List ℕ) (bytes : all isByte bs ≡ true) (r : Read) (e : r ≡ 
     pub logged-small : r .scan .logged ≤ 256
     logged-small = logged-few (oldsIn bs) (r .scan) state scan-is state-few
 
-    pub leaves-past : foundAt (r .scan) at ≡ Full → record { after = record { bytes = bs; at = at }; answer = answered 0 0 } ≡ restore (record { bytes = bs; at = at })
-    leaves-past f = sym (step-past bs at state state-reads (none-found (oldsIn bs) (r .scan) state scan-is state-few at f))
+    pub next-past : foundAt (r .scan) at ≡ Full → noEntry 0 ≡ nextOf (readImage bs) at
+    next-past f = rw (state-reads, none-found (oldsIn bs) (r .scan) state scan-is state-few at f)
 
     module _ (i : ℕ) (f : foundAt (r .scan) at ≡ At i) where
       pub at-small : at < 8192
@@ -171,16 +170,12 @@ module _ (bs : List ℕ) (bytes : all isByte bs ≡ true) (r : Read) (e : r ≡ 
       pub old-room : (d : Mark) → getD (r .scan .log) i d .at + 64 ≤ length bs
       old-room d = rw (found-mark d, place-small) (old-is .1)
 
-      pub line-room : (d : Mark) → lineStart (getD (r .scan .log) i d .line) + 64 ≤ length bs
-      line-room d = rw (found-mark d) (rw (only-image bs state bytes state-reads) at (line-inside state (read-valid bs state bytes state-reads) i in-log))
-
-      pub leaves-more : (d : Mark) (g : Found) (out : List ℕ) → g ≡ foundAt (r .scan) (at + 1)
-          → out ≡ paste bs (lineStart (getD (r .scan .log) i d .line)) (lineBytes (lineAt bs (getD (r .scan .log) i d .at)))
-          → record { after = record { bytes = out; at = at + 1 }; answer = answered 0 (moreOf g) } ≡ restore (record { bytes = bs; at = at })
-      leaves-more d g out q o =
+      pub next-more : (d : Mark) (g : Found) → g ≡ foundAt (r .scan) (at + 1)
+          → record { refusal = 0; there = true; line = getD (r .scan .log) i d .line; old = lineAt bs (getD (r .scan .log) i d .at); more = moreOf g } ≡ nextOf (readImage bs) at
+      next-more d g q =
           rw (
-            step-more bs at state (getD (state .log) i noLogged) (drop (suc at) (walkEntries state)) state-reads (one-found (oldsIn bs) (r .scan) state scan-is state-few at i f),
-            o,
+            state-reads,
+            one-found (oldsIn bs) (r .scan) state scan-is state-few at i f,
             q,
             add-one at,
             more-found (oldsIn bs) (r .scan) state scan-is state-few (suc at),

@@ -1,4 +1,4 @@
 pub mod Places
-pub mod Steps
 pub mod Accepted
 pub mod Leaves
+pub mod Steps

@@ -83,16 +83,12 @@ image-short p v h =
     )
 
 -- the line of a log entry is inside
-pub line-inside : (p : Persistent) (v : Valid p) (i : ℕ) → i < length (p .log) → lineStart (getD (p .log) i noLogged .line) + 64 ≤ length (encode p)
+pub line-inside : (p : Persistent) (v : Valid p) (l : ℕ) → l < p .lines → lineStart l + 64 ≤ length (encode p)
 unfolding encode
-line-inside p v i h =
-    let e = getD (p .log) i noLogged in
+line-inside p v l h =
     let n = headRecord (p .threads) (p .lines) in
     let m = flat lineRecord (p .medium) in
     let t = flat regionRecord (p .regions) ++ (flat entryRecord (p .log) ++ (36 ∷ [])) in
-    let f : fitsEntry (p .threads) (p .lines) e ≡ true = all-at (fitsEntry (p .threads) (p .lines)) (p .log) i noLogged (v .entries) h in
-    let a = and-true (isKnownThread (p .threads) (e .key)) (ltb (e .line) (p .lines) && isLine (e .old)) f in
-    let l : e .line < p .lines = ltb-true (e .line) (p .lines) (and-true (ltb (e .line) (p .lines)) (isLine (e .old)) (a .1) .0) in
     omega (
       arith,
       v .whole,

@@ -1,13 +1,19 @@
 -- The parts of a recovery step as the programs have them.
 use Rattle.walking.specs.Indices.{entryAt}
 use Prim.Native.Nat.{ℕ}
-use mathlib.Core.List.{List}
-use lib.ListN.{length, take}
+use mathlib.Core.Bool.{cond, false, true}
+use mathlib.Core.List.{List, [], _∷_}
+use lib.Dec.{eqb}
+use lib.ListN.{drop, length, take}
 use Rattle.reading.specs.declared.Scan.{Scan}
+use Rattle.recovery.specs.declared.Next.{Next}
 use Rattle.recovery.specs.declared.Place.{Place}
 use Rattle.recovery.specs.declared.Walked.{Walked}
+use Rattle.rules.specs.Image.{Logged, Persistent}
+use Rattle.rules.specs.Reader.{Reads, Refuses, Verdict}
 use Rattle.rules.specs.Recovery.{Recovering, RecoveryCall, Restored, answered}
-use Rattle.rules.specs.Walk.{walkFrom}
+use Rattle.rules.specs.Tables.{noLine}
+use Rattle.rules.specs.Walk.{walkEntries, walkFrom}
 use Rattle.rules.specs.declared.Answer.{Answer}
 use Rattle.rules.specs.declared.Found.{Found}
 use Rattle.rules.specs.declared.Found.the-variants.{At, Full}
@@ -31,6 +37,18 @@ walkedKeys s = walkFrom (length (take (s .held) (s .regions))) (take (s .held) (
 -- the index of log entry number `at` of the walk
 abbrev pub foundAt : Scan → ℕ → Found
 foundAt s at = entryAt (walkedKeys s) (take (s .logged) (s .log)) at
+
+-- what a step finds: the first of the entries that are left, and whether others are behind it
+abbrev pub noEntry : ℕ → Next
+noEntry n = record { refusal = n; there = false; line = 0; old = noLine; more = 0 }
+
+abbrev pub nextBy : List Logged → Next
+nextBy [] = noEntry 0
+nextBy (e ∷ es) = record { refusal = 0; there = true; line = e .line; old = e .old; more = cond (eqb (length es) 0) 0 1 }
+
+abbrev pub nextOf : Verdict Persistent → ℕ → Next
+nextOf (Refuses n) at = noEntry n
+nextOf (Reads p) at = nextBy (drop at (walkEntries p))
 
 -- 'more' while there is an entry
 abbrev pub moreOf : Found → ℕ

@@ -1,13 +1,13 @@
 // The recovery step over a lent image: the image is judged whole, and one log entry is put back to its line.
-ghost use Prim.Native.Nat.{_+_, _≤_};
 ghost use mathlib.Core.Path.{_≡_};
-ghost use lib.ListN.{length, take};
-ghost use Rattle.rules.specs.Bytes.{lineAt, lineBytes, paste};
+ghost use lib.ListN.{take};
 ghost use Rattle.rules.specs.Reader.{readImage};
 ghost use Rattle.rules.specs.Recovery.{lineStart, restore, recoveryCall};
 ghost use Rattle.reading.specs.Scan.{readOf};
 ghost use Rattle.walking.specs.Indices.{entryAt, orderOf};
-ghost use Rattle.recovery.specs.Places.{walkedKeys, moreOf, lentAt, leftBy, restoredOf, stayed, calledWith};
+ghost use Rattle.recovery.specs.Places.{walkedKeys, moreOf, lentAt, leftBy, nextOf, noEntry, restoredOf, stayed, calledWith};
+use measures::LINE_WORDS;
+use measures::Line;
 use reading::Read;
 use reading::Scan;
 use rules::Answer;
@@ -37,15 +37,6 @@ fn read_image(src: &[u8]) -> Read
     read
 }
 
-// The line takes the 64 bytes of the old line that stands at `from`.
-fn put_back(image: &mut [u8], line: usize, from: usize)
-    requires { ⌜ (lineStart line + 64 ≤ length (now image)) × (from + 64 ≤ length (now image)) ⌝ }
-    ensures { λ _. ⌜ now (image .exit) ≡ paste (now (image .entry)) (lineStart line) (lineBytes (lineAt (now (image .entry)) from)) ⌝ }
-{
-    let old = lines::take_line(image, from);
-    lines::put_line_at(image, 4 + (65 * line + 1), old);
-}
-
 // The regions of an image in the order of the walk.
 fn order_of(scan: Scan) -> Order
     ensures { λ r. ⌜ orderOf r ≡ walkedKeys scan ⌝ }
@@ -72,6 +63,56 @@ fn more(found: Found) -> u64
     }
 }
 
+// What a step at a place finds: the refusal of the image, 0 for none; the log entry that it restores, if one is there, by its line and what goes back to it; and
+// 1 while entries remain after it.
+pub struct Next {
+    pub refusal: u8,
+    pub there: bool,
+    pub line: u8,
+    pub old: Line,
+    pub more: u64,
+}
+
+fn no_entry(refusal: u8) -> Next
+    ensures { λ r. ⌜ r ≡ noEntry refusal ⌝ }
+{
+    Next {
+        refusal: refusal,
+        there: false,
+        line: 0,
+        old: [0; LINE_WORDS],
+        more: 0,
+    }
+}
+
+// What a recovery step at a place finds: no entry where the image is refused, or where the place is past the last one.
+pub fn next_entry(image: &[u8], at: u64) -> Next
+    ensures { λ r. ⌜ r ≡ nextOf (readImage (now (image .entry))) at ⌝ }
+{
+    let read = read_image(image);
+    if read.refusal != 0 {
+        return no_entry(read.refusal);
+    }
+    let scan = read.scan;
+    let order = order_of(scan);
+    let found = found_at(order, scan, at);
+    let Found::At(i) = found else {
+        return no_entry(0);
+    };
+    let log = scan.log;
+    let mark = log[i];
+    let old = lines::take_line(image, mark.at as usize);
+    let after = at + 1;
+    let left = more(found_at(order, scan, after));
+    Next {
+        refusal: 0,
+        there: true,
+        line: mark.line,
+        old: old,
+        more: left,
+    }
+}
+
 // A refusal, 0 for none, with nothing restored: the place stays.
 fn stay(refusal: u8, at: u64) -> Walked
     ensures { λ r. ⌜ r ≡ stayed refusal at ⌝ }
@@ -85,40 +126,31 @@ fn stay(refusal: u8, at: u64) -> Walked
     }
 }
 
-// A recovery step over an image that was read: the entry at the place goes back to its line.
-fn restore_read(image: &mut [u8], read: Read, at: u64) -> Walked
-    requires { ⌜ read ≡ readOf (now image) (readImage (now image)) ⌝ }
-    ensures { λ r. ⌜ restoredOf (now (image .exit)) r ≡ restore (record { bytes = now (image .entry); at = at }) ⌝ }
+// Where the 64 bytes of a line stand in an image.
+pub fn line_start(line: u8) -> usize
+    ensures { λ r. ⌜ r ≡ lineStart line ⌝ }
 {
-    if read.refusal != 0 {
-        return stay(read.refusal, at);
-    }
-    let scan = read.scan;
-    let order = order_of(scan);
-    let found = found_at(order, scan, at);
-    let Found::At(i) = found else {
-        return stay(0, at);
-    };
-    let log = scan.log;
-    let mark = log[i];
-    put_back(image, mark.line as usize, mark.at as usize);
-    let next = at + 1;
-    let left = more(found_at(order, scan, next));
-    Walked {
-        answer: Answer {
-            refusal: 0,
-            value: left,
-        },
-        at: next,
-    }
+    4 + (65 * (line as usize) + 1)
 }
 
-// A recovery step by value.
+// A recovery step by value: the entry at the place goes back to its line.
 fn restored(image: &mut [u8], at: u64) -> Walked
     ensures { λ r. ⌜ restoredOf (now (image .exit)) r ≡ restore (record { bytes = now (image .entry); at = at }) ⌝ }
 {
-    let read = read_image(image);
-    restore_read(image, read, at)
+    let next = next_entry(image, at);
+    if !next.there {
+        return stay(next.refusal, at);
+    }
+    let old = next.old;
+    lines::put_line_at(image, line_start(next.line), old);
+    let after = at + 1;
+    Walked {
+        answer: Answer {
+            refusal: 0,
+            value: next.more,
+        },
+        at: after,
+    }
 }
 
 // The walk's own place: the number of steps made since the last cut.

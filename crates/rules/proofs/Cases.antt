@@ -47,7 +47,7 @@ write′ t l w v = 4 ∷ t ∷ l ∷ w ∷ bytesOf 8 v
 abbrev pub logAck′ : ℕ → List ℕ
 logAck′ l = 5 ∷ l ∷ []
 
-abbrev dataAck′ : ℕ → List ℕ
+abbrev pub dataAck′ : ℕ → List ℕ
 dataAck′ l = 6 ∷ l ∷ []
 
 abbrev pub cut′ : List ℕ

@@ -1,6 +1,6 @@
 -- Worked cases of torn stores, one table, computed from the definitions.
-use Prim.Native.Nat.{ℕ}
-use mathlib.Core.Bool.{Bool, _&&_}
+use Prim.Native.Nat.{suc, ℕ}
+use mathlib.Core.Bool.{Bool, _&&_, false, true}
 use mathlib.Core.List.{List, [], _∷_}
 use lib.Dec.{T, eqb}
 use Rattle.rules.specs.Access.{joined, logged, noteRead, read, stored, wordAfter, write, wrote}
@@ -24,13 +24,12 @@ use Rattle.rules.specs.Slots.{carried, flownSlots, renewed, slotFrom, withoutLi
 use Rattle.rules.specs.Step.{apply, fence, settledBoard, setup, step, stepBy, stepEvent}
 use Rattle.rules.specs.Tables.{Zero, fresh, lentFrom, lentLine, ownerOf, startLines}
 use Rattle.rules.specs.Walk.{entriesFrom, entriesOf, nextPlace, walk, walkEntries, walkFrom, without}
-use Rattle.rules.proofs.Cases.{begin′, cut′, end′, foundWords, lineWords, logAck′, same, setup′, write′}
+use Rattle.rules.proofs.Cases.{begin′, cut′, dataAck′, end′, foundWords, lineWords, logAck′, same, setup′, write′}
 use Rattle.torn.specs.Torn.{Between, Inside, TornAct, Whole, isTorn, mixed, tornAct, tornActs, tornBy, tornFrom, tornImage, tornRecovering, tornState}
 
--- a file, a choice of words at its cut and acts; the place behind the acts, and the nonzero words as line, word and value: in the torn image, behind the acts, and
--- behind one more step
+-- a choice of words at the cut of the file below, and acts; the place behind the acts, and the nonzero words as line, word and value: in the torn image, behind the
+-- acts, and behind one more step
 pub record TornCase : Type 0 where
-  pub file : List (List ℕ)
   pub choice : ℕ → ℕ → Bool
   pub acts : List TornAct
   pub place : ℕ
@@ -62,20 +61,62 @@ file =
     ∷ cut′
     ∷ []
 
+-- what the image saved has, what it has with every word of both flights, and that with line 1 restored
+abbrev saved′ : List ℕ
+saved′ = 0 ∷ 0 ∷ 3 ∷ 0 ∷ 7 ∷ 4 ∷ []
+
+abbrev landed′ : List ℕ
+landed′ = 0 ∷ 0 ∷ 5 ∷ 0 ∷ 1 ∷ 6 ∷ 0 ∷ 7 ∷ 4 ∷ 1 ∷ 2 ∷ 7 ∷ []
+
+abbrev partly : List ℕ
+partly = 0 ∷ 0 ∷ 5 ∷ 0 ∷ 1 ∷ 6 ∷ 0 ∷ 7 ∷ 4 ∷ []
+
 cases : List TornCase
-unfolding file
 cases =
-    -- no word
-    record { file = file; choice = λ l w. false; acts = []; place = 0; torn = 0 ∷ 0 ∷ 3 ∷ 0 ∷ 7 ∷ 4 ∷ []; left = 0 ∷ 0 ∷ 3 ∷ 0 ∷ 7 ∷ 4 ∷ []; found = 0 ∷ 0 ∷ 3 ∷ 0 ∷ 7 ∷ 4 ∷ [] }
+    -- no word; every word
+    record { choice = λ l w. false; acts = []; place = 0; torn = saved′; left = saved′; found = saved′ }
+    ∷ record { choice = λ l w. true; acts = []; place = 0; torn = landed′; left = landed′; found = partly }
+    -- one word of each line, another in each; line 2 is not in flight
+    ∷ record {
+      choice = λ l w. eqb w (suc l);
+      acts = [];
+      place = 0;
+      torn = 0 ∷ 0 ∷ 3 ∷ 0 ∷ 1 ∷ 6 ∷ 0 ∷ 7 ∷ 4 ∷ 1 ∷ 2 ∷ 7 ∷ [];
+      left = 0 ∷ 0 ∷ 3 ∷ 0 ∷ 1 ∷ 6 ∷ 0 ∷ 7 ∷ 4 ∷ 1 ∷ 2 ∷ 7 ∷ [];
+      found = 0 ∷ 0 ∷ 3 ∷ 0 ∷ 1 ∷ 6 ∷ 0 ∷ 7 ∷ 4 ∷ [];
+    }
+    -- a cut inside the first step, by which a word had been restored that differed, or one that did not; a cut behind it
+    ∷ record { choice = λ l w. true; acts = Inside (λ w. eqb w 2) ∷ []; place = 0; torn = landed′; left = partly; found = partly }
+    ∷ record { choice = λ l w. true; acts = Inside (λ w. eqb w 3) ∷ []; place = 0; torn = landed′; left = landed′; found = partly }
+    ∷ record { choice = λ l w. true; acts = Whole ∷ Between ∷ []; place = 0; torn = landed′; left = partly; found = partly }
+    -- a cut inside the last step, then recovery from the start
+    ∷ record {
+      choice = λ l w. true;
+      acts = Whole ∷ Inside (λ w. eqb w 0) ∷ [];
+      place = 0;
+      torn = landed′;
+      left = 0 ∷ 0 ∷ 3 ∷ 0 ∷ 1 ∷ 6 ∷ 0 ∷ 7 ∷ 4 ∷ [];
+      found = 0 ∷ 0 ∷ 3 ∷ 0 ∷ 1 ∷ 6 ∷ 0 ∷ 7 ∷ 4 ∷ [];
+    }
+    ∷ record {
+      choice = λ l w. true;
+      acts = Whole ∷ Inside (λ w. eqb w 0) ∷ Whole ∷ [];
+      place = 1;
+      torn = landed′;
+      left = 0 ∷ 0 ∷ 3 ∷ 0 ∷ 1 ∷ 6 ∷ 0 ∷ 7 ∷ 4 ∷ [];
+      found = saved′;
+    }
+    -- a cut inside a step that restores nothing, behind the last
+    ∷ record { choice = λ l w. true; acts = Whole ∷ Whole ∷ Inside (λ w. true) ∷ []; place = 0; torn = landed′; left = saved′; found = saved′ }
     ∷ []
 
 holds : TornCase → Bool
 holds c =
-    same (foundWords 0 3 (tornImage (c .choice) (boardAfter Zero (c .file)))) (c .torn)
-    && (eqb (tornRecovering Zero (c .file) (c .choice) (c .acts) .at) (c .place)
-    && (same (foundWords 0 3 (tornRecovering Zero (c .file) (c .choice) (c .acts) .bytes)) (c .left)
-    && same (foundWords 0 3 (restore (tornRecovering Zero (c .file) (c .choice) (c .acts)) .after .bytes)) (c .found)))
+    same (foundWords 0 3 (tornImage (c .choice) (boardAfter Zero file))) (c .torn)
+    && (eqb (tornRecovering Zero file (c .choice) (c .acts) .at) (c .place)
+    && (same (foundWords 0 3 (tornRecovering Zero file (c .choice) (c .acts) .bytes)) (c .left)
+    && same (foundWords 0 3 (restore (tornRecovering Zero file (c .choice) (c .acts)) .after .bytes)) (c .found)))
 
-pub table : T (all holds cases)
+table : T (all holds cases)
 unfolding holds cases file isTorn mixed tornFrom tornState tornImage tornBy tornAct tornActs acts foundWords lineWords same joined read noteRead logged wrote stored write dropped keptEntry kept unlocked logAck landed dataAck opened begin bytesOf numOf wordsBytes wordsOf restores doneRegion commits earlier earliestFrom afterCommit freed commit settle settled inOrder anyBroken reachesIn reaches anyClash contradicts outside closed endRegion flown savedRegion savedRegions savedEntry savedThread savedLog saved headRecord lineRecord regionRecord entryRecord encode image count place flat aboveFrom risingFrom headTurn lineTurn listedAt listedTurn loggedAt loggedTurn endTurn fieldsTurn turnBy readBy readImage eventOf readRecord restoreBy restore act testsOf refusal run slotFrom withoutLine renewed written flownSlots carried settledBoard setup fence apply stepBy stepEvent step lentLine lentFrom startLines fresh ownerOf nextPlace without walkFrom walk entriesOf entriesFrom walkEntries kindAt wordAfter
 table = tt

@@ -14,10 +14,9 @@ use Rattle.rules.proofs.Codec.Back.{image-read}
 use Rattle.rules.proofs.Codec.Bytes.{all-at, isLine, isWord}
 use Rattle.rules.proofs.Codec.Image.{only-image, read-records, read-valid}
 use Rattle.rules.proofs.Codec.Store.{put-back, put-valid}
-use Rattle.rules.proofs.Codec.Valid.{Valid, fitsEntry}
+use Rattle.rules.proofs.Codec.Valid.{Valid}
 use Rattle.rules.proofs.Lists.{or-none}
-use Rattle.rules.proofs.Recover.Olds.{Each, element, no-element}
-use Rattle.rules.proofs.Recover.Steps.{each-drop, each-first, each-walked}
+use Rattle.rules.proofs.Recover.Steps.{each-drop, each-first, walk-fits}
 use Rattle.rules.proofs.Tests.{badAt, passed}
 use Rattle.rules.specs.Acknowledge.{dataAck}
 use Rattle.rules.specs.Bytes.{lineAt}
@@ -25,12 +24,12 @@ use Rattle.rules.specs.Claim.{isByte}
 use Rattle.rules.specs.Contradiction.{contradicts}
 use Rattle.rules.specs.Image.{Logged, Persistent, encode, image, saved, savedLog, savedThread, withLogged, withMedium}
 use Rattle.rules.specs.Lists.{all}
-use Rattle.rules.specs.Reader.{Reads, Refuses, isKnownThread, readImage}
+use Rattle.rules.specs.Reader.{Reads, Refuses, readImage}
 use Rattle.rules.specs.Recovery.{Recovering, lineStart, restore, restoreBy}
 use Rattle.rules.specs.Refusal.{inFlight, refusal, testsOf}
 use Rattle.rules.specs.Step.{apply, settledBoard}
 use Rattle.rules.specs.Tables.{Board, lineOf}
-use Rattle.rules.specs.Walk.{walk, walkEntries}
+use Rattle.rules.specs.Walk.{walkEntries}
 use Rattle.rules.specs.declared.Event.the-variants.{Cut, DataAck}
 use Rattle.laws.proofs.Reserves.{says}
 use Rattle.undo.proofs.Laws.{and-true, never, test}
@@ -96,7 +95,7 @@ module _ (b : Board) where
 
     same-line : (l : ℕ) → lineOf l (tornState (chosen q) b .medium) ≡ lineOf l (q .medium)
     same-line l =
-        ext-getD 0 (lineOf l (tornState (chosen q) b .medium)) (lineOf l (q .medium)) (differs (chosen q) .long l ∙ sym (d .long l)) 
+        ext-getD 0 (lineOf l (tornState (chosen q) b .medium)) (lineOf l (q .medium)) (differs (chosen q) .long l ∙ sym (d .long l))
         (λ w h. same-word l w (omega (arith, differs (chosen q) .long l)))
 
     every : (p : ℕ → ℕ → Bool) × (tornState p b ≡ q)
@@ -145,16 +144,6 @@ module _ (b : Board) where
 
 -- ---- inside a step
 
--- an entry of an accepted image fits it
-each-fits : (n l : ℕ) (es : List Logged) → all (fitsEntry n l) es ≡ true → Each (λ e. fitsEntry n l e ≡ true) es
-each-fits n l [] h = no-element
-each-fits n l (e ∷ es) h = let b = and-true (fitsEntry n l e) (all (fitsEntry n l) es) h in element (b .0) (each-fits n l es (b .1))
-
-module _ (q : Persistent) (z : Valid q) where
-  walk-fits : Each (λ e. fitsEntry (q .threads) (q .lines) e ≡ true) (walkEntries q)
-  unfolding walkEntries
-  walk-fits = each-walked (walk q) (each-fits (q .threads) (q .lines) (q .log) (z .entries))
-
 module _ (r : Recovering) (p : ℕ → Bool) (q : Persistent) (y : all isByte (r .bytes) ≡ true) (e : readImage (r .bytes) ≡ Reads q) where
   valid : Valid q
   valid = read-valid (r .bytes) q y e
@@ -179,9 +168,8 @@ module _ (r : Recovering) (p : ℕ → Bool) (q : Persistent) (y : all isByte (r
             place = rw (e, k) refl;
           }
       go (f ∷ fs) k =
-          let a = and-true (isKnownThread (q .threads) (f .key)) (ltb (f .line) (q .lines) && isLine (f .old)) (each-first (rw k at (each-drop (r .at) (walk-fits q valid)))) .1 in
-          let c = and-true (ltb (f .line) (q .lines)) (isLine (f .old)) a in
-          let h = ltb-true (f .line) (q .lines) (c .0) in
+          let c = each-first (rw k at (each-drop (r .at) (walk-fits q valid))) in
+          let h = c .0 in
           let x = lineOf (f .line) (q .medium) in
           let m : f .line < length (q .medium) = omega (arith, valid .whole) in
           let ok = all-at isLine (q .medium) (f .line) [] (valid .medium) m in

@@ -2,3 +2,4 @@ pub mod Mixed
 pub mod Torn
 pub mod Choices
 pub mod Bench
+pub mod Cases

@@ -49,7 +49,7 @@ returns-2 c =
     let a = m .before .before .args in
     let e = t .run-image .last .1 .1 .0 in
     let l : length (r .recover .last .0) ≡ length (take (n .image-size .result) e) = search needs in
-    rw (n .image-size .ensures) (drill-accepted (a .file .now) (a .memory .now) (a .acts .now) (a .image .now) e (t .run-image .result) (t .run-image .ensures) (n .before .if1 .left) (all-bytes (a .file .now) (λ i. m .before .shared-slice-known .given i .fits)) (all-bytes (a .memory .now) (λ i. m .shared-slice-known2 .given i .fits)) (r .recover .result) (r .recover .last .0) (rw (n .image-size .ensures) at l) (rw (n .image-size .ensures) at (r .recover .ensures)))
+    rw (n .image-size .ensures) (drill-accepted (a .file .now) (a .memory .now) (a .acts .now) (a .image .now) e (t .run-image .result) (t .run-image .ensures) (n .before .if1 .left) (all-bytes (a .file .now) (λ i. m .before .shared-slice-known .given i .fits)) (all-bytes (a .memory .now) (λ i. m .shared-slice-known2 .given i .fits)) (r .recover .result) (r .recover .last .0) (rw (n .image-size .ensures) at l) (rw (n .image-size .ensures) at (r .recover .ensures .steps)))
 
 pub drill-spec : {M : Type 1} → statement M
 drill-spec =

@@ -1,5 +1,6 @@
 -- `drill::recover` meets its contract: the acts, then a step.
 use mathlib.Core.Path.{_∙_, ap}
+use Rattle.drill.proofs.Laws.{recovered-right}
 use Rattle.drill.specs.Drilled.{stepOf}
 use Rattle.rules.specs.Recovery.{Recovering, restore}
 use borrow.Author.Needs.{needs}
@@ -18,7 +19,8 @@ same-length c = search needs
 returns : tie.Need-returns
 returns c =
     let t = c .before .before .before in
-    ap stepOf (t .step-at .ensures) ∙ ap (λ (x : Recovering). stepOf (restore x)) (t .before .before .before .before .act-all .ensures)
+    let a = t .before .before .before .before in
+    recovered-right _ _ _ _ (ap stepOf (t .step-at .ensures) ∙ ap (λ (x : Recovering). stepOf (restore x)) (a .act-all .ensures))
 
 pub recover-spec : {M : Type 1} → statement M
 recover-spec = tie.close (tie.spec act-all-requires step-at-requires same-length returns)

@@ -10,18 +10,19 @@ use Rattle.rules.specs.Claim.{restores}
 use Rattle.rules.proofs.Codec.Store.{found, put-back, put-valid}
 use Prim.Native.Nat.{_+_, _<_, _≤_, suc, zero, ℕ}
 use mathlib.Core.Path.{_∙_, _≡_, ap, refl, sym}
-use mathlib.Core.Bool.{Bool, false, true}
+use mathlib.Core.Bool.{Bool, _&&_, false, true}
 use mathlib.Core.List.{List, [], _∷_, reverseAux}
-use lib.Dec.{eqb}
+use lib.Dec.{eqb, ltb}
 use lib.ListN.{drop, length, length-drop, length-map, set, take}
 use native.Mathlib.Omega.{arith}
 use native.Mathlib.Numerals.{add-one}
-use borrow.Author.Tests.{eq-eqb, eqb-false, eqb-true}
+use borrow.Author.Tests.{eq-eqb, eqb-false, eqb-true, ltb-true}
 use lib.Seq.{ext-getD, getD-set-other, getD-set-same, getD-take, length-take-le}
 use native.Mathlib.Nat.{le-refl}
 use Rattle.rules.proofs.Codec.Back.{image-read}
 use Rattle.rules.proofs.Codec.Turns.{size-lines}
-use Rattle.rules.proofs.Codec.Valid.{Valid}
+use Rattle.rules.proofs.Codec.Bytes.{isLine}
+use Rattle.rules.proofs.Codec.Valid.{Valid, fitsEntry}
 use Rattle.rules.proofs.Recover.Live.{dep-same, live-listed, whole}
 use Rattle.rules.proofs.Recover.Olds.{Each, GoodSaved, each-append, element, no-element, undos}
 use Rattle.rules.proofs.Recover.Log.{each-saved, log-chosen, single-chosen}
@@ -33,12 +34,13 @@ use Rattle.rules.proofs.Sim.State.{Sim}
 use Rattle.rules.specs.Bytes.{lineBytes}
 use Rattle.rules.specs.Contradiction.{contradicts}
 use Rattle.rules.specs.History.{Account, memoryFound}
-use Rattle.rules.specs.Image.{Logged, encode, image, saved, savedLog, withMedium}
-use Rattle.rules.specs.Lists.{flat}
+use Rattle.rules.specs.Image.{Logged, Persistent, encode, image, saved, savedLog, withMedium}
+use Rattle.rules.specs.Lists.{all, flat}
+use Rattle.rules.specs.Reader.{isKnownThread}
 use Rattle.rules.specs.Refusal.{isSetUp}
 use Rattle.rules.specs.Tables.{Board, lineOf}
 use Rattle.rules.specs.Walk.{entriesFrom, entriesOf, walk, walkEntries}
-use Rattle.undo.proofs.Laws.{same, test}
+use Rattle.undo.proofs.Laws.{and-true, same, test}
 use Rattle.undo.specs.Table.{isIn, keep, put}
 use Rattle.rules.proofs.Places.{homes}
 
@@ -61,7 +63,7 @@ each-drop (suc n) (element a e) = each-drop n e
 pub each-first : {A : Type 0} {P : A → Type 0} {x : A} {xs : List A} → Each P (x ∷ xs) → P x
 each-first (element a e) = a
 
-pub each-walked : {P : Logged → Type 0} {es : List Logged} (gs : List ℕ) → Each P es → Each P (entriesFrom es gs)
+each-walked : {P : Logged → Type 0} {es : List Logged} (gs : List ℕ) → Each P es → Each P (entriesFrom es gs)
 unfolding entriesFrom entriesOf
 each-walked [] e = no-element
 each-walked (g ∷ gs) e = each-append (each-back (each-keep (λ x. eqb (x .key) g) e) no-element) (each-walked gs e)
@@ -70,6 +72,22 @@ pub undos-drop : (n : ℕ) (es : List Logged) → drop n (undos es) ≡ undos (d
 undos-drop zero es = refl
 undos-drop (suc n) [] = refl
 undos-drop (suc n) (e ∷ es) = undos-drop n es
+
+-- the entries of the walk over a state that an image can hold: their lines are in the medium, and what goes back there is a line
+abbrev pub Fits : Persistent → Logged → Type 0
+Fits p e = (e .line < p .lines) × (isLine (e .old) ≡ true)
+
+each-fits : (p : Persistent) (es : List Logged) → all (fitsEntry (p .threads) (p .lines)) es ≡ true → Each (Fits p) es
+each-fits p [] h = no-element
+each-fits p (e ∷ es) h =
+    let b = and-true (fitsEntry (p .threads) (p .lines) e) (all (fitsEntry (p .threads) (p .lines)) es) h in
+    let c = and-true (isKnownThread (p .threads) (e .key)) (ltb (e .line) (p .lines) && isLine (e .old)) (b .0) in
+    let d = and-true (ltb (e .line) (p .lines)) (isLine (e .old)) (c .1) in
+    element (ltb-true (e .line) (p .lines) (d .0), d .1) (each-fits p es (b .1))
+
+pub walk-fits : (p : Persistent) → Valid p → Each (Fits p) (walkEntries p)
+unfolding walkEntries
+walk-fits p v = each-walked (walk p) (each-fits p (p .log) (v .entries))
 
 undos-length : (es : List Logged) → length (undos es) ≡ length es
 undos-length [] = refl

@@ -1,0 +1,34 @@
+/* Images for the example benches: the one that an event file leaves, recovery of it from the start, the words of its lines. */
+#ifndef SAVED_IMAGE_H
+#define SAVED_IMAGE_H
+
+#include "event_file.h"
+
+enum {
+    HEAD_BYTES = 4, LINE_RECORD = 65, DEPENDENCE_RECORD = 17, LOG_RECORD = 69,
+    MOST_IMAGE = HEAD_BYTES + LINE_RECORD * MOST_LINES + DEPENDENCE_RECORD * 32 + LOG_RECORD * 256 + 1
+};
+
+typedef struct {
+    uint8_t bytes[MOST_IMAGE];
+    size_t length, lines;
+    uint64_t regions, entries; /* the uncommitted regions and the log entries */
+} saved_image;
+
+/* Reads an event file, runs it over zero memory and saves the image that its cut left. Gives 0, or the exit code when it has said why there is none.
+   The caller frees the file in any case. */
+int save_image(const char *program, const char *name, uint8_t **file, size_t *length, saved_image *image);
+
+/* Where the bytes of a line stand in an image. */
+size_t line_at(size_t line);
+
+/* Length and counts of an image, and its words. */
+void print_image(const saved_image *image);
+
+/* The nonzero words of the lines, behind a title. */
+void print_words(const char *title, const saved_image *image);
+
+/* Makes recovery steps from the first one on, until 'finished' or until as many as `most` are made, and counts them. Gives the refusal of a step, else 0. */
+uint8_t recover(saved_image *image, uint64_t most, uint64_t *made);
+
+#endif
