@@ -1,5 +1,5 @@
 -- A step that is cut inside: words of two lines one by one, and what the step would have restored.
-use Prim.Native.Nat.{_%_, _+_, _/_, _≤_, suc, ℕ}
+use Prim.Native.Nat.{_%_, _/_, ℕ}
 use mathlib.Core.Bool.{cond, false, false≢true, true}
 use mathlib.Core.List.{List, [], _∷_}
 use mathlib.Core.Path.{_≡_, refl, sym}
@@ -10,10 +10,10 @@ use Rattle.recovery.specs.Places.{nextBy, nextOf}
 use Rattle.rules.specs.Bytes.{lineAt, lineBytes, paste}
 use Rattle.rules.specs.Image.{Logged, Persistent}
 use Rattle.rules.specs.Reader.{Reads, Refuses, Verdict, readImage}
-use Rattle.rules.specs.Recovery.{Recovering, lineStart}
+use Rattle.rules.specs.Recovery.{lineStart}
 use Rattle.rules.specs.Walk.{walkEntries}
-use Rattle.torn.specs.Torn.{Inside, mixed, tornAct, tornBy, tornRead}
-use Rattle.drill.specs.Drilled.{cutInside, wordsOf}
+use Rattle.torn.specs.Torn.{mixed, tornAct, tornBy, tornRead}
+use Rattle.drill.specs.Drilled.{cutInside, choiceOf}
 
 -- ---- eight words
 
@@ -31,7 +31,7 @@ eight-mixed : (a : ℕ) (xs ys : List ℕ) → length xs ≡ 8
     ∷ word (a / 64) 6 xs ys
     ∷ word (a / 128) 7 xs ys
     ∷ []
-    ≡ mixed (wordsOf a) 0 xs ys
+    ≡ mixed (choiceOf a) 0 xs ys
 unfolding mixed
 eight-mixed a [] ys n = absurd (omega arith)
 eight-mixed a (x ∷ []) ys n = absurd (omega arith)
@@ -46,7 +46,7 @@ eight-mixed a (x ∷ y ∷ z ∷ s ∷ t ∷ u ∷ v ∷ w ∷ r ∷ xs) ys n = 
 
 pub words-mixed : (a : ℕ) (xs ys : List ℕ) → length xs ≡ 8 → (r₀ r₁ r₂ r₃ r₄ r₅ r₆ r₇ : ℕ) → r₀ ≡ word a 0 xs ys → r₁ ≡ word (a / 2) 1 xs ys → r₂ ≡ word (a / 4) 2 xs ys
     → r₃ ≡ word (a / 8) 3 xs ys → r₄ ≡ word (a / 16) 4 xs ys → r₅ ≡ word (a / 32) 5 xs ys → r₆ ≡ word (a / 64) 6 xs ys → r₇ ≡ word (a / 128) 7 xs ys
-    → r₀ ∷ r₁ ∷ r₂ ∷ r₃ ∷ r₄ ∷ r₅ ∷ r₆ ∷ r₇ ∷ [] ≡ mixed (wordsOf a) 0 xs ys
+    → r₀ ∷ r₁ ∷ r₂ ∷ r₃ ∷ r₄ ∷ r₅ ∷ r₆ ∷ r₇ ∷ [] ≡ mixed (choiceOf a) 0 xs ys
 words-mixed a xs ys n r₀ r₁ r₂ r₃ r₄ r₅ r₆ r₇ e₀ e₁ e₂ e₃ e₄ e₅ e₆ e₇ = rw (e₀, e₁, e₂, e₃, e₄, e₅, e₆, e₇) (eight-mixed a xs ys n)
 
 -- ---- what a step that is cut inside leaves
@@ -56,17 +56,17 @@ module _ (bs : List ℕ) (at a : ℕ) where
   unfolding tornAct tornBy
   inside-none = go (readImage bs)
     where
-      by-entries : (es : List Logged) → nextBy es .there ≡ false → bs ≡ tornBy (wordsOf a) es (record { bytes = bs; at = at }) .bytes
+      by-entries : (es : List Logged) → nextBy es .there ≡ false → bs ≡ tornBy (choiceOf a) es (record { bytes = bs; at = at }) .bytes
       by-entries [] e = refl
       by-entries (x ∷ es) e = absurd (false≢true (sym e))
 
-      go : (v : Verdict Persistent) → nextOf v at .there ≡ false → bs ≡ tornRead (wordsOf a) v (record { bytes = bs; at = at }) .bytes
+      go : (v : Verdict Persistent) → nextOf v at .there ≡ false → bs ≡ tornRead (choiceOf a) v (record { bytes = bs; at = at }) .bytes
       go (Refuses n) e = refl
       go (Reads p) e = by-entries (drop at (walkEntries p)) e
 
   -- the line as it stands, with words of the entry
   abbrev mixedAt : ℕ → List ℕ → List ℕ
-  mixedAt l old = mixed (wordsOf a) 0 (lineAt bs (lineStart l)) old
+  mixedAt l old = mixed (choiceOf a) 0 (lineAt bs (lineStart l)) old
 
   pub inside-some : nextOf (readImage bs) at .there ≡ true
       → paste bs (lineStart (nextOf (readImage bs) at .line)) (lineBytes (mixedAt (nextOf (readImage bs) at .line) (nextOf (readImage bs) at .old))) ≡ cutInside bs at a
@@ -74,11 +74,11 @@ module _ (bs : List ℕ) (at a : ℕ) where
   inside-some = go (readImage bs)
     where
       by-entries : (es : List Logged) → nextBy es .there ≡ true
-          → paste bs (lineStart (nextBy es .line)) (lineBytes (mixedAt (nextBy es .line) (nextBy es .old))) ≡ tornBy (wordsOf a) es (record { bytes = bs; at = at }) .bytes
+          → paste bs (lineStart (nextBy es .line)) (lineBytes (mixedAt (nextBy es .line) (nextBy es .old))) ≡ tornBy (choiceOf a) es (record { bytes = bs; at = at }) .bytes
       by-entries [] e = absurd (false≢true e)
       by-entries (x ∷ es) e = refl
 
       go : (v : Verdict Persistent) → nextOf v at .there ≡ true
-          → paste bs (lineStart (nextOf v at .line)) (lineBytes (mixedAt (nextOf v at .line) (nextOf v at .old))) ≡ tornRead (wordsOf a) v (record { bytes = bs; at = at }) .bytes
+          → paste bs (lineStart (nextOf v at .line)) (lineBytes (mixedAt (nextOf v at .line) (nextOf v at .old))) ≡ tornRead (choiceOf a) v (record { bytes = bs; at = at }) .bytes
       go (Refuses n) e = absurd (false≢true e)
       go (Reads p) e = by-entries (drop at (walkEntries p)) e

@@ -27,7 +27,7 @@ use Rattle.torn.proofs.Choices.{at-the-cut}
 use Rattle.torn.proofs.Torn.{cut-place, torn-recovery}
 use Rattle.torn.specs.Torn.{Inside, TornHolds, tornAct, tornActs, tornRecovering}
 use Rattle.undo.proofs.Laws.{and-true, test}
-use Rattle.drill.specs.Drilled.{Drilled, Recovered, Step, TornFrom, actOf, actsOf, afterActs, ended, lastStep, stepOf, stepped, wordsOf}
+use Rattle.drill.specs.Drilled.{Drilled, Recovered, Step, TornFrom, actOf, actsOf, afterActs, ended, lastStep, stepOf, stepped, choiceOf}
 
 -- ---- acts one by one
 
@@ -40,11 +40,11 @@ module _ (r : Recovering) where
   unfolding actOf tornAct act
   act-step a n e = rw (ne-eqb a 0 n, eq-eqb a 255 e)
 
-  pub act-inside : (a : ℕ) → a ≢ 0 → a ≢ 255 → _≡_ {A = Recovering} (record { bytes = tornAct r (Inside (wordsOf a)) .bytes; at = 0 }) (tornAct r (actOf a))
+  pub act-inside : (a : ℕ) → a ≢ 0 → a ≢ 255 → _≡_ {A = Recovering} (record { bytes = tornAct r (Inside (choiceOf a)) .bytes; at = 0 }) (tornAct r (actOf a))
   unfolding actOf
   act-inside a n k =
-      let z : tornAct r (Inside (wordsOf a)) .at ≡ 0 = cut-place r (Inside (wordsOf a)) refl in
-      rw (ne-eqb a 0 n, ne-eqb a 255 k) (λ i. record { bytes = tornAct r (Inside (wordsOf a)) .bytes; at = sym z i })
+      let z : tornAct r (Inside (choiceOf a)) .at ≡ 0 = cut-place r (Inside (choiceOf a)) refl in
+      rw (ne-eqb a 0 n, ne-eqb a 255 k) (λ i. record { bytes = tornAct r (Inside (choiceOf a)) .bytes; at = sym z i })
 
   module _ (as′ : List ℕ) (i : ℕ) where
     pub acts-more : i < length as′ → (s : Recovering) → s ≡ tornAct r (actOf (getD as′ i 0)) → tornActs s (actsOf (drop (i + 1) as′)) ≡ tornActs r (actsOf (drop i as′))

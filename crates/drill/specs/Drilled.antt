@@ -19,19 +19,19 @@ use Rattle.rules.specs.declared.Answer.{Answer}
 use Rattle.torn.specs.Torn.{Between, Inside, TornAct, TornHolds, Whole, tornAct, tornActs, tornImage}
 
 -- the words that the bits of a byte choose, bit 0 for word 0
-abbrev pub wordsOf : ℕ → ℕ → Bool
-wordsOf a w = isSet w a
+abbrev pub choiceOf : ℕ → ℕ → Bool
+choiceOf a w = isSet w a
 
 -- the act of a byte: 255 is a recovery step, 0 a power cut between two steps, any other one inside a step, by which the words of its bits had been restored
 unfoldable pub actOf : ℕ → TornAct
-actOf a = cond (eqb a 0) Between (cond (eqb a 255) Whole (Inside (wordsOf a)))
+actOf a = cond (eqb a 0) Between (cond (eqb a 255) Whole (Inside (choiceOf a)))
 
 abbrev pub actsOf : List ℕ → List TornAct
 actsOf as′ = map actOf as′
 
 -- the bytes of an image after a step at a place that was cut inside
 abbrev pub cutInside : List ℕ → ℕ → ℕ → List ℕ
-cutInside bs at a = tornAct (record { bytes = bs; at = at }) (Inside (wordsOf a)) .bytes
+cutInside bs at a = tornAct (record { bytes = bs; at = at }) (Inside (choiceOf a)) .bytes
 
 -- image and place after acts on an image at a place
 abbrev pub afterActs : List ℕ → ℕ → List ℕ → Recovering

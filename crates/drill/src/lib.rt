@@ -9,7 +9,7 @@ ghost use Prim.Native.Nat.{_%_};
 ghost use Rattle.measures.specs.Loan.{left, was};
 ghost use Rattle.rules.specs.Recovery.{Recovering};
 ghost use Rattle.torn.specs.Torn.{mixed, tornAct};
-ghost use Rattle.drill.specs.Drilled.{Drilled, Recovered, actOf, afterActs, cutInside, wordsOf};
+ghost use Rattle.drill.specs.Drilled.{Drilled, Recovered, actOf, afterActs, cutInside, choiceOf};
 
 // What a drill found: the answer to the save, and the answer to the last recovery step.
 pub struct DrillAnswers {
@@ -26,7 +26,7 @@ fn chosen(bits: u8, now: u64, old: u64) -> u64
 
 // The line with those words of `old` whose bit is set.
 fn mixed_line(words: u8, now: Line, old: Line) -> Line
-    ensures { λ r. ⌜ r ≡ mixed (wordsOf words) 0 now old ⌝ }
+    ensures { λ r. ⌜ r ≡ mixed (choiceOf words) 0 now old ⌝ }
 {
     [
         chosen(words, now[0], old[0]),

@@ -18,13 +18,12 @@ use Rattle.recovery.proofs.Accepted.{image-said, log-front, logged-few,
 use Rattle.recovery.proofs.Places.{image-short}
 use Rattle.recovery.specs.Places.{foundAt, moreOf, nextOf, noEntry}
 use Rattle.rules.proofs.Codec.Image.{only-image, read-records, read-valid}
-use Rattle.rules.specs.Bytes.{lineAt, lineBytes, paste}
+use Rattle.rules.specs.Bytes.{lineAt}
 use Rattle.rules.specs.Claim.{isByte}
 use Rattle.rules.specs.Image.{Logged, Persistent, noListed, noLogged}
 use Rattle.rules.specs.Lists.{all}
 use Rattle.rules.specs.Marks.{markAt, marksOf, oldsIn}
 use Rattle.rules.specs.Reader.{Reads, Refuses, nothing, readImage, recordsRead}
-use Rattle.rules.specs.Recovery.{answered, lineStart, restore}
 use Rattle.rules.specs.Walk.{nextPlace, walk, walkEntries, walkFrom, without}
 use Rattle.rules.specs.declared.Found.the-variants.{At, Full}
 use Rattle.rules.specs.declared.Found.{Found}

@@ -3,17 +3,16 @@ use Prim.Native.Nat.{_*_, _+_, _<_, _≤_, suc, zero, ℕ}
 use mathlib.Core.Bool.{Bool, _&&_, true}
 use mathlib.Core.List.{List, [], _++_, _∷_, append-assoc}
 use mathlib.Core.Path.{_≡_, refl}
-use lib.Dec.{eqb, ltb}
+use lib.Dec.{eqb}
 use lib.ListN.{drop, getD, length, length-append}
 use lib.Seq.{drop-append-add}
 use native.Mathlib.Omega.{arith}
-use borrow.Author.Tests.{eqb-true, lt-ltb, ltb-true}
-use Rattle.rules.proofs.Codec.Bytes.{all-at, isLine}
+use borrow.Author.Tests.{eqb-true, lt-ltb}
 use Rattle.rules.proofs.Codec.Store.{length-head, length-line}
 use Rattle.rules.proofs.Codec.Turns.{entry-long, region-long, size-lines}
-use Rattle.rules.proofs.Codec.Valid.{Valid, fitsEntry, fitsRegion}
+use Rattle.rules.proofs.Codec.Valid.{Valid, fitsRegion}
 use Rattle.rules.specs.Claim.{isByte}
-use Rattle.rules.specs.Image.{Persistent, encode, entryRecord, headRecord, lineRecord, noLogged, regionRecord}
+use Rattle.rules.specs.Image.{Persistent, encode, entryRecord, headRecord, lineRecord, regionRecord}
 use Rattle.rules.specs.Lists.{all, flat}
 use Rattle.rules.specs.Reader.{isKnownThread}
 use Rattle.rules.specs.Recovery.{lineStart}

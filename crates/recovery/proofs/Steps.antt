@@ -1,5 +1,5 @@
 -- The recovery step by what it finds: nothing to restore, or an entry.
-use Prim.Native.Nat.{_+_, _<_, _≤_, suc, ℕ}
+use Prim.Native.Nat.{_+_, _<_, _≤_, ℕ}
 use mathlib.Core.Path.{_≡_, ap, refl, sym}
 use mathlib.Core.Bool.{false, false≢true, true}
 use mathlib.Core.List.{List, [], _∷_}
@@ -10,7 +10,7 @@ use Rattle.recovery.proofs.Places.{line-inside}
 use Rattle.recovery.proofs.Leaves.{walk-few}
 use Rattle.recovery.specs.Places.{nextBy, nextOf}
 use Rattle.rules.proofs.Codec.Image.{only-image, read-records, read-valid}
-use Rattle.rules.proofs.Recover.Steps.{each-drop, each-first, walk-fits}
+use Rattle.rules.proofs.Recover.Steps.{fits-left}
 use Rattle.rules.specs.Bytes.{lineBytes, paste}
 use Rattle.rules.specs.Claim.{isByte}
 use Rattle.rules.specs.Image.{Logged, Persistent}
@@ -95,5 +95,5 @@ module _ (bs : List ℕ) (bytes : all isByte bs ≡ true) (at : ℕ) (e : nextOf
       go : Found bs at → lineStart (nextOf (readImage bs) at .line) + 64 ≤ length bs
       go (found p x xs q k l) =
           let v = read-valid bs p bytes q in
-          let h = each-first (rw k at (each-drop at (walk-fits p v))) .0 in
+          let h = fits-left p v at k .0 in
           rw l (rw (only-image bs p bytes q) at (line-inside p v (x .line) h))

@@ -2,14 +2,14 @@
 use Rattle.undo.specs.Machine as u
 use Rattle.undo.specs.History as v
 use Rattle.undo.specs.Claim.{Reach}
-use Prim.Native.Nat.{_-_, max, ℕ}
+use Prim.Native.Nat.{_-_, ℕ}
 use mathlib.Core.Path.{_∙_, _≡_, ap, refl, subst, sym}
 use mathlib.Core.Bool.{Bool, false, true}
 use mathlib.Core.List.{List, [], _∷_}
 use lib.ListN.{replicate}
 use native.Mathlib.Omega.{arith}
 use Rattle.laws.proofs.Bench.{InStep, act-in-step, acts-in-step, call-same, restores-acts, save-accepted, zero-place}
-use Rattle.laws.specs.Bench.{Bench, benchActs, lentImage, nextCall}
+use Rattle.laws.specs.Bench.{Bench, benchActs, nextCall}
 use Rattle.rules.proofs.Codec.Bytes.{num-bytes}
 use Rattle.rules.proofs.Cuts.{cut-is}
 use Rattle.rules.proofs.Laws.{records-bytes}
@@ -19,18 +19,17 @@ use Rattle.rules.proofs.Sim.All.{every}
 use Rattle.rules.proofs.Sim.Looks.{reach}
 use Rattle.rules.proofs.Sim.State.{Sim, Simulated, by}
 use Rattle.rules.specs.Bytes.{bytesOf, numOf}
-use Rattle.rules.specs.Claim.{boardAfter, entriesIn, isByte, isByteMemory, passLength, restores}
+use Rattle.rules.specs.Claim.{boardAfter, entriesIn, isByteMemory, passLength, restores}
 use Rattle.rules.specs.Contradiction.{contradicts}
 use Rattle.rules.specs.History.{Account, acceptedIn, memoryFound}
 use Rattle.rules.specs.Image.{image, imageCall, saved}
-use Rattle.rules.specs.Lists.{all}
 use Rattle.rules.specs.Record.{recordsOf}
 use Rattle.rules.specs.Recovery.{PowerCut, Recovering, Restore, calledBy, isFinished, restore}
 use Rattle.rules.specs.Refusal.{isSetUp}
 use Rattle.rules.specs.Tables.{Board, Lent, Memory}
 use Rattle.torn.proofs.Torn.{cut-place, torn-act-stands, torn-acts-stand, torn-recovery, torn-stands}
 use Rattle.torn.specs.Bench.{TornBenchHolds, TornBenchRecovers, tornCall, tornCalls}
-use Rattle.torn.specs.Torn.{Between, Inside, TornAct, TornHolds, Whole, isCut, tornAct, tornActs, tornImage, tornRecovering}
+use Rattle.torn.specs.Torn.{Between, Inside, TornAct, TornHolds, Whole, tornAct, tornActs, tornImage, tornRecovering}
 
 module _ {start : ℕ → List ℕ} {b : Board} {es : List Account} {s : u.State (List ℕ)} {h : v.History (List ℕ)} (rc : Reach start s h) (i : Sim b es s h)
     (up : isSetUp (b .tables) ≡ true) (quiet : contradicts (saved b) ≡ false) where

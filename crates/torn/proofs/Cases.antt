@@ -6,7 +6,7 @@ use lib.Dec.{T, eqb}
 use Rattle.rules.specs.Access.{joined, logged, noteRead, read, stored, wordAfter, write, wrote}
 use Rattle.rules.specs.Acknowledge.{dataAck, dropped, kept, keptEntry, landed, logAck, unlocked}
 use Rattle.rules.specs.Begin.{begin, opened}
-use Rattle.rules.specs.Bytes.{bytesOf, lineAt, numOf, wordsBytes, wordsOf}
+use Rattle.rules.specs.Bytes.{bytesOf, numOf, wordsBytes, wordsOf}
 use Rattle.rules.specs.Claim.{boardAfter, restores}
 use Rattle.rules.specs.Commit.{afterCommit, commit, commits, doneRegion, earlier, earliestFrom, freed, settle, settled}
 use Rattle.rules.specs.Contradiction.{anyBroken, anyClash, contradicts, inOrder, reaches, reachesIn}
@@ -17,7 +17,7 @@ use Rattle.rules.specs.Kinds.{kindAt}
 use Rattle.rules.specs.Lists.{aboveFrom, all, count, flat, place, risingFrom}
 use Rattle.rules.specs.Reader.{endTurn, fieldsTurn, headTurn, lineTurn, listedAt, listedTurn, loggedAt, loggedTurn, readBy, readImage, turnBy}
 use Rattle.rules.specs.Record.{eventOf, readRecord}
-use Rattle.rules.specs.Recovery.{act, acts, lineStart, restore, restoreBy}
+use Rattle.rules.specs.Recovery.{act, acts, restore, restoreBy}
 use Rattle.rules.specs.Refusal.{refusal, testsOf}
 use Rattle.rules.specs.Run.{run}
 use Rattle.rules.specs.Slots.{carried, flownSlots, renewed, slotFrom, withoutLine, written}

@@ -1,11 +1,11 @@
 -- The choices of words leave what the request says: at the cut, and inside a step.
-use Prim.Native.Nat.{_+_, _<_, _≤_, suc, zero, ℕ}
+use Prim.Native.Nat.{_+_, _<_, suc, zero, ℕ}
 use mathlib.Core.Path.{_∙_, _≡_, ap, refl, sym}
 use mathlib.Core.Logic.{_⊎_, inl, inr, ⊎-elim}
-use mathlib.Core.Bool.{Bool, _&&_, cond, false, false≢true, not, true}
+use mathlib.Core.Bool.{Bool, cond, false, not, true}
 use mathlib.Core.List.{List, [], _++_, _∷_}
 use lib.Dec.{eqb, ltb}
-use lib.ListN.{drop, getD, length, set}
+use lib.ListN.{drop, length, set}
 use lib.Seq.{ext-getD, getD-set-other, getD-set-same}
 use native.Mathlib.Nat.{zero-add}
 use native.Mathlib.Omega.{arith}
@@ -16,8 +16,8 @@ use Rattle.rules.proofs.Codec.Image.{only-image, read-records, read-valid}
 use Rattle.rules.proofs.Codec.Store.{put-back, put-valid}
 use Rattle.rules.proofs.Codec.Valid.{Valid}
 use Rattle.rules.proofs.Lists.{or-none}
-use Rattle.rules.proofs.Recover.Steps.{each-drop, each-first, walk-fits}
-use Rattle.rules.proofs.Tests.{badAt, passed}
+use Rattle.rules.proofs.Recover.Steps.{fits-left}
+use Rattle.rules.proofs.Tests.{passed}
 use Rattle.rules.specs.Acknowledge.{dataAck}
 use Rattle.rules.specs.Bytes.{lineAt}
 use Rattle.rules.specs.Claim.{isByte}
@@ -35,7 +35,7 @@ use Rattle.laws.proofs.Reserves.{says}
 use Rattle.undo.proofs.Laws.{and-true, never, test}
 use Rattle.torn.proofs.Mixed.{behind-last, either, image-line, mixed-at, mixed-length, mixed-line, mixed-none, mixed-word, torn-length, torn-line}
 use Rattle.torn.specs.Choices.{AtTheCut, Differs, InsideStep, TornWords, wordIn}
-use Rattle.torn.specs.Torn.{Inside, isTorn, mixed, partOf, tornAct, tornBy, tornFrom, tornImage, tornState}
+use Rattle.torn.specs.Torn.{Inside, isTorn, mixed, tornAct, tornBy, tornFrom, tornImage, tornState}
 
 -- ---- at the cut
 
@@ -168,7 +168,7 @@ module _ (r : Recovering) (p : ℕ → Bool) (q : Persistent) (y : all isByte (r
             place = rw (e, k) refl;
           }
       go (f ∷ fs) k =
-          let c = each-first (rw k at (each-drop (r .at) (walk-fits q valid))) in
+          let c = fits-left q valid (r .at) k in
           let h = c .0 in
           let x = lineOf (f .line) (q .medium) in
           let m : f .line < length (q .medium) = omega (arith, valid .whole) in

@@ -5,29 +5,27 @@ use Rattle.undo.specs.Recovery as w
 use Rattle.undo.specs.Claim.{Reach}
 use Rattle.undo.proofs.Main.{structured}
 use Rattle.undo.proofs.Laws.{and-true, test}
-use Rattle.undo.specs.Table.{put}
-use Prim.Native.Nat.{_+_, _-_, _<_, _≤_, ℕ}
-use mathlib.Core.Path.{_∙_, _≡_, ap, refl, sym}
+use Prim.Native.Nat.{_-_, _<_, ℕ}
+use mathlib.Core.Path.{_∙_, _≡_, refl, sym}
 use mathlib.Core.Bool.{Bool, cond, false, false≢true, true}
 use mathlib.Core.List.{List, [], _∷_}
 use lib.Dec.{eqb, ltb}
-use lib.ListN.{drop, getD, length, set, take}
-use lib.Seq.{getD-set-other, getD-set-same, getD-take}
+use lib.ListN.{drop, getD, length, take}
+use lib.Seq.{getD-take}
 use native.Mathlib.Nat.{zero-add}
 use native.Mathlib.Omega.{arith}
-use borrow.Author.Tests.{eqb-false, eqb-true, lt-ltb, ltb-true}
+use borrow.Author.Tests.{eqb-true, lt-ltb, ltb-true}
 use Rattle.rules.proofs.Codec.Back.{image-read, reads-back}
 use Rattle.rules.proofs.Codec.Bytes.{all-at, isLine}
-use Rattle.rules.proofs.Codec.Store.{put-back, put-valid}
 use Rattle.rules.proofs.Codec.Turns.{size-lines}
 use Rattle.rules.proofs.Commits.{commits-told}
 use Rattle.rules.proofs.Cuts.{cut-is}
 use Rattle.rules.proofs.Main.{recovery-is-right}
 use Rattle.rules.proofs.Recover.Entries.{entries-read}
 use Rattle.rules.proofs.Recover.Expected.{expected-length, expected-same}
-use Rattle.rules.proofs.Recover.Olds.{GoodSaved, undos}
+use Rattle.rules.proofs.Recover.Olds.{undos}
 use Rattle.rules.proofs.Recover.Sound.{sound}
-use Rattle.rules.proofs.Recover.Steps.{Standing, cut-stands, each-drop, each-first, entriesWalked, memory-found, pass-finishes, regionsWalked, stands, step-accepted, step-ended, step-stands, the-walk, undos-drop, walked, walked-length}
+use Rattle.rules.proofs.Recover.Steps.{Standing, cut-stands, good-left, line-stored, memory-found, pass-finishes, stands, step-accepted, step-ended, step-stands, undo-left, walked-length}
 use Rattle.rules.proofs.Recover.Valid.{saved-valid}
 use Rattle.rules.proofs.Sim.All.{every}
 use Rattle.rules.proofs.Sim.Data.{flies-here, found-flight, found-key, found-listed}
@@ -46,14 +44,6 @@ use Rattle.rules.specs.Tables.{Board, Memory, lineOf, noRegion, placeOf, startL
 use Rattle.rules.specs.Walk.{walk, walkEntries}
 use Rattle.torn.proofs.Mixed.{image-line, mixed-line, torn-length, torn-line, torn-lines}
 use Rattle.torn.specs.Torn.{Between, Inside, TornAct, TornHolds, TornRecovery, Whole, isCut, isTorn, partOf, tornAct, tornActs, tornBy, tornFrom, tornImage, tornRead, tornRecovering, tornState}
-
--- a line that is stored in both
-stored-agrees : (md : List (List ℕ)) (a : ℕ → List ℕ) (k : ℕ) (x : List ℕ) (n : ℕ) → n ≤ length md → ((l : ℕ) → l < n → lineOf l md ≡ a l)
-    → (l : ℕ) → l < n → lineOf l (set md k x) ≡ put k x a l
-stored-agrees md a k x n h f l t =
-    test (eqb l k)
-    (λ d. rw (d, ← eqb-true l k d) (getD-set-same md l x [] (omega arith)))
-    (λ d. rw d (getD-set-other md k l x [] (eqb-false l k d) ∙ f l t))
 
 module _ {start : ℕ → List ℕ} {b : Board} {es : List Account} {s : u.State (List ℕ)} {h : v.History (List ℕ)} (rc : Reach start s h) (i : Sim b es s h)
     (up : isSetUp (b .tables) ≡ true) (quiet : contradicts (saved b) ≡ false) where
@@ -113,19 +103,13 @@ module _ {start : ℕ → List ℕ} {b : Board} {es : List Account} {s : u.State
           → Standing rc i up quiet (tornBy p e (record { bytes = encode (withMedium md (saved b)); at = r .at }))
       go [] k = stands md a refl z f (w.cuts (r .at) pl)
       go (e ∷ fs) k =
-          let g : GoodSaved b s e = each-first (rw k at (each-drop (r .at) (walked rc i up quiet))) in
+          let g = good-left rc i up quiet (r .at) k in
           let gl = g .line in
           let zw = z .whole in
           let e′ = partOf p e (encode (withMedium md (saved b))) in
           let here : lineAt (encode (withMedium md (saved b))) (lineStart (e .line)) ≡ lineOf (e .line) md = image-line (withMedium md (saved b)) (e .line) z (g .line) in
           let ok : isLine (e′ .old) ≡ true = rw here (mixed-line p (lineOf (e .line) md) (e .old) (all-at isLine md (e .line) [] (z .medium) (omega arith)) (g .old)) in
-          let k′ : drop (r .at) (w.along (entriesWalked rc i up quiet) (regionsWalked rc i up quiet)) ≡ record { line = e .line; old = e .old } ∷ undos fs
-          = rw (← the-walk rc i up quiet) (undos-drop (r .at) (walkEntries (saved b)) ∙ ap undos k) in
-          stands (set md (e .line) (e′ .old)) (put (e .line) (e′ .old) a)
-          (put-back (withMedium md (saved b)) e′ z (g .line))
-          (put-valid (withMedium md (saved b)) e′ z ok)
-          (stored-agrees md a (e .line) (e′ .old) (b .tables .size .lines) (omega arith) f)
-          (w.tears (r .at) (record { line = e .line; old = e .old }) (undos fs) (e′ .old) k′ pl)
+          line-stored rc i up quiet e′ 0 z f (g .line) ok (w.tears (r .at) (record { line = e .line; old = e .old }) (undos fs) (e′ .old) (undo-left rc i up quiet (r .at) k) pl)
 
   -- ---- every act
 

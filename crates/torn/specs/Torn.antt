@@ -1,6 +1,6 @@
 -- Request 10, half a line in the medium: "At a cut, any of the eight words of each data flight may have reached the medium, and so may any of the words of the line
 -- a recovery step was restoring. Recovery must still end at the same memory as document 01 promises, for every such choice of words."
-use Prim.Native.Nat.{_-_, suc, zero, ℕ}
+use Prim.Native.Nat.{_-_, suc, ℕ}
 use mathlib.Core.Path.{_≡_}
 use mathlib.Core.Logic.{_≢_}
 use mathlib.Core.Bool.{Bool, cond, false, true}

@@ -1,6 +1,6 @@
 -- `drill::acted` meets its contract: a power cut between two steps, a recovery step, or a power cut inside one.
 use mathlib.Core.Path.{_∙_, ap}
-use Rattle.rules.specs.Recovery.{Recovering, Restored}
+use Rattle.rules.specs.Recovery.{Restored}
 use Rattle.drill.proofs.Laws.{act-between, act-inside, act-step}
 use borrow.Author.Needs.{needs}
 use Rattle.drill.proofs.acted.Statement.{statement}

@@ -19,7 +19,7 @@ use Rattle.rules.specs.Reader.{readImage}
 use Rattle.rules.specs.Recovery.{lineStart}
 use Rattle.torn.specs.Torn.{mixed}
 use Rattle.drill.proofs.Inside.{inside-none, inside-some}
-use Rattle.drill.specs.Drilled.{wordsOf}
+use Rattle.drill.specs.Drilled.{choiceOf}
 use borrow.Author.Needs.{needs}
 use Rattle.drill.proofs.cut_inside.Statement.{statement}
 use Rattle.drill.proofs.cut_inside.Tie as tie
@@ -66,7 +66,7 @@ returns c =
     let n = nextOf (readImage m) (place k) in
     let there : n .there ≡ true = sym (ap (λ (y : Next). y .there) (k .next-entry .ensures)) ∙ s .before .if1 .taken in
     let room = next-room m (bytes k) (place k) there in
-    let line = mixed (wordsOf w) 0 (lineAt m (lineStart (n .line))) (n .old) in
+    let line = mixed (choiceOf w) 0 (lineAt m (lineStart (n .line))) (n .old) in
     let l : length (lineBytes line) ≡ 64 = length-words 8 line in
     let put = put-room 64 m (lineStart (n .line)) (lineBytes line) room ∙ sets-paste m (lineStart (n .line)) (lineBytes line) (omega arith) in
     rw (

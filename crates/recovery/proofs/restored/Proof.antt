@@ -1,7 +1,7 @@
 -- `recovery::restored` meets its contract: nothing to restore, or the entry that was found goes back to its line.
-use Prim.Native.Nat.{_+_, _≤_, ℕ}
+use Prim.Native.Nat.{ℕ}
 use mathlib.Core.Path.{_∙_, _≡_, ap, sym}
-use mathlib.Core.Bool.{false, true}
+use mathlib.Core.Bool.{true}
 use mathlib.Core.List.{List}
 use lib.ListN.{length}
 use native.Mathlib.Omega.{arith}

@@ -5,7 +5,7 @@ use Rattle.undo.specs.Claim.{Reach, start}
 use Rattle.undo.specs.Recovery as w
 use Rattle.undo.specs.Recovery.{along, Placed, begins, cuts}
 use Rattle.undo.proofs.Main.{finishes}
-use Rattle.rules.specs.Recovery.{Act, PowerCut, Recovering, Restore, act, acts, isFinished, restore, restoreBy}
+use Rattle.rules.specs.Recovery.{Act, PowerCut, Recovering, Restore, act, acts, isFinished, putBack, restore, restoreBy}
 use Rattle.rules.specs.Claim.{restores}
 use Rattle.rules.proofs.Codec.Store.{found, put-back, put-valid}
 use Prim.Native.Nat.{_+_, _<_, _≤_, suc, zero, ℕ}
@@ -54,13 +54,13 @@ each-back : {A : Type 0} {P : A → Type 0} {xs ys : List A} → Each P xs → E
 each-back no-element f = f
 each-back (element a e) f = each-back e (element a f)
 
-pub each-drop : {A : Type 0} {P : A → Type 0} {xs : List A} (n : ℕ) → Each P xs → Each P (drop n xs)
+each-drop : {A : Type 0} {P : A → Type 0} {xs : List A} (n : ℕ) → Each P xs → Each P (drop n xs)
 each-drop zero no-element = no-element
 each-drop (suc n) no-element = no-element
 each-drop zero (element a e) = element a e
 each-drop (suc n) (element a e) = each-drop n e
 
-pub each-first : {A : Type 0} {P : A → Type 0} {x : A} {xs : List A} → Each P (x ∷ xs) → P x
+each-first : {A : Type 0} {P : A → Type 0} {x : A} {xs : List A} → Each P (x ∷ xs) → P x
 each-first (element a e) = a
 
 each-walked : {P : Logged → Type 0} {es : List Logged} (gs : List ℕ) → Each P es → Each P (entriesFrom es gs)
@@ -68,7 +68,7 @@ unfolding entriesFrom entriesOf
 each-walked [] e = no-element
 each-walked (g ∷ gs) e = each-append (each-back (each-keep (λ x. eqb (x .key) g) e) no-element) (each-walked gs e)
 
-pub undos-drop : (n : ℕ) (es : List Logged) → drop n (undos es) ≡ undos (drop n es)
+undos-drop : (n : ℕ) (es : List Logged) → drop n (undos es) ≡ undos (drop n es)
 undos-drop zero es = refl
 undos-drop (suc n) [] = refl
 undos-drop (suc n) (e ∷ es) = undos-drop n es
@@ -85,9 +85,10 @@ each-fits p (e ∷ es) h =
     let d = and-true (ltb (e .line) (p .lines)) (isLine (e .old)) (c .1) in
     element (ltb-true (e .line) (p .lines) (d .0), d .1) (each-fits p es (b .1))
 
-pub walk-fits : (p : Persistent) → Valid p → Each (Fits p) (walkEntries p)
+-- so fits the first of those that are left at a place
+pub fits-left : (p : Persistent) → Valid p → (n : ℕ) {e : Logged} {fs : List Logged} → drop n (walkEntries p) ≡ e ∷ fs → Fits p e
 unfolding walkEntries
-walk-fits p v = each-walked (walk p) (each-fits p (p .log) (v .entries))
+fits-left p v n k = each-first (rw k at (each-drop n (each-walked (walk p) (each-fits p (p .log) (v .entries)))))
 
 undos-length : (es : List Logged) → length (undos es) ≡ length es
 undos-length [] = refl
@@ -119,13 +120,21 @@ module _ {start : ℕ → List ℕ} {b : Board} {es : List Account} {s : u.State
         entries = λ r l. aimed-entries (savedLog 0 8 b) r l (single-chosen rc i r l) ∙ log-chosen rc i r l;
       }
 
-  pub the-walk : undos (walkEntries (saved b)) ≡ along entriesWalked regionsWalked
+  the-walk : undos (walkEntries (saved b)) ≡ along entriesWalked regionsWalked
   unfolding walkEntries entriesWalked
   the-walk = walk-along (saved b .log) (walk (saved b)) ∙ rw walk-is
 
-  pub walked : Each (GoodSaved b s) (walkEntries (saved b))
+  walked : Each (GoodSaved b s) (walkEntries (saved b))
   unfolding walkEntries saved
   walked = each-walked (walk (saved b)) (each-saved rc i 0 8 (omega arith))
+
+  -- the first of the entries that are left at a place, there and in the undo log's walk
+  pub good-left : (n : ℕ) {e : Logged} {fs : List Logged} → drop n (walkEntries (saved b)) ≡ e ∷ fs → GoodSaved b s e
+  good-left n k = each-first (rw k at (each-drop n walked))
+
+  pub undo-left : (n : ℕ) {e : Logged} {fs : List Logged} → drop n (walkEntries (saved b)) ≡ e ∷ fs
+      → drop n (along entriesWalked regionsWalked) ≡ record { line = e .line; old = e .old } ∷ undos fs
+  undo-left n k = rw (← the-walk) (undos-drop n (walkEntries (saved b)) ∙ ap undos k)
 
   pub walked-length : length (walkEntries (saved b)) ≤ length (saved b .log)
   unfolding walkEntries
@@ -149,6 +158,19 @@ module _ {start : ℕ → List ℕ} {b : Board} {es : List Account} {s : u.State
       stands (take (b .tables .size .lines) (b .med)) (s .med) refl (saved-valid rc i up)
       (λ l k. getD-take (b .tables .size .lines) (b .med) l [] k ∙ sym (i .med l)) (begins (λ l k. refl))
 
+  -- a line that is put into the image, where the undo log puts it too
+  pub line-stored : {md : List (List ℕ)} {a : ℕ → List ℕ} (e : Logged) (n : ℕ) → Valid (withMedium md (saved b))
+      → ((l : ℕ) → l < b .tables .size .lines → lineOf l md ≡ a l) → e .line < b .tables .size .lines → isLine (e .old) ≡ true
+      → Placed s (along entriesWalked regionsWalked) n (put (e .line) (e .old) a) → Standing (record { bytes = putBack e (encode (withMedium md (saved b))); at = n })
+  unfolding saved
+  line-stored {md} {a} e n z f h o pl =
+      let zw = z .whole in
+      stands (set md (e .line) (e .old)) (put (e .line) (e .old) a) (put-back (withMedium md (saved b)) e z h) (put-valid (withMedium md (saved b)) e z o)
+      (λ l t. test (eqb l (e .line))
+      (λ d. rw (d, ← eqb-true l (e .line) d) (getD-set-same md l (e .old) [] (omega arith)))
+      (λ d. rw d (getD-set-other md (e .line) l (e .old) [] (eqb-false l (e .line) d) ∙ f l t)))
+      pl
+
   -- a step
   pub step-stands : {r : Recovering} → Standing r → Standing (restore r .after)
   unfolding restoreBy saved
@@ -157,18 +179,9 @@ module _ {start : ℕ → List ℕ} {b : Board} {es : List Account} {s : u.State
       go : Standing r → (e : List Logged) → drop (r .at) (walkEntries (saved b)) ≡ e → Standing (restoreBy e r .after)
       go p [] k = p
       go (stands md a q z f pl) (e ∷ fs) k =
-          let g : GoodSaved b s e = each-first (rw k at (each-drop (r .at) walked)) in
-          let gl = g .line in
-          let zw = z .whole in
-          let k′ : drop (r .at) (along entriesWalked regionsWalked) ≡ record { line = e .line; old = e .old } ∷ undos fs
-          = rw (← the-walk) (undos-drop (r .at) (walkEntries (saved b)) ∙ ap undos k) in
-          stands (set md (e .line) (e .old)) (put (e .line) (e .old) a)
-          (rw q (put-back (withMedium md (saved b)) e z (g .line)))
-          (put-valid (withMedium md (saved b)) e z (g .old))
-          (λ l t. test (eqb l (e .line))
-          (λ d. rw (d, ← eqb-true l (e .line) d) (getD-set-same md l (e .old) [] (omega arith)))
-          (λ d. rw d (getD-set-other md (e .line) l (e .old) [] (eqb-false l (e .line) d) ∙ f l t)))
-          (rw (add-one (r .at)) (w.restores (r .at) (record { line = e .line; old = e .old }) (undos fs) k′ pl))
+          let g = good-left (r .at) k in
+          rw (q, add-one (r .at))
+          (line-stored e (suc (r .at)) z f (g .line) (g .old) (w.restores (r .at) (record { line = e .line; old = e .old }) (undos fs) (undo-left (r .at) k) pl))
 
   pub cut-stands : {r : Recovering} → Standing r → Standing (act r PowerCut)
   unfolding act
