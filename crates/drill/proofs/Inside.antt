@@ -2,16 +2,15 @@
 use Prim.Native.Nat.{_%_, _/_, ℕ}
 use mathlib.Core.Bool.{cond, false, false≢true, true}
 use mathlib.Core.List.{List, [], _∷_}
-use mathlib.Core.Path.{_≡_, refl, sym}
+use mathlib.Core.Path.{_≡_, sym}
 use lib.Dec.{eqb}
-use lib.ListN.{drop, getD, length}
+use lib.ListN.{getD, length}
 use native.Mathlib.Omega.{arith}
-use Rattle.recovery.specs.Places.{nextBy, nextOf}
+use Rattle.recovery.proofs.Steps.{Finds, entry, finds, past, refused}
+use Rattle.recovery.specs.Places.{nextOf}
 use Rattle.rules.specs.Bytes.{lineAt, lineBytes, paste}
-use Rattle.rules.specs.Image.{Logged, Persistent}
-use Rattle.rules.specs.Reader.{Reads, Refuses, Verdict, readImage}
+use Rattle.rules.specs.Reader.{readImage}
 use Rattle.rules.specs.Recovery.{lineStart}
-use Rattle.rules.specs.Walk.{walkEntries}
 use Rattle.torn.specs.Torn.{mixed, tornAct, tornBy, tornRead}
 use Rattle.drill.specs.Drilled.{cutInside, choiceOf}
 
@@ -54,15 +53,12 @@ words-mixed a xs ys n r₀ r₁ r₂ r₃ r₄ r₅ r₆ r₇ e₀ e₁ e₂ e�
 module _ (bs : List ℕ) (at a : ℕ) where
   pub inside-none : nextOf (readImage bs) at .there ≡ false → bs ≡ cutInside bs at a
   unfolding tornAct tornBy
-  inside-none = go (readImage bs)
+  inside-none e = go (finds bs at)
     where
-      by-entries : (es : List Logged) → nextBy es .there ≡ false → bs ≡ tornBy (choiceOf a) es (record { bytes = bs; at = at }) .bytes
-      by-entries [] e = refl
-      by-entries (x ∷ es) e = absurd (false≢true (sym e))
-
-      go : (v : Verdict Persistent) → nextOf v at .there ≡ false → bs ≡ tornRead (choiceOf a) v (record { bytes = bs; at = at }) .bytes
-      go (Refuses n) e = refl
-      go (Reads p) e = by-entries (drop at (walkEntries p)) e
+      go : Finds bs at → bs ≡ tornRead (choiceOf a) (readImage bs) (record { bytes = bs; at = at }) .bytes
+      go (refused n q) = rw q
+      go (past p q k) = rw (q, k)
+      go (entry p x xs q k) = absurd (false≢true (sym (rw (q, k) at e)))
 
   -- the line as it stands, with words of the entry
   abbrev mixedAt : ℕ → List ℕ → List ℕ
@@ -71,14 +67,11 @@ module _ (bs : List ℕ) (at a : ℕ) where
   pub inside-some : nextOf (readImage bs) at .there ≡ true
       → paste bs (lineStart (nextOf (readImage bs) at .line)) (lineBytes (mixedAt (nextOf (readImage bs) at .line) (nextOf (readImage bs) at .old))) ≡ cutInside bs at a
   unfolding tornAct tornBy
-  inside-some = go (readImage bs)
+  inside-some e = go (finds bs at)
     where
-      by-entries : (es : List Logged) → nextBy es .there ≡ true
-          → paste bs (lineStart (nextBy es .line)) (lineBytes (mixedAt (nextBy es .line) (nextBy es .old))) ≡ tornBy (choiceOf a) es (record { bytes = bs; at = at }) .bytes
-      by-entries [] e = absurd (false≢true e)
-      by-entries (x ∷ es) e = refl
-
-      go : (v : Verdict Persistent) → nextOf v at .there ≡ true
-          → paste bs (lineStart (nextOf v at .line)) (lineBytes (mixedAt (nextOf v at .line) (nextOf v at .old))) ≡ tornRead (choiceOf a) v (record { bytes = bs; at = at }) .bytes
-      go (Refuses n) e = absurd (false≢true e)
-      go (Reads p) e = by-entries (drop at (walkEntries p)) e
+      go : Finds bs at
+          → paste bs (lineStart (nextOf (readImage bs) at .line)) (lineBytes (mixedAt (nextOf (readImage bs) at .line) (nextOf (readImage bs) at .old)))
+          ≡ tornRead (choiceOf a) (readImage bs) (record { bytes = bs; at = at }) .bytes
+      go (refused n q) = absurd (false≢true (rw q at e))
+      go (past p q k) = absurd (false≢true (rw (q, k) at e))
+      go (entry p x xs q k) = rw (q, k)

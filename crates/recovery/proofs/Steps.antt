@@ -8,7 +8,7 @@ use native.Mathlib.Omega.{arith}
 use Rattle.reading.proofs.Walk.{read-few}
 use Rattle.recovery.proofs.Places.{line-inside}
 use Rattle.recovery.proofs.Leaves.{walk-few}
-use Rattle.recovery.specs.Places.{nextBy, nextOf}
+use Rattle.recovery.specs.Places.{nextOf}
 use Rattle.rules.proofs.Codec.Image.{only-image, read-records, read-valid}
 use Rattle.rules.proofs.Recover.Steps.{fits-left}
 use Rattle.rules.specs.Bytes.{lineBytes, paste}
@@ -16,25 +16,39 @@ use Rattle.rules.specs.Claim.{isByte}
 use Rattle.rules.specs.Image.{Logged, Persistent}
 use Rattle.rules.specs.Lists.{all}
 use Rattle.rules.specs.Reader.{Reads, Refuses, Verdict, readImage}
-use Rattle.rules.specs.Recovery.{Recovering, answered, lineStart, restore, restoreBy, restoreRead}
+use Rattle.rules.specs.Recovery.{Recovering, answered, lineStart, restore, restoreBy}
 use Rattle.rules.specs.Walk.{walkEntries}
 
+-- the image is refused, or nothing is left at the place, or an entry is left there
+pub data Finds (bs : List ℕ) (at : ℕ) : Type 0 where
+  refused : (n : ℕ) → readImage bs ≡ Refuses n → Finds bs at
+  past : (p : Persistent) → readImage bs ≡ Reads p → drop at (walkEntries p) ≡ [] → Finds bs at
+  entry : (p : Persistent) (x : Logged) (xs : List Logged) → readImage bs ≡ Reads p → drop at (walkEntries p) ≡ x ∷ xs → Finds bs at
+
 module _ (bs : List ℕ) (at : ℕ) where
+  pub finds : Finds bs at
+  finds = go (readImage bs) refl
+    where
+      left : (p : Persistent) (es : List Logged) → readImage bs ≡ Reads p → drop at (walkEntries p) ≡ es → Finds bs at
+      left p [] q k = past p q k
+      left p (x ∷ es) q k = entry p x es q k
+
+      go : (v : Verdict Persistent) → readImage bs ≡ v → Finds bs at
+      go (Refuses n) q = refused n q
+      go (Reads p) q = left p (drop at (walkEntries p)) q refl
+
   abbrev there : Recovering
   there = record { bytes = bs; at = at }
 
   pub step-stays : nextOf (readImage bs) at .there ≡ false
       → record { after = there; answer = answered (nextOf (readImage bs) at .refusal) 0 } ≡ restore there
   unfolding restore restoreBy
-  step-stays = go (readImage bs)
+  step-stays e = go finds
     where
-      by-entries : (es : List Logged) → nextBy es .there ≡ false → record { after = there; answer = answered (nextBy es .refusal) 0 } ≡ restoreBy es there
-      by-entries [] e = refl
-      by-entries (x ∷ es) e = absurd (false≢true (sym e))
-
-      go : (v : Verdict Persistent) → nextOf v at .there ≡ false → record { after = there; answer = answered (nextOf v at .refusal) 0 } ≡ restoreRead v there
-      go (Refuses n) e = refl
-      go (Reads p) e = by-entries (drop at (walkEntries p)) e
+      go : Finds bs at → record { after = there; answer = answered (nextOf (readImage bs) at .refusal) 0 } ≡ restore there
+      go (refused n q) = rw q
+      go (past p q k) = rw (q, k)
+      go (entry p x xs q k) = absurd (false≢true (sym (rw (q, k) at e)))
 
   pub step-goes : nextOf (readImage bs) at .there ≡ true
       → record {
@@ -43,57 +57,36 @@ module _ (bs : List ℕ) (at : ℕ) where
       }
       ≡ restore there
   unfolding restore restoreBy
-  step-goes = go (readImage bs)
+  step-goes e = go finds
     where
-      by-entries : (es : List Logged) → nextBy es .there ≡ true
+      go : Finds bs at
           → record {
-            after = record { bytes = paste bs (lineStart (nextBy es .line)) (lineBytes (nextBy es .old)); at = at + 1 };
-            answer = answered 0 (nextBy es .more);
+            after = record { bytes = paste bs (lineStart (nextOf (readImage bs) at .line)) (lineBytes (nextOf (readImage bs) at .old)); at = at + 1 };
+            answer = answered 0 (nextOf (readImage bs) at .more);
           }
-          ≡ restoreBy es there
-      by-entries [] e = absurd (false≢true e)
-      by-entries (x ∷ es) e = refl
+          ≡ restore there
+      go (refused n q) = absurd (false≢true (rw q at e))
+      go (past p q k) = absurd (false≢true (rw (q, k) at e))
+      go (entry p x xs q k) = rw (q, k)
 
-      go : (v : Verdict Persistent) → nextOf v at .there ≡ true
-          → record {
-            after = record { bytes = paste bs (lineStart (nextOf v at .line)) (lineBytes (nextOf v at .old)); at = at + 1 };
-            answer = answered 0 (nextOf v at .more);
-          }
-          ≡ restoreRead v there
-      go (Refuses n) e = absurd (false≢true e)
-      go (Reads p) e = by-entries (drop at (walkEntries p)) e
+  -- ---- an entry that is found
 
--- ---- an entry that is found
+  module _ (bytes : all isByte bs ≡ true) (e : nextOf (readImage bs) at .there ≡ true) where
+    -- its place is below 8192
+    pub next-soon : at < 8192
+    next-soon = go finds
+      where
+        go : Finds bs at → at < 8192
+        go (refused n q) = absurd (false≢true (rw q at e))
+        go (past p q k) = absurd (false≢true (rw (q, k) at e))
+        go (entry p x xs q k) = omega (arith, length-drop at (walkEntries p), ap length k, walk-few p (read-few bs p (read-records bs p q .0)))
 
--- it is one of an accepted image, and what is left begins with it
-pub data Found (bs : List ℕ) (at : ℕ) : Type 0 where
-  found : (p : Persistent) (x : Logged) (xs : List Logged) → readImage bs ≡ Reads p → drop at (walkEntries p) ≡ x ∷ xs → nextOf (readImage bs) at .line ≡ x .line → Found bs at
-
-next-found : (bs : List ℕ) (at : ℕ) → nextOf (readImage bs) at .there ≡ true → Found bs at
-next-found bs at = go (readImage bs) refl
-  where
-    by-entries : (p : Persistent) (es : List Logged) → readImage bs ≡ Reads p → drop at (walkEntries p) ≡ es → nextBy es .there ≡ true → Found bs at
-    by-entries p [] q k e = absurd (false≢true e)
-    by-entries p (x ∷ es) q k e = found p x es q k (rw (q, k))
-
-    go : (v : Verdict Persistent) → readImage bs ≡ v → nextOf v at .there ≡ true → Found bs at
-    go (Refuses n) q e = absurd (false≢true e)
-    go (Reads p) q e = by-entries p (drop at (walkEntries p)) q refl e
-
-module _ (bs : List ℕ) (bytes : all isByte bs ≡ true) (at : ℕ) (e : nextOf (readImage bs) at .there ≡ true) where
-  -- its place is below 8192
-  pub next-soon : at < 8192
-  next-soon = go (next-found bs at e)
-    where
-      go : Found bs at → at < 8192
-      go (found p x xs q k l) = omega (arith, length-drop at (walkEntries p), ap length k, walk-few p (read-few bs p (read-records bs p q .0)))
-
-  -- its line is inside the image
-  pub next-room : lineStart (nextOf (readImage bs) at .line) + 64 ≤ length bs
-  next-room = go (next-found bs at e)
-    where
-      go : Found bs at → lineStart (nextOf (readImage bs) at .line) + 64 ≤ length bs
-      go (found p x xs q k l) =
-          let v = read-valid bs p bytes q in
-          let h = fits-left p v at k .0 in
-          rw l (rw (only-image bs p bytes q) at (line-inside p v (x .line) h))
+    -- its line is inside the image
+    pub next-room : lineStart (nextOf (readImage bs) at .line) + 64 ≤ length bs
+    next-room = go finds
+      where
+        go : Finds bs at → lineStart (nextOf (readImage bs) at .line) + 64 ≤ length bs
+        go (refused n q) = absurd (false≢true (rw q at e))
+        go (past p q k) = absurd (false≢true (rw (q, k) at e))
+        go (entry p x xs q k) =
+            let v = read-valid bs p bytes q in rw (q, k) (rw (only-image bs p bytes q) at (line-inside p v (x .line) (fits-left p v at k .0)))

@@ -1,6 +1,6 @@
 -- The choices of words leave what the request says: at the cut, and inside a step.
 use Prim.Native.Nat.{_+_, _<_, suc, zero, ℕ}
-use mathlib.Core.Path.{_∙_, _≡_, ap, refl, sym}
+use mathlib.Core.Path.{_∙_, _≡_, ap, refl, subst, sym}
 use mathlib.Core.Logic.{_⊎_, inl, inr, ⊎-elim}
 use mathlib.Core.Bool.{Bool, cond, false, not, true}
 use mathlib.Core.List.{List, [], _++_, _∷_}
@@ -9,7 +9,7 @@ use lib.ListN.{drop, length, set}
 use lib.Seq.{ext-getD, getD-set-other, getD-set-same}
 use native.Mathlib.Nat.{zero-add}
 use native.Mathlib.Omega.{arith}
-use borrow.Author.Tests.{eqb-false, eqb-true, ltb-false, ltb-true, not-false, not-true}
+use borrow.Author.Tests.{eq-eqb, eqb-false, eqb-true, ltb-false, ltb-true, not-false, not-true}
 use Rattle.rules.proofs.Codec.Back.{image-read}
 use Rattle.rules.proofs.Codec.Bytes.{all-at, isLine, isWord}
 use Rattle.rules.proofs.Codec.Image.{only-image, read-records, read-valid}
@@ -19,22 +19,25 @@ use Rattle.rules.proofs.Lists.{or-none}
 use Rattle.rules.proofs.Recover.Steps.{fits-left}
 use Rattle.rules.proofs.Tests.{passed}
 use Rattle.rules.specs.Acknowledge.{dataAck}
-use Rattle.rules.specs.Bytes.{lineAt}
+use Rattle.rules.specs.Bytes.{lineAt, numOf}
 use Rattle.rules.specs.Claim.{isByte}
 use Rattle.rules.specs.Contradiction.{contradicts}
 use Rattle.rules.specs.Image.{Logged, Persistent, encode, image, saved, savedLog, savedThread, withLogged, withMedium}
 use Rattle.rules.specs.Lists.{all}
-use Rattle.rules.specs.Reader.{Reads, Refuses, readImage}
-use Rattle.rules.specs.Recovery.{Recovering, lineStart, restore, restoreBy}
+use Rattle.rules.specs.Reader.{Reads, readImage}
+use Rattle.rules.specs.Recovery.{Recovering, lineStart, recoveryCall, restore, restoreBy}
 use Rattle.rules.specs.Refusal.{inFlight, refusal, testsOf}
 use Rattle.rules.specs.Step.{apply, settledBoard}
 use Rattle.rules.specs.Tables.{Board, lineOf}
 use Rattle.rules.specs.Walk.{walkEntries}
 use Rattle.rules.specs.declared.Event.the-variants.{Cut, DataAck}
 use Rattle.laws.proofs.Reserves.{says}
+use Rattle.laws.specs.Bench.{Bench, nextCall}
+use Rattle.torn.proofs.Torn.{cut-place}
 use Rattle.undo.proofs.Laws.{and-true, never, test}
 use Rattle.torn.proofs.Mixed.{behind-last, either, image-line, mixed-at, mixed-length, mixed-line, mixed-none, mixed-word, torn-length, torn-line}
-use Rattle.torn.specs.Choices.{AtTheCut, Differs, InsideStep, TornWords, wordIn}
+use Rattle.torn.specs.Choices.{AtTheCut, Differs, Tears, TornWords, wordIn}
+use Rattle.torn.specs.Bench.{tornCall}
 use Rattle.torn.specs.Torn.{Inside, isTorn, mixed, tornAct, tornBy, tornFrom, tornImage, tornState}
 
 -- ---- at the cut
@@ -153,11 +156,11 @@ module _ (r : Recovering) (p : ℕ → Bool) (q : Persistent) (y : all isByte (r
   unfolding contradicts
   other-reads md z = image-read (withMedium md q) z (read-records (r .bytes) q e .1)
 
-  inside-step : InsideStep r p q
+  inside-step : Tears p q (restore r .after .bytes) (tornAct r (Inside p) .bytes)
   unfolding restore restoreBy tornAct tornBy
   inside-step = go (drop (r .at) (walkEntries q)) refl
     where
-      go : (es : List Logged) → drop (r .at) (walkEntries q) ≡ es → InsideStep r p q
+      go : (es : List Logged) → drop (r .at) (walkEntries q) ≡ es → Tears p q (restore r .after .bytes) (tornAct r (Inside p) .bytes)
       go [] k =
           record {
             behind = q .medium;
@@ -165,7 +168,6 @@ module _ (r : Recovering) (p : ℕ → Bool) (q : Persistent) (y : all isByte (r
             restored = rw (e, k) e;
             reads = rw (e, k) e;
             words = λ l w. sym (either (p w) (wordIn l w (q .medium)));
-            place = rw (e, k) refl;
           }
       go (f ∷ fs) k =
           let c = fits-left q valid (r .at) k in
@@ -190,12 +192,20 @@ module _ (r : Recovering) (p : ℕ → Bool) (q : Persistent) (y : all isByte (r
                 (λ d. let o = eqb-false l (f .line) d in
                 rw (getD-set-other (q .medium) (f .line) l (f .old) [] o, getD-set-other (q .medium) (f .line) l (mixed p 0 x (f .old)) [] o)
                 (sym (either (p w) (wordIn l w (q .medium)))));
-            place = rw (e, k) refl;
           }
 
+-- a call with eight bytes of place is the step at the place that they hold
+call-image : (b : Bench) → length (b .place) ≡ 8 → restore (record { bytes = b .image; at = numOf (b .place) }) .after .bytes ≡ nextCall b .image
+unfolding recoveryCall
+call-image b n = rw (eq-eqb (length (b .place)) 8 n)
+
 pub torn-words : TornWords
-unfolding tornAct
-torn-words = record { cut = at-the-cut; inside = inside-step; refused = refused }
-  where
-    refused : (r : Recovering) (p : ℕ → Bool) (n : ℕ) → readImage (r .bytes) ≡ Refuses n → tornAct r (Inside p) ≡ record { bytes = r .bytes; at = 0 }
-    refused r p n e = rw e
+unfolding tornAct tornCall
+torn-words =
+    record {
+      cut = at-the-cut;
+      inside = λ r p q y e. (inside-step r p q y e, cut-place r (Inside p) refl);
+      calls = λ b p q n y e. let r : Recovering = record { bytes = b .image; at = numOf (b .place) } in
+          (subst (λ bs. Tears p q bs (tornAct r (Inside p) .bytes)) (call-image b n) (inside-step r p q y e), refl);
+      refused = λ r p n e. rw e;
+    }

@@ -5,7 +5,8 @@ use mathlib.Core.Path.{_≡_}
 use mathlib.Core.Logic.{_⊎_}
 use mathlib.Core.Bool.{Bool, cond, false, true}
 use mathlib.Core.List.{List}
-use lib.ListN.{getD, length, set}
+use lib.ListN.{getD, length, replicate, set}
+use Rattle.laws.specs.Bench.{Bench, nextCall}
 use Rattle.rules.specs.Claim.{isByte}
 use Rattle.rules.specs.Image.{Persistent, image, saved, withMedium}
 use Rattle.rules.specs.Lists.{all}
@@ -15,6 +16,7 @@ use Rattle.rules.specs.Refusal.{inFlight, refusal}
 use Rattle.rules.specs.Step.{apply}
 use Rattle.rules.specs.Tables.{Board, lineOf}
 use Rattle.rules.specs.declared.Event.the-variants.{Cut, DataAck}
+use Rattle.torn.specs.Bench.{tornCall}
 use Rattle.torn.specs.Torn.{Inside, tornAct, tornImage, tornState}
 
 -- word w of line l
@@ -44,20 +46,23 @@ pub record AtTheCut (b : Board) : Type 0 where
       → (inFlight l (b .tables) ≡ true) × (apply b (DataAck l) .board .med ≡ set (b .med) l (lineOf l (b .car)))
   pub lies : (l : ℕ) → refusal (b .tables) (DataAck l) ≡ 22 → inFlight l (b .tables) ≡ false
 
--- ---- inside a recovery step
+-- ---- inside a recovery step, and inside a call
 
--- a step on an image that reads as q, cut inside: the image then reads as q with another medium. Each word that is chosen is as behind the whole step, each other
--- as before it; and the place is 0
-pub record InsideStep (r : Recovering) (p : ℕ → Bool) (q : Persistent) : Type 0 where
+-- bytes that a cut inside has left of an image that reads as q: they read as q with another medium, of which each word that is chosen is as in the whole ones, and each
+-- other as before
+pub record Tears (p : ℕ → Bool) (q : Persistent) (whole part : List ℕ) : Type 0 where
   pub behind : List (List ℕ)
   pub torn : List (List ℕ)
-  pub restored : readImage (restore r .after .bytes) ≡ Reads (withMedium behind q)
-  pub reads : readImage (tornAct r (Inside p) .bytes) ≡ Reads (withMedium torn q)
+  pub restored : readImage whole ≡ Reads (withMedium behind q)
+  pub reads : readImage part ≡ Reads (withMedium torn q)
   pub words : (l w : ℕ) → wordIn l w torn ≡ cond (p w) (wordIn l w behind) (wordIn l w (q .medium))
-  pub place : tornAct r (Inside p) .at ≡ 0
 
 pub record TornWords : Type 0 where
   pub cut : (b : Board) → AtTheCut b
-  pub inside : (r : Recovering) (p : ℕ → Bool) (q : Persistent) → all isByte (r .bytes) ≡ true → readImage (r .bytes) ≡ Reads q → InsideStep r p q
+  -- a step, and a call of a bench with eight bytes of place; the place is 0 then
+  pub inside : (r : Recovering) (p : ℕ → Bool) (q : Persistent) → all isByte (r .bytes) ≡ true → readImage (r .bytes) ≡ Reads q
+      → Tears p q (restore r .after .bytes) (tornAct r (Inside p) .bytes) × (tornAct r (Inside p) .at ≡ 0)
+  pub calls : (b : Bench) (p : ℕ → Bool) (q : Persistent) → length (b .place) ≡ 8 → all isByte (b .image) ≡ true → readImage (b .image) ≡ Reads q
+      → Tears p q (nextCall b .image) (tornCall b (Inside p) .image) × (tornCall b (Inside p) .place ≡ replicate 8 0)
   -- on an image that is refused a step does nothing, and nothing is torn
   pub refused : (r : Recovering) (p : ℕ → Bool) (n : ℕ) → readImage (r .bytes) ≡ Refuses n → tornAct r (Inside p) ≡ record { bytes = r .bytes; at = 0 }

@@ -1,3 +1,3 @@
 pub mod Torn
-pub mod Choices
 pub mod Bench
+pub mod Choices

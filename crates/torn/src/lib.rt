@@ -9,8 +9,8 @@ pub fn torn_recovery_is_right()
     ensures { λ r. ⌜ TornRecovery ⌝ }
 {}
 
-// The choices of words leave exactly the images that differ from the one saved in words of data flights; a step that is cut inside leaves each word as before it
-// or as behind it.
+// The choices of words leave exactly the images that differ from the one saved in words of data flights; a step, or a call of a bench, that is cut inside leaves each word as
+// before it or as behind it.
 pub fn words_are_torn()
     ensures { λ r. ⌜ TornWords ⌝ }
 {}

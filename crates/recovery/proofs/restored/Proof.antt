@@ -65,7 +65,7 @@ put-line-at-requires c κs = search needs
 add-after : tie.Need-add-after
 add-after c =
     let k = start c in
-    let h = next-soon (image k) (bytes k) (place k) (is-there c) in
+    let h = next-soon (image k) (place k) (bytes k) (is-there c) in
     record { fits = omega arith }
 
 same-length-2 : tie.Need-same-length-2
@@ -76,7 +76,7 @@ returns-2 c =
     let k = start c in
     let m = image k in
     let n = nextOf (readImage m) (place k) in
-    let room = next-room m (bytes k) (place k) (is-there c) in
+    let room = next-room m (place k) (bytes k) (is-there c) in
     let l : length (lineBytes (n .old)) ≡ 64 = length-words 8 (n .old) in
     let put = put-room 64 m (lineStart (n .line)) (lineBytes (n .old)) room ∙ sets-paste m (lineStart (n .line)) (lineBytes (n .old)) (omega arith) in
     rw (c .before .before .put-line-at .ensures, c .before .before .before .line-start .ensures, k .next-entry .ensures, put) (step-goes m (place k) (is-there c))
