@@ -1,5 +1,6 @@
-/* bench FILE [STEPS]: runs an event file over zero memory and saves the image that its cut left; recovers, but loses power after some steps (half of the
-   log entries unless told), and recovers from the start. Prints the words that it finds in the image at each of the three moments.
+/* bench [-n] FILE [STEPS]: runs an event file over zero memory and saves the image that its cut left, with -n in the new form; recovers, but loses power
+   after some steps (half of the log entries unless told), and recovers from the start. Prints the words that it finds in the image at each of the three
+   moments.
    Build: make -C tests bench */
 #include <inttypes.h>
 #include <stdio.h>
@@ -31,8 +32,9 @@ int main(int argc, char **argv) {
     static saved_image image;
     uint8_t *file;
     size_t length;
+    image.headed = is_headed(&argc, &argv);
     if (argc != 2 && argc != 3) {
-        fprintf(stderr, "usage: bench FILE [STEPS]\n");
+        fprintf(stderr, "usage: bench [-n] FILE [STEPS]\n");
         return 2;
     }
     int code = save_image("bench", argv[1], &file, &length, &image);

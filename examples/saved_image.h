@@ -2,6 +2,7 @@
 #ifndef SAVED_IMAGE_H
 #define SAVED_IMAGE_H
 
+#include "../include/board.h"
 #include "event_file.h"
 
 enum {
@@ -10,13 +11,20 @@ enum {
 };
 
 typedef struct {
+    int headed; /* in the new form: log entries under headers */
     uint8_t bytes[MOST_IMAGE];
     size_t length, lines;
     uint64_t regions, entries; /* the uncommitted regions and the log entries */
 } saved_image;
 
-/* Reads an event file, runs it over zero memory and saves the image that its cut left. Gives 0, or the exit code when it has said why there is none.
-   The caller frees the file in any case. */
+/* Whether the first argument asks for the new form; it is taken away then. */
+int is_headed(int *argc, char ***argv);
+
+/* Runs an event file over zero memory and saves the image in a form. */
+board_answer save_form(int headed, const uint8_t *file, size_t length, uint8_t bytes[MOST_IMAGE]);
+
+/* Reads an event file and saves the image that its cut left, in the form that image->headed says. Gives 0, or the exit code when it has said why there is
+   none. The caller frees the file in any case. */
 int save_image(const char *program, const char *name, uint8_t **file, size_t *length, saved_image *image);
 
 /* Where the bytes of a line stand in an image. */
@@ -27,6 +35,9 @@ void print_image(const saved_image *image);
 
 /* The nonzero words of the lines, behind a title. */
 void print_words(const char *title, const saved_image *image);
+
+/* One recovery step, by the call for its form. */
+board_answer step_image(saved_image *image, uint8_t place[8]);
 
 /* Makes recovery steps from the first one on, until 'finished' or until as many as `most` are made, and counts them. Gives the refusal of a step, else 0. */
 uint8_t recover(saved_image *image, uint64_t most, uint64_t *made);

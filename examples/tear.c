@@ -1,13 +1,12 @@
-/* tear FILE: runs an event file over zero memory and saves the image that its cut left. Power may fail inside a store: any words of a line in flight at the
-   cut may be in the medium, and any words of the line that a recovery step was restoring. Tries every set of words, in each line in flight alone, in all of
-   them, and in the line of every recovery step, and recovers from the start. Prints what it tried and the words found, which are always the same (exit 0),
-   or which tear is not made good (exit 1). Build: make -C tests tear */
+/* tear [-n] FILE: runs an event file over zero memory and saves the image that its cut left, with -n in the new form. Power may fail inside a store: any
+   words of a line in flight at the cut may be in the medium, and any words of the line that a recovery step was restoring. Tries every set of words, in each
+   line in flight alone, in all of them, and in the line of every recovery step, and recovers from the start. Prints what it tried and the words found, which
+   are always the same (exit 0), or which tear is not made good (exit 1). Build: make -C tests tear */
 #include <inttypes.h>
 #include <stdio.h>
 #include <stdlib.h>
 #include <string.h>
 
-#include "../include/board.h"
 #include "saved_image.h"
 
 enum { DATA_ACK = 6, CUT = 8, ANSWER_BYTES = 9, WORDS = 8, SETS = 1 << WORDS };
@@ -37,7 +36,7 @@ static void find_flights(uint8_t *file, size_t length, uint8_t *answers, size_t 
         memcpy(file + cut, (uint8_t[]){DATA_ACK, (uint8_t)l, CUT}, 3);
         board_events(file, cut + 3, memory, memory_len, answers, room);
         if (*answer != 0) continue;
-        board_image(file, cut + 3, memory, memory_len, image, sizeof image);
+        save_form(saved.headed, file, cut + 3, image);
         memcpy(landed.bytes + line_at(l), image + line_at(l), LINE_BYTES);
         in_flight[l] = 1;
         flights++;
@@ -100,7 +99,7 @@ static int tear_steps(unsigned set) {
     reach(&whole, &landed, 0, saved.lines, set);
     for (uint64_t step = 1; step <= saved.entries; step++, steps_torn++) {
         torn = whole;
-        board_answer a = board_recovery_step(whole.bytes, whole.length, place, sizeof place);
+        board_answer a = step_image(&whole, place);
         reach(&torn, &whole, 0, saved.lines, set);
         const char *what = a.refusal != 0 ? "the step is refused" : wrong(&torn);
         if (what == NULL) continue;
@@ -148,8 +147,9 @@ static int tear_file(const uint8_t *file, size_t length) {
 int main(int argc, char **argv) {
     uint8_t *file;
     size_t length;
+    saved.headed = is_headed(&argc, &argv);
     if (argc != 2) {
-        fprintf(stderr, "usage: tear FILE\n");
+        fprintf(stderr, "usage: tear [-n] FILE\n");
         return 2;
     }
     int code = save_image("tear", argv[1], &file, &length, &saved);

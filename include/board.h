@@ -35,6 +35,14 @@ board_answer board_image(const uint8_t *file, size_t file_len, const uint8_t *me
    Its value is 1 while log entries remain after it ('more'), else 0 ('finished'). 6 if the place is not of eight bytes, then 1 to 8 for an image that is refused. */
 board_answer board_recovery_step(uint8_t *image, size_t image_len, uint8_t *place, size_t place_len);
 
+/* As board_image, but saves the new image: its log entries stand under headers, 1 to 7 of one region in a record of kind 41 to 47. It is never longer than
+   the other one. */
+board_answer board_image_headed(const uint8_t *file, size_t file_len, const uint8_t *memory, size_t memory_len, uint8_t *image, size_t image_len);
+
+/* As board_recovery_step, but takes images of both forms, and gives the same answers, places and lines for either. board_recovery_step refuses an image with
+   headers by 2. */
+board_answer board_recovery_step_headed(uint8_t *image, size_t image_len, uint8_t *place, size_t place_len);
+
 #ifdef __cplusplus
 }
 #endif

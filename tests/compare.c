@@ -1,14 +1,14 @@
-/* compare SEED LISTS: the proved engine against the plain one, on random event files, valid and damaged: answers, images, images after
-   every recovery step, of torn images and behind cuts inside a step too, places, refusals of short buffers and of damaged images; and on every mask, every
-   party and reserve of a setup, all pairs of reserves that setup accepts, with begins that fill the channels, and every line that each thread reads and
-   others write. The last line is 'N passed, M failed'. */
+/* compare SEED LISTS: the proved engine against the plain one, on random event files, valid and damaged: answers, images of both forms, images after
+   every recovery step of either, of torn images and behind cuts inside a step too, places, refusals of short buffers and of damaged images; and on every
+   mask, every party and reserve of a setup, all pairs of reserves that setup accepts, with begins that fill the channels, and every line that each thread
+   reads and others write. The last line is 'N passed, M failed'. */
 #include <stdio.h>
 #include <stdlib.h>
 #include <string.h>
 
 #include "../include/board.h"
 #include "plain/common.h"
-#include "plain/random.h"
+#include "plain/damage.h"
 
 enum { EVENTS = 400, FILE_BYTES = (EVENTS + 1) * PLAIN_RECORD_BYTES, SPARE = 16 };
 
@@ -37,11 +37,22 @@ static void compare_answers(size_t length, size_t memory_len, size_t room, unsig
     check(memcmp(answers[0], answers[1], sizeof answers[0]) == 0, "answers", seed);
 }
 
-/* The image of the file; gives its length, 0 if it was refused. */
-static size_t compare_image(size_t length, size_t memory_len, size_t room, unsigned long long seed) {
+/* The calls that save and recover the old form, and those of the new one, whose step takes both. */
+static const struct {
+    board_answer (*proved_image)(const uint8_t *, size_t, const uint8_t *, size_t, uint8_t *, size_t);
+    plain_answer (*plain_image)(const uint8_t *, size_t, const uint8_t *, size_t, uint8_t *, size_t);
+    board_answer (*proved_step)(uint8_t *, size_t, uint8_t *, size_t);
+    plain_answer (*plain_step)(uint8_t *, size_t, uint8_t *, size_t);
+} calls[] = {
+    {board_image, plain_image, board_recovery_step, plain_recovery_step},
+    {board_image_headed, plain_image_headed, board_recovery_step_headed, plain_recovery_step_headed},
+};
+
+/* The image of the file in a form; gives its length, 0 if it was refused. */
+static size_t compare_image(int headed, size_t length, size_t memory_len, size_t room, unsigned long long seed) {
     memset(image, 0x5A, sizeof image);
-    board_answer a = board_image(file, length, memory, memory_len, image[0], room);
-    plain_answer b = plain_image(file, length, memory, memory_len, image[1], room);
+    board_answer a = calls[headed].proved_image(file, length, memory, memory_len, image[0], room);
+    plain_answer b = calls[headed].plain_image(file, length, memory, memory_len, image[1], room);
     check(agree(a, b), "answer of the image call", seed);
     check(memcmp(image[0], image[1], sizeof image[0]) == 0, "image", seed);
     return a.refusal == 0 ? (size_t)a.value : 0;
@@ -56,8 +67,17 @@ static void tear(random_source *source, const uint8_t *earlier, size_t length) {
             for (int k = 0; k < 2; k++) memcpy(image[k] + at, earlier + at, 8);
 }
 
+/* One recovery step in both engines, of the old kind or the new one; gives the proved one's answer. */
+static board_answer compare_step(int by, size_t length, uint8_t place[2][8], unsigned long long seed) {
+    board_answer a = calls[by].proved_step(image[0], length, place[0], 8);
+    plain_answer b = calls[by].plain_step(image[1], length, place[1], 8);
+    check(agree(a, b), "answer of a recovery step", seed);
+    check(memcmp(image[0], image[1], sizeof image[0]) == 0 && memcmp(place[0], place[1], 8) == 0, "image or place after a step", seed);
+    return a;
+}
+
 /* Recovery steps with cuts between and inside, until both have finished twice; gives whether they have. */
-static int compare_recovery(size_t length, random_source *source, unsigned long long seed) {
+static int compare_recovery(int by, size_t length, random_source *source, unsigned long long seed) {
     static uint8_t earlier[sizeof image[0]];
     uint8_t place[2][8] = {{0}, {0}};
     int finished = 0;
@@ -65,10 +85,7 @@ static int compare_recovery(size_t length, random_source *source, unsigned long 
         uint64_t cut = random_below(source, 80);
         if (cut == 0) memset(place, 0, sizeof place);
         memcpy(earlier, image[0], length);
-        board_answer a = board_recovery_step(image[0], length, place[0], 8);
-        plain_answer b = plain_recovery_step(image[1], length, place[1], 8);
-        check(agree(a, b), "answer of a recovery step", seed);
-        check(memcmp(image[0], image[1], sizeof image[0]) == 0 && memcmp(place[0], place[1], 8) == 0, "image or place after a step", seed);
+        board_answer a = compare_step(by, length, place, seed);
         if (a.refusal != 0) return 0;
         if (cut == 1) {
             tear(source, earlier, length);
@@ -89,52 +106,63 @@ static void land_flights(size_t length, size_t memory_len) {
         for (int k = 0; k < 2 && e.flight[l].number != 0; k++) put_line(image[k] + line_at(l), e.carried[l]);
 }
 
-/* Recovery of the saved image, and of the same torn by the cut: the memory found is the same. */
-static void compare_torn(size_t length, size_t memory_len, size_t image_len, random_source *source, unsigned long long seed) {
-    static uint8_t saved[sizeof image[0]], found[sizeof image[0]];
-    memcpy(saved, image[0], sizeof saved);
-    int finished = compare_recovery(image_len, source, seed);
-    memcpy(found, image[0], sizeof found);
-    for (int k = 0; k < 2; k++) memcpy(image[k], saved, sizeof saved);
-    land_flights(length, memory_len);
-    tear(source, saved, image_len);
-    if (compare_recovery(image_len, source, seed) && finished) check(memcmp(image[0], found, image_len) == 0, "memory found from a torn image", seed);
+/* Both images are the one given. */
+static void put_images(const uint8_t *given) {
+    for (int k = 0; k < 2; k++) memcpy(image[k], given, sizeof image[k]);
 }
 
-/* A recovery step on an image with one byte changed, cut short or lengthened. */
-static void compare_damaged(size_t length, random_source *source, unsigned long long seed) {
-    static uint8_t whole[sizeof image[0]];
-    memcpy(whole, image[0], sizeof whole);
-    for (int i = 0; i < 20; i++) {
-        size_t at = (size_t)random_below(source, random_chance(source, 2) && length > 70 ? length - 70 : length);
-        uint8_t byte = (uint8_t)(random_chance(source, 2) ? random_below(source, 256) : random_below(source, 40));
-        size_t room = random_chance(source, 5) ? (size_t)random_below(source, length + 2) : length;
-        for (int k = 0; k < 2; k++) {
-            memcpy(image[k], whole, sizeof whole);
-            image[k][at] = byte;
-        }
-        compare_recovery(room, source, seed);
+/* Recovery of the saved image, and of the same torn by the cut: the memory found is the same. */
+static void compare_torn(int by, size_t length, size_t memory_len, size_t image_len, random_source *source, unsigned long long seed) {
+    static uint8_t saved[sizeof image[0]], found[sizeof image[0]];
+    memcpy(saved, image[0], sizeof saved);
+    int finished = compare_recovery(by, image_len, source, seed);
+    memcpy(found, image[0], sizeof found);
+    put_images(saved);
+    land_flights(length, memory_len);
+    tear(source, saved, image_len);
+    if (compare_recovery(by, image_len, source, seed) && finished)
+        check(memcmp(image[0], found, image_len) == 0, "memory found from a torn image", seed);
+    put_images(saved);
+}
+
+/* Recovery of an image with one byte changed, or with its log records moved about; sometimes cut short or lengthened. */
+static void compare_damaged(int by, size_t length, random_source *source, unsigned long long seed) {
+    static uint8_t saved[sizeof image[0]];
+    memcpy(saved, image[0], sizeof saved);
+    for (int i = 0; i < 30; i++) {
+        size_t at = (size_t)random_below(source, random_chance(source, 2) && length > 70 ? length - 70 : length), damaged_len = length;
+        if (i < 20) image[0][at] = (uint8_t)(random_chance(source, 2) ? random_below(source, 256) : random_below(source, 50));
+        else damaged_len = damage_records(source, image[0], PLAIN_IMAGE_BYTES);
+        if (random_chance(source, 5)) damaged_len = (size_t)random_below(source, damaged_len + 2);
+        memcpy(image[1], image[0], sizeof image[0]);
+        compare_recovery(by, damaged_len, source, seed);
+        put_images(saved);
     }
 }
 
 /* A small image damaged at every byte, each by several values: one recovery step on each. */
-static void compare_every_byte(size_t length, unsigned long long seed) {
-    static uint8_t whole[sizeof image[0]];
-    static const uint8_t values[] = {0, 1, 2, 7, 8, 31, 32, 33, 34, 35, 36, 37, 255};
-    memcpy(whole, image[0], sizeof whole);
+static void compare_every_byte(int by, size_t length, unsigned long long seed) {
+    static uint8_t saved[sizeof image[0]];
+    static const uint8_t values[] = {0, 1, 2, 7, 8, 31, 32, 33, 34, 35, 36, 37, 40, 41, 42, 47, 48, 255};
+    memcpy(saved, image[0], sizeof saved);
     for (size_t at = 0; at < length; at++)
         for (size_t v = 0; v < 2 + sizeof values; v++) {
             uint8_t place[2][8] = {{0}, {0}};
-            for (int k = 0; k < 2; k++) {
-                memcpy(image[k], whole, length);
-                image[k][at] = v < sizeof values ? values[v] : (uint8_t)(whole[at] + (v == sizeof values ? 1 : 255));
-            }
-            board_answer a = board_recovery_step(image[0], length, place[0], 8);
-            plain_answer b = plain_recovery_step(image[1], length, place[1], 8);
-            check(agree(a, b) && memcmp(image[0], image[1], length) == 0 && memcmp(place[0], place[1], 8) == 0, "step on a damaged byte", seed);
+            for (int k = 0; k < 2; k++) image[k][at] = v < sizeof values ? values[v] : (uint8_t)(saved[at] + (v == sizeof values ? 1 : 255));
+            compare_step(by, length, place, seed);
+            put_images(saved);
         }
-    memcpy(image[0], whole, length);
-    memcpy(image[1], whole, length);
+}
+
+/* The image of the file in a form: damaged, torn and as it is, by both steps. */
+static void compare_form(int headed, size_t length, size_t memory_len, random_source *source, unsigned long long seed) {
+    compare_image(headed, length, memory_len, (size_t)random_below(source, sizeof image[0]), seed);
+    size_t image_len = compare_image(headed, length, memory_len, sizeof image[0], seed);
+    for (int by = 0; by < 2 && image_len > 0; by++) {
+        if (image_len < 700 && seed % 16 == 0) compare_every_byte(by, image_len, seed);
+        compare_damaged(by, image_len, source, seed);
+        compare_torn(by, length, memory_len, image_len, source, seed);
+    }
 }
 
 static void compare_file(unsigned long long seed) {
@@ -150,12 +178,7 @@ static void compare_file(unsigned long long seed) {
     for (size_t i = 0; i < memory_len; i++) memory[i] = (uint8_t)random_next(&source);
     compare_answers(length, memory_len, sizeof answers[0], seed);
     compare_answers(length, memory_len, (size_t)random_below(&source, sizeof answers[0]), seed);
-    compare_image(length, memory_len, (size_t)random_below(&source, sizeof image[0]), seed);
-    size_t image_len = compare_image(length, memory_len, sizeof image[0], seed);
-    if (image_len == 0) return;
-    if (image_len < 700 && seed % 16 == 0) compare_every_byte(image_len, seed);
-    compare_damaged(image_len, &source, seed);
-    if (compare_image(length, memory_len, sizeof image[0], seed) == image_len) compare_torn(length, memory_len, image_len, &source, seed);
+    for (int headed = 0; headed < 2; headed++) compare_form(headed, length, memory_len, &source, seed);
 }
 
 /* The start call, also with fewer and more than ten bytes of parties and reserves. */
@@ -176,8 +199,8 @@ static void compare_small(void) {
     for (uint64_t t = 0; t < 11; t++)
         for (uint64_t l = 0; l < 300; l += 7)
             for (size_t n = 0; n <= sizeof shares; n++) compare_start(t, l, shares, n, (size_t)(64 * l) % sizeof memory);
-    for (size_t n = 0; n < 10; n++)
-        check(agree(board_recovery_step(image[0], 3, place, n), plain_recovery_step(image[1], 3, place, n)), "place of another length", n);
+    for (size_t n = 0; n < 20; n++)
+        check(agree(calls[n % 2].proved_step(image[0], 3, place, n / 2), calls[n % 2].plain_step(image[1], 3, place, n / 2)), "place of another length", n / 2);
 }
 
 /* A write of bytes with every mask, each of thread, line and word in range or just above it; before setup, outside a region, inside one, after a cut.

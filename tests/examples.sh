@@ -77,13 +77,18 @@ due() {
     echo 'exit 0'
 }
 
+# form EXAMPLE [-n] FILE: the whole output in a form, but for the length of the image, and the exit code.
+form() { said "$build/$1" "${@:2}" | sed '1s/^image of [0-9]* bytes/image/'; }
+
 for text in ../samples/*.txt; do
     file=${text%.txt}.events
     check "$text" "$(od -An -tx1 "$file")" "$("$bin/tobytes" < "$text" | od -An -tx1)"
     replay_file "$file"
     if grep -q '^cut' "$text"; then
-        check "$file" "$(due "$file")" "$(found bench "$file")"
-        check "$file torn" "$(due "$file")" "$(found tear "$file")"
+        for example in bench tear; do
+            check "$file, $example" "$(due "$file")" "$(found $example "$file")"
+            check "$file, $example in the new form" "$(form $example "$file")" "$(form $example -n "$file")"
+        done
     fi
 done
 
@@ -118,25 +123,35 @@ check 'setups with other lines, refused' '6 6 6 0 16 0' "$(od -An -v -w9 -tu1 "$
 check 'the whole output of the bench' "$(cat recovery.expected)" "$("$build/bench" ../samples/recovery.events)"
 for steps in 0 1 2 3 4 5 6 7 8 9 10 11; do
     check "power lost after step $steps" "$(due ../samples/recovery.events)" "$(found bench ../samples/recovery.events $steps)"
+    check "power lost after step $steps, headers" "$(due ../samples/headers.events)" "$(found bench -n ../samples/headers.events $steps)"
 done
+
+# ten log entries of two regions under three headers: seven times four bytes fewer
+check 'the whole output of the bench in the new form' "$(cat headers.expected)" "$("$build/bench" -n ../samples/headers.events)"
+check 'the old image of the same state' 'image of 1379 bytes: 2 uncommitted regions, 10 log entries' "$("$build/bench" ../samples/headers.events | head -n 1)"
 
 # power lost inside a store: the lines in flight are those at the accepted cut, wherever it stands in the file
 torn=$(cat torn.expected)$'\nexit 0'
 check 'the whole output of tear' "$torn" "$(said "$build/tear" ../samples/torn.events)"
 printf '%s\n' cut 'setup 9 5 0 0 0 0 0 0 0 0 0 0' "$(cat ../samples/torn.txt)" 'data-ack 1' cut 'bytes 200' | "$bin/tobytes" > "$scratch/between"
 check 'a cut between others that are refused' "$torn" "$(said "$build/tear" "$scratch/between")"
-check 'no file' 'usage: tear FILE'$'\n''exit 2' "$(said "$build/tear")"
-check 'a file that is not there' "tear: cannot read $scratch/none"$'\n''exit 2' "$(said "$build/tear" "$scratch/none")"
-check 'a file without a cut' 'no image: refused with 6'$'\n''exit 1' "$(said "$build/tear" ../samples/p4.events)"
+for option in '' -n; do
+    check "no file $option" 'usage: tear [-n] FILE'$'\n''exit 2' "$(said "$build/tear" $option)"
+    check "no file for the bench $option" 'usage: bench [-n] FILE [STEPS]'$'\n''exit 2' "$(said "$build/bench" $option)"
+    check "a file that is not there $option" "tear: cannot read $scratch/none"$'\n''exit 2' "$(said "$build/tear" $option "$scratch/none")"
+    check "a file without a cut $option" 'no image: refused with 6'$'\n''exit 1' "$(said "$build/tear" $option ../samples/p4.events)"
+done
 
-# torn_on EDIT: what tear says of a board that is the plain engine with its recovery step edited.
+# torn_on EDIT [-n]: what tear says of a board that is the plain engine with its recovery step edited.
 torn_on() {
     sed "$1" plain/image.c > "$scratch/image.c"
     "$cc" -std=c11 -Iplain -Dboard_answer=plain_answer -Dboard_events=plain_events -Dboard_image=plain_image -Dboard_recovery_step=plain_recovery_step \
+        -Dboard_image_headed=plain_image_headed -Dboard_recovery_step_headed=plain_recovery_step_headed \
         -o "$scratch/tear" ../examples/tear.c ../examples/event_file.c ../examples/saved_image.c plain/plain.c "$scratch/image.c"
-    said "$scratch/tear" ../samples/torn.events
+    said "$scratch/tear" "${@:2}" ../samples/torn.events
 }
 check 'the plain engine' "$torn" "$(torn_on '')"
+check 'the plain engine in the new form' "${torn/726/718}" "$(torn_on '' -n)"
 check 'a step that leaves the first word' $'line 0, torn by the words 0: recovery finds other memory\nexit 1' \
     "$(torn_on 's/image + line_at(log->line), image + log->old_at, PLAIN_LINE_BYTES/8 + image + line_at(log->line), 8 + image + log->old_at, 56/' | tail -n 2)"
 check 'a step that takes a line for restored if the first word is' $'recovery step 3, torn by the words 0: recovery finds other memory\nexit 1' \

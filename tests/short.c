@@ -33,8 +33,8 @@ static uint8_t *block(const uint8_t *source, size_t source_len, size_t length) {
     return b;
 }
 
-/* The file, the memory, the image that they give, and the lengths that are needed. */
-static uint8_t file[(EVENTS + 1) * PLAIN_RECORD_BYTES], memory[3 * PLAIN_LINE_BYTES], image[PLAIN_IMAGE_BYTES];
+/* The file, the memory, an image that they give, and the lengths that are needed. */
+static uint8_t file[(EVENTS + 1) * PLAIN_RECORD_BYTES], memory[8 * PLAIN_LINE_BYTES], image[PLAIN_IMAGE_BYTES];
 static size_t file_len, memory_len, answers_len, image_len;
 
 typedef board_answer board_call(const uint8_t *, size_t, const uint8_t *, size_t, uint8_t *, size_t);
@@ -62,13 +62,16 @@ static void try_lengths(board_call *proved, plain_call *plain, const char *what,
     for (size_t n = 0; n <= needed + BEYOND; n++) try_file(proved, plain, what, file_len, memory_len, n, n < needed);
 }
 
+typedef board_answer board_step(uint8_t *, size_t, uint8_t *, size_t);
+typedef plain_answer plain_step(uint8_t *, size_t, uint8_t *, size_t);
+
 /* One recovery step, with an image and a place of these lengths. */
-static void try_step(size_t i, size_t p) {
+static void try_step(board_step *proved, plain_step *plain, size_t i, size_t p) {
     static const uint8_t zero[8];
     uint8_t *given = block(image, image_len, i), *due = block(image, image_len, i), *untouched = block(image, image_len, i);
     uint8_t *place = block(zero, 8, p), *due_place = block(zero, 8, p), *untouched_place = block(zero, 8, p);
-    board_answer a = board_recovery_step(given, i, place, p);
-    plain_answer b = plain_recovery_step(due, i, due_place, p);
+    board_answer a = proved(given, i, place, p);
+    plain_answer b = plain(due, i, due_place, p);
     check(agree(a, b) && memcmp(given, due, i) == 0 && memcmp(place, due_place, p) == 0, "recovery step", i);
     if (p != 8) check(is_six(a), "place of another length", p);
     if (a.refusal != 0) check(memcmp(given, untouched, i) == 0 && memcmp(place, untouched_place, p) == 0, "nothing written by a refused step", i);
@@ -98,25 +101,58 @@ static void try_starts(void) {
     }
 }
 
-/* A file of a few threads and lines, and the four calls on it. */
-static void try_seed(uint64_t seed) {
+/* Images and places of every length. */
+static void try_steps(board_step *proved, plain_step *plain) {
+    for (size_t n = 0; n <= image_len + BEYOND; n++) try_step(proved, plain, n, 8);
+    for (size_t n = 0; n <= 8 + BEYOND; n++) try_step(proved, plain, image_len, n);
+}
+
+/* The image in a form: the call that saves it, and both steps over it. */
+static void try_image(board_call *proved, plain_call *plain) {
+    image_len = (size_t)plain(file, file_len, memory, memory_len, image, sizeof image).value;
+    try_lengths(proved, plain, "image", image_len);
+    try_steps(board_recovery_step, plain_recovery_step);
+    try_steps(board_recovery_step_headed, plain_recovery_step_headed);
+}
+
+/* All calls on the file, which has so many events, over any memory of its lines. */
+static void try_calls(uint64_t seed, size_t events, size_t lines) {
     random_source source = {seed};
-    uint16_t lines = (uint16_t)(1 + seed % 3);
-    memory_len = (size_t)lines * PLAIN_LINE_BYTES;
+    memory_len = lines * PLAIN_LINE_BYTES;
     for (size_t i = 0; i < memory_len; i++) memory[i] = (uint8_t)random_next(&source);
-    file_len = random_file(seed, RANDOM_MIXED, (uint8_t)(1 + seed % PLAIN_THREADS), lines, EVENTS, file);
-    answers_len = EVENTS * PLAIN_ANSWER_BYTES;
-    image_len = (size_t)plain_image(file, file_len, memory, memory_len, image, sizeof image).value;
+    answers_len = events * PLAIN_ANSWER_BYTES;
     try_starts();
     try_lengths(board_events, plain_events, "events", answers_len);
-    try_lengths(board_image, plain_image, "image", image_len);
-    for (size_t n = 0; n <= image_len + BEYOND; n++) try_step(n, 8);
-    for (size_t n = 0; n <= 8 + BEYOND; n++) try_step(image_len, n);
+    try_image(board_image, plain_image);
+    try_image(board_image_headed, plain_image_headed);
+}
+
+/* A file of a few threads and lines. */
+static void try_seed(uint64_t seed) {
+    uint16_t lines = (uint16_t)(1 + seed % 3);
+    file_len = random_file(seed, RANDOM_MIXED, (uint8_t)(1 + seed % PLAIN_THREADS), lines, EVENTS, file);
+    try_calls(seed, EVENTS, lines);
+}
+
+/* A file that logs eight lines in one region: headers of seven and of one. */
+static void try_headers(void) {
+    static const uint8_t shares[PLAIN_SHARES];
+    put_setup(file, 1, 8, shares);
+    file_len = PLAIN_RECORD_BYTES;
+    file[file_len++] = EVENT_BEGIN, file[file_len++] = 0;
+    for (uint8_t l = 0; l < 8; l++) {
+        const uint8_t records[] = {EVENT_WRITE, 0, l, 0, 7, [PLAIN_WRITE_RECORD] = EVENT_LOG_ACK, l};
+        memcpy(file + file_len, records, sizeof records);
+        file_len += sizeof records;
+    }
+    file[file_len++] = EVENT_CUT;
+    try_calls(0, 19, 8);
 }
 
 int main(int argc, char **argv) {
     uint64_t files = argc > 1 ? strtoull(argv[1], NULL, 10) : 6;
     for (uint64_t seed = 1; seed <= files; seed++) try_seed(seed);
+    try_headers();
     printf("short buffers: %llu passed, %llu failed\n", passed, failed);
     return failed != 0;
 }

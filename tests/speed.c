@@ -1,7 +1,7 @@
 /* speed [EVENTS]: nanoseconds per event of the proved engine beside the plain one, on a mixed and a deep run at T 8, L 256, whose writes are of words, on
    a mixed one where half of them are of bytes, on one of many begins with half of each channel kept for each party, and on one of writes; then
-   microseconds for the largest image (32 regions, 256 log entries): the image call, one judgement, a whole recovery.
-   Each time is the best of five runs over the same input; both must give the same bytes. */
+   microseconds for the largest image (32 regions, 256 log entries): the image call, one judgement, a whole recovery; then the same for the new form, and how
+   often the old form's time that is. Each time is the best of five runs over the same input; both must give the same bytes. */
 #define _POSIX_C_SOURCE 199309L
 #include <stdio.h>
 #include <stdlib.h>
@@ -71,37 +71,56 @@ static int compared(const char *name, const uint8_t *file, size_t length, uint64
     return 1;
 }
 
-/* A step of either engine. */
-static uint64_t step(int proved, uint8_t *image, size_t length, uint8_t place[8]) {
-    if (proved) return board_recovery_step(image, length, place, 8).value;
-    return plain_recovery_step(image, length, place, 8).value;
+/* Engines and forms are 0 or 1: the plain engine, the proved one; the old form, the new one. */
+static size_t save(int proved, int headed, const uint8_t *file, size_t length, uint8_t *image) {
+    if (proved) return (size_t)(headed ? board_image_headed : board_image)(file, length, memory, sizeof memory, image, PLAIN_IMAGE_BYTES).value;
+    return (size_t)(headed ? plain_image_headed : plain_image)(file, length, memory, sizeof memory, image, PLAIN_IMAGE_BYTES).value;
 }
 
-/* The best times of the image call, of a judgement alone (a place past the last entry) and of a whole recovery, in microseconds. */
-static void image_times(int proved, const uint8_t *file, size_t length, uint8_t *image, size_t *image_len, double best[3]) {
+static uint64_t step(int proved, int headed, uint8_t *image, size_t length, uint8_t place[8]) {
+    if (proved) return (headed ? board_recovery_step_headed : board_recovery_step)(image, length, place, 8).value;
+    return (headed ? plain_recovery_step_headed : plain_recovery_step)(image, length, place, 8).value;
+}
+
+enum { TIMES = 3 }; /* the image call, a judgement alone (a place past the last entry), a whole recovery */
+
+/* The best of so many runs, in microseconds, of each of these; gives the image's length. */
+static size_t image_times(int proved, int headed, const uint8_t *file, size_t length, uint8_t *image, double best[TIMES]) {
+    size_t image_len = 0;
     for (int run = 0; run < RUNS; run++) {
         uint8_t past[8] = {255, 255}, place[8] = {0};
-        double times[3], start = now();
-        *image_len = (size_t)(proved ? board_image(file, length, memory, sizeof memory, image, PLAIN_IMAGE_BYTES).value
-                                     : plain_image(file, length, memory, sizeof memory, image, PLAIN_IMAGE_BYTES).value);
+        double times[TIMES], start = now();
+        image_len = save(proved, headed, file, length, image);
         times[0] = (now() - start) / 1e3, start = now();
-        step(proved, image, *image_len, past);
+        step(proved, headed, image, image_len, past);
         times[1] = (now() - start) / 1e3, start = now();
-        while (step(proved, image, *image_len, place) != 0) {}
+        while (step(proved, headed, image, image_len, place) != 0) {}
         times[2] = (now() - start) / 1e3;
-        for (int i = 0; i < 3; i++)
+        for (int i = 0; i < TIMES; i++)
             if (run == 0 || times[i] < best[i]) best[i] = times[i];
     }
+    return image_len;
 }
 
+/* Both engines and forms on the largest image; 0 if engines differ. */
 static int image_speed(void) {
     static uint8_t file[LARGEST_FILE_BYTES], image[2][PLAIN_IMAGE_BYTES];
-    static const char *const names[] = {"image call", "judgement", "recovery"};
-    size_t length = largest_file(file), image_len[2];
-    double times[2][3];
-    for (int proved = 0; proved < 2; proved++) image_times(proved, file, length, image[proved], &image_len[proved], times[proved]);
-    for (int i = 0; i < 3; i++) printf("%s: proved %.1f us, plain %.1f us, %.1f times\n", names[i], times[1][i], times[0][i], times[1][i] / times[0][i]);
-    return image_len[0] == image_len[1] && image_len[0] == PLAIN_IMAGE_BYTES && memcmp(image[0], image[1], image_len[0]) == 0;
+    static const char *const names[][TIMES] = {{"image call", "judgement", "recovery"}, {"new image call", "new judgement", "new recovery"}};
+    size_t length = largest_file(file);
+    double times[2][2][TIMES];
+    for (int headed = 0; headed < 2; headed++) {
+        size_t due = headed ? PLAIN_HEADED_BYTES : PLAIN_IMAGE_BYTES;
+        for (int proved = 0; proved < 2; proved++)
+            if (image_times(proved, headed, file, length, image[proved], times[headed][proved]) != due) return 0;
+        if (memcmp(image[0], image[1], due) != 0) return 0;
+        for (int i = 0; i < TIMES; i++) {
+            double plain = times[headed][0][i], proved = times[headed][1][i];
+            printf("%s: proved %.1f us, plain %.1f us, %.1f times", names[headed][i], proved, plain, proved / plain);
+            if (headed) printf("; proved %.2f times the old form, plain %.2f", proved / times[0][1][i], plain / times[0][0][i]);
+            printf("\n");
+        }
+    }
+    return 1;
 }
 
 int main(int argc, char **argv) {

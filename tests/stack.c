@@ -12,19 +12,27 @@
 enum { STACK_BYTES = 8 << 20, PAINT = 0xC7, EVENTS = 20000 };
 
 static const uint8_t memory[PLAIN_LINES * PLAIN_LINE_BYTES], shares[PLAIN_SHARES] = {0, 1, 0, 1, 0, 1, 0, 1, 8, 8};
-static uint8_t file[(EVENTS + 1) * PLAIN_RECORD_BYTES], answers[EVENTS * PLAIN_ANSWER_BYTES], image[PLAIN_IMAGE_BYTES];
-static size_t file_len, image_len;
+static uint8_t file[(EVENTS + 1) * PLAIN_RECORD_BYTES], answers[EVENTS * PLAIN_ANSWER_BYTES], image[2][PLAIN_IMAGE_BYTES]; /* the old and the new one */
+static size_t file_len, image_len[2];
 static volatile uint64_t answered; /* so that no call is left out */
 
 static void no_call(void) {}
 static void start_call(void) { answered += board_start(PLAIN_THREADS, PLAIN_LINES, shares, sizeof shares, memory, sizeof memory).refusal; }
 static void events_call(void) { answered += board_events(file, file_len, memory, sizeof memory, answers, sizeof answers).value; }
-static void image_call(void) { answered += board_image(file, file_len, memory, sizeof memory, image, sizeof image).value; }
+static void image_call(void) { image_len[0] = (size_t)board_image(file, file_len, memory, sizeof memory, image[0], sizeof image[0]).value; }
+static void headed_call(void) { image_len[1] = (size_t)board_image_headed(file, file_len, memory, sizeof memory, image[1], sizeof image[1]).value; }
 
-/* A whole recovery. */
+/* Whole recoveries; the new step over both images. */
 static void recovery_calls(void) {
     uint8_t place[8] = {0};
-    while (board_recovery_step(image, image_len, place, sizeof place).value == 1) answered++;
+    while (board_recovery_step(image[0], image_len[0], place, sizeof place).value == 1) answered++;
+}
+
+static void headed_recovery_calls(void) {
+    for (int headed = 0; headed < 2; headed++) {
+        uint8_t place[8] = {0};
+        while (board_recovery_step_headed(image[headed], image_len[headed], place, sizeof place).value == 1) answered++;
+    }
 }
 
 typedef struct { void (*call)(void); const uint8_t *stack; size_t used; } measure;
@@ -56,17 +64,22 @@ static size_t used_by(void (*call)(void)) {
 
 static size_t larger(size_t a, size_t b) { return a > b ? a : b; }
 
+/* In the order in which they are measured: a recovery needs the images. */
+static const struct { const char *name; void (*call)(void); } calls[] = {
+    {"board_start", start_call}, {"board_events", events_call}, {"board_image", image_call}, {"board_image_headed", headed_call},
+    {"board_recovery_step", recovery_calls}, {"board_recovery_step_headed", headed_recovery_calls},
+};
+
 int main(void) {
-    size_t base = used_by(no_call), start = used_by(start_call), events = 0, save = 0, recovery = 0;
+    enum { CALLS = sizeof calls / sizeof calls[0] };
+    size_t base = used_by(no_call), most[CALLS] = {0};
     for (uint64_t seed = 0; seed <= 12; seed++) {
         file_len = seed == 0 ? largest_file(file) : random_file(seed, (random_mode)(seed % 3), PLAIN_THREADS, PLAIN_LINES, EVENTS, file);
-        events = larger(events, used_by(events_call));
-        save = larger(save, used_by(image_call));
-        image_len = (size_t)board_image(file, file_len, memory, sizeof memory, image, sizeof image).value;
-        recovery = larger(recovery, used_by(recovery_calls));
+        for (size_t i = 0; i < CALLS; i++) most[i] = larger(most[i], used_by(calls[i].call));
     }
-    if (base == 0 || start < base || events < base || save < base || recovery < base) return 1;
-    printf("board_start %zu bytes\nboard_events %zu bytes\nboard_image %zu bytes\nboard_recovery_step %zu bytes\n", start - base, events - base, save - base,
-           recovery - base);
+    for (size_t i = 0; i < CALLS; i++) {
+        if (base == 0 || most[i] < base) return 1;
+        printf("%s %zu bytes\n", calls[i].name, most[i] - base);
+    }
     return 0;
 }

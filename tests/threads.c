@@ -1,4 +1,4 @@
-/* threads [ROUNDS]: eight threads make all four calls side by side, on different files at a time. Every answer and every byte must equal what the same
+/* threads [ROUNDS]: eight threads make all calls side by side, on different files at a time. Every answer and every byte must equal what the same
    calls gave before, made one after another. The last line is 'N passed, M failed'. */
 #define _POSIX_C_SOURCE 200112L
 #include <pthread.h>
@@ -9,7 +9,7 @@
 #include "../include/board.h"
 #include "plain/random.h"
 
-enum { WORKERS = 8, FILES = 32, EVENTS = 300, NUMBERS = 8 };
+enum { WORKERS = 8, FILES = 32, EVENTS = 300, NUMBERS = 4 };
 
 /* What the calls are lent. */
 typedef struct {
@@ -18,10 +18,17 @@ typedef struct {
     uint8_t file[(EVENTS + 1) * PLAIN_RECORD_BYTES], memory[PLAIN_LINES * PLAIN_LINE_BYTES];
 } input;
 
-/* What they gave: refusals and values, the answers, the image as it was saved and as recovery left it. */
+/* What those of one form gave: the answers of saving and recovery, the image as it was saved and as recovery left it. */
 typedef struct {
     uint64_t number[NUMBERS];
-    uint8_t answers[(EVENTS + 1) * PLAIN_ANSWER_BYTES], saved[PLAIN_IMAGE_BYTES], recovered[PLAIN_IMAGE_BYTES], place[8];
+    uint8_t saved[PLAIN_IMAGE_BYTES], recovered[PLAIN_IMAGE_BYTES], place[8];
+} form_result;
+
+/* What they gave: refusals and values, the answers, both forms. No byte of it is left unset. */
+typedef struct {
+    uint64_t number[NUMBERS];
+    uint8_t answers[(EVENTS + 1) * PLAIN_ANSWER_BYTES];
+    form_result form[2];
 } result;
 
 typedef struct {
@@ -52,26 +59,29 @@ static void put_answer(uint64_t *number, board_answer a) {
     number[1] = a.value;
 }
 
-/* All four calls on one file: recovery with a cut after its third step, until it has finished. */
-static void run_calls(const input *in, result *r) {
-    memset(r, 0, sizeof *r);
-    put_answer(r->number, board_start(in->threads, in->memory_len / PLAIN_LINE_BYTES, in->file + 4, PLAIN_SHARES, in->memory, in->memory_len));
-    put_answer(r->number + 2, board_events(in->file, in->file_len, in->memory, in->memory_len, r->answers, sizeof r->answers));
-    board_answer saved = board_image(in->file, in->file_len, in->memory, in->memory_len, r->saved, sizeof r->saved);
-    put_answer(r->number + 4, saved);
+typedef board_answer image_call(const uint8_t *, size_t, const uint8_t *, size_t, uint8_t *, size_t);
+typedef board_answer step_call(uint8_t *, size_t, uint8_t *, size_t);
+
+/* Saving and recovery in a form, with a cut after the third step, until it has finished. */
+static void run_form(const input *in, image_call *save, step_call *step, form_result *r) {
+    board_answer saved = save(in->file, in->file_len, in->memory, in->memory_len, r->saved, sizeof r->saved);
+    put_answer(r->number, saved);
     memcpy(r->recovered, r->saved, sizeof r->saved);
     board_answer a = {0, saved.refusal == 0};
     for (int steps = 0; a.refusal == 0 && a.value == 1; steps++) {
         if (steps == 3) memset(r->place, 0, sizeof r->place);
-        a = board_recovery_step(r->recovered, (size_t)saved.value, r->place, sizeof r->place);
+        a = step(r->recovered, (size_t)saved.value, r->place, sizeof r->place);
     }
-    put_answer(r->number + 6, a);
+    put_answer(r->number + 2, a);
 }
 
-static int same_result(const result *a, const result *b) {
-    return memcmp(a->number, b->number, sizeof a->number) == 0 && memcmp(a->answers, b->answers, sizeof a->answers) == 0 &&
-           memcmp(a->saved, b->saved, sizeof a->saved) == 0 && memcmp(a->recovered, b->recovered, sizeof a->recovered) == 0 &&
-           memcmp(a->place, b->place, sizeof a->place) == 0;
+/* All calls on one file. */
+static void run_calls(const input *in, result *r) {
+    memset(r, 0, sizeof *r);
+    put_answer(r->number, board_start(in->threads, in->memory_len / PLAIN_LINE_BYTES, in->file + 4, PLAIN_SHARES, in->memory, in->memory_len));
+    put_answer(r->number + 2, board_events(in->file, in->file_len, in->memory, in->memory_len, r->answers, sizeof r->answers));
+    run_form(in, board_image, board_recovery_step, &r->form[0]);
+    run_form(in, board_image_headed, board_recovery_step_headed, &r->form[1]);
 }
 
 static void *work(void *argument) {
@@ -80,7 +90,7 @@ static void *work(void *argument) {
     for (unsigned long i = 0; i < rounds * FILES; i++) {
         int f = (int)((w->first + i) % FILES);
         run_calls(&inputs[f], &w->found);
-        if (same_result(&w->found, &alone[f])) w->passed++;
+        if (memcmp(&w->found, &alone[f], sizeof w->found) == 0) w->passed++;
         else w->failed++;
     }
     return NULL;

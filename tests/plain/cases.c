@@ -1,10 +1,10 @@
 /* The cases P1 to P11 of document 01, the 33rd logged line, counts, fences inside a region, writes of bytes, spent numbers, parties and reserves,
-   channels, lines that somebody is reading, and the calls' own refusals. */
+   channels, lines that somebody is reading, log entries under headers, and the calls' own refusals. */
 #include <stdio.h>
 #include <string.h>
 
 #include "common.h"
-#include "plain.h"
+#include "random.h"
 
 static unsigned passed, failed;
 
@@ -21,10 +21,10 @@ static void check(int holds, const char *name, const char *what, unsigned long l
 
 enum { MOST_EVENTS = 400 };
 static const char *name;
-static uint8_t file[MOST_EVENTS * PLAIN_RECORD_BYTES], image[PLAIN_IMAGE_BYTES];
+static uint8_t file[MOST_EVENTS * PLAIN_RECORD_BYTES], image[2][PLAIN_IMAGE_BYTES]; /* the old image and the new one */
 static const uint8_t memory[PLAIN_LINES * PLAIN_LINE_BYTES];
 static plain_answer wanted[MOST_EVENTS];
-static size_t file_len, events, image_len;
+static size_t file_len, events, image_len[2];
 static unsigned board_lines;
 
 static void put(uint8_t refusal, uint64_t value, size_t length, const uint8_t *record) {
@@ -93,32 +93,60 @@ static void run(void) {
     }
 }
 
-/* Saves the image of the case; its length must be as given. */
-static void save(size_t length) {
+/* Saves the image of the case in one form; its length must be as given. */
+static void save_form(int headed, size_t length) {
+    plain_answer (*call)(const uint8_t *, size_t, const uint8_t *, size_t, uint8_t *, size_t) = headed ? plain_image_headed : plain_image;
     size_t lent = PLAIN_LINE_BYTES * board_lines;
-    memset(image, 0xee, sizeof image);
-    plain_answer shorter = plain_image(file, file_len, memory, lent, image, length - 1);
-    check(shorter.refusal == 6 && shorter.value == 0 && image[0] == 0xee, name, "buffer shorter than", length);
-    plain_answer saved = plain_image(file, file_len, memory, lent, image, sizeof image);
+    uint8_t *out = image[headed];
+    memset(out, 0xee, sizeof image[headed]);
+    plain_answer shorter = call(file, file_len, memory, lent, out, length - 1);
+    check(shorter.refusal == 6 && shorter.value == 0 && out[0] == 0xee, name, "buffer shorter than", length);
+    plain_answer saved = call(file, file_len, memory, lent, out, sizeof image[headed]);
     check(saved.refusal == 0 && saved.value == length, name, "image length", saved.value);
-    check(image[length - 1] == IMAGE_END && image[length] == 0xee, name, "bytes behind the image", length);
-    image_len = saved.value;
+    check(out[length - 1] == IMAGE_END && out[length] == 0xee, name, "bytes behind the image", length);
+    image_len[headed] = saved.value;
 }
 
-/* Recovers the saved image in as many steps as it holds entries; one word must be nonzero, or none for 0. */
-static void recover(unsigned entries, unsigned line, unsigned word, uint64_t value) {
+/* Saves it in both; without a second entry under a header the lengths are the same. */
+static void save(size_t length) {
+    save_form(0, length);
+    save_form(1, length);
+}
+
+typedef plain_answer recovery_step(uint8_t *, size_t, uint8_t *, size_t);
+
+/* Recovers a saved image in as many steps as it holds entries; gives what it leaves. */
+static const uint8_t *recover_form(int headed, recovery_step *step, unsigned entries) {
+    static uint8_t found[PLAIN_IMAGE_BYTES];
     uint8_t place[8] = {0};
     unsigned steps = entries > 0 ? entries : 1;
+    memcpy(found, image[headed], sizeof found);
     for (unsigned i = 1; i <= steps; i++) {
-        plain_answer a = plain_recovery_step(image, image_len, place, sizeof place);
+        plain_answer a = step(found, image_len[headed], place, sizeof place);
         check(a.refusal == 0 && a.value == (i < steps), name, "recovery step", i);
     }
     check(get64(place) == entries, name, "place", get64(place));
-    for (unsigned l = 0; l < board_lines; l++)
-        for (unsigned w = 0; w < PLAIN_WORDS; w++) {
-            uint64_t found = get64(image + 4 + 65 * l + 1 + 8 * w);
-            check(found == (l == line && w == word ? value : 0), name, "recovered line", l);
-        }
+    return found;
+}
+
+/* The old image by both steps, and the new one by the new step, must leave the words given for the lines, in word 0 and up; the old step refuses the new
+   image if it holds an entry, else the images are the same. */
+static void recover_words(unsigned entries, const uint64_t words[][PLAIN_WORDS]) {
+    for (int i = 0; i < 3; i++) {
+        const uint8_t *found = recover_form(i == 2, i == 0 ? plain_recovery_step : plain_recovery_step_headed, entries);
+        for (unsigned l = 0; l < board_lines; l++)
+            for (unsigned w = 0; w < PLAIN_WORDS; w++)
+                check(get64(found + 4 + 65 * l + 1 + 8 * w) == words[l][w], name, "recovered line", l);
+    }
+    if (entries == 0) check(memcmp(image[0], image[1], sizeof image[0]) == 0, name, "images without entries", image_len[1]);
+    else check(plain_recovery_step(image[1], image_len[1], (uint8_t[8]){0}, 8).refusal == 2, name, "the old step over the new image", 2);
+}
+
+/* One word must be nonzero, or none for 0. */
+static void recover(unsigned entries, unsigned line, unsigned word, uint64_t value) {
+    uint64_t words[PLAIN_LINES][PLAIN_WORDS] = {{0}};
+    words[line][word] = value;
+    recover_words(entries, words);
 }
 
 /* ---- The cases ---- */
@@ -223,15 +251,20 @@ static void p11(void) {
     recover(0, 0, 0, 0);
 }
 
-/* 32 lines logged by one region, slots freed as they fly; after its commit the 33rd is accepted. */
+/* So many lines are logged by thread t, whose slots are freed as they fly: word 0 of each gets the value and the line's number. */
+static void log_lines(uint8_t t, uint8_t from, uint8_t count, uint64_t value) {
+    for (uint8_t i = 0, l = from; i < count; i++, l++) {
+        write_word(t, l, 0, value + l, 0);
+        log_ack(l, 0, 0);
+        if (i >= 4) data_ack((uint8_t)(l - 4), 0, 0);
+    }
+}
+
+/* 32 lines logged by one region; after its commit the 33rd is accepted. */
 static void logged_33(void) {
     setup("33rd logged line", 1, 33);
     begin(0, 0, 0);
-    for (uint8_t l = 0; l < PLAIN_LOG; l++) {
-        write_word(0, l, 0, 1, 0);
-        log_ack(l, 0, 0);
-        if (l >= 4) data_ack((uint8_t)(l - 4), 0, 0);
-    }
+    log_lines(0, 0, PLAIN_LOG, 1);
     write_word(0, 32, 0, 1, 21);
     write_word(0, 31, 0, 1, 0);
     data_ack(28, 22, 0); /* the refused write does not count */
@@ -1145,11 +1178,7 @@ static void before_19_to_21(void) {
     write_word(0, 8, 0, 9, 20);
     run();
     open_board("25 before 21", 2, 33);
-    for (uint8_t l = 0; l < PLAIN_LOG; l++) {
-        write_word(0, l, 0, 1, 0);
-        log_ack(l, 0, 0);
-        if (l >= 4) data_ack((uint8_t)(l - 4), 0, 0);
-    }
+    log_lines(0, 0, PLAIN_LOG, 1);
     read_word(1, 32, 0, 0, 0);
     write_word(0, 32, 0, 1, 25);
     write_bytes(0, 32, 0, 1, 1, 25);
@@ -1334,6 +1363,99 @@ static void one_figure(void) {
     recover(1, 0, 0, 8);
 }
 
+/* ---- Log entries under headers ---- */
+
+enum { OLD = 100, NEW = 200 }; /* what the lines hold before and after they are logged, beside their numbers */
+
+/* Thread 0 commits these lines, so that what is logged of each later can be told. */
+static void commit_lines(uint8_t from, uint8_t count) {
+    begin(0, 0, 0);
+    log_lines(0, from, count, OLD);
+    end(0, 0, 0);
+    for (uint8_t i = count < 4 ? 0 : count - 4; i < count; i++) data_ack((uint8_t)(from + i), 0, i == count - 1);
+}
+
+/* The word 0 of these lines is the old one again. */
+static void recover_lines(unsigned entries, uint8_t from, uint8_t count) {
+    uint64_t words[PLAIN_LINES][PLAIN_WORDS] = {{0}};
+    for (uint8_t i = 0; i < count; i++) words[from + i][0] = OLD + from + i;
+    recover_words(entries, words);
+}
+
+/* The record at this place of the new image holds k lines of a region, each so far behind the one before; gives the place behind it. */
+static size_t header(size_t at, uint8_t k, uint8_t from, uint8_t apart, uint8_t t, uint8_t number) {
+    const uint8_t *record = image[1] + at, front[] = {(uint8_t)(40 + k), t, number, 0}, zeros[56] = {0};
+    check(memcmp(record, front, sizeof front) == 0, name, "header at", at);
+    for (uint8_t i = 0; i < k; i++) {
+        const uint8_t line = (uint8_t)(from + apart * i), *old = record + 4 + k + 64 * i;
+        check(record[4 + i] == line, name, "line under a header", line);
+        check(get64(old) == (uint64_t)OLD + line && memcmp(old + 8, zeros, sizeof zeros) == 0, name, "old line under a header", line);
+    }
+    return at + 4 + 65 * (size_t)k;
+}
+
+/* One region with every number of entries: records of seven, and a last one for what is left. */
+static void sevens(void) {
+    for (uint8_t n = 1; n <= PLAIN_LOG; n++) {
+        setup("records of seven", 1, PLAIN_LOG);
+        commit_lines(0, n);
+        begin(0, 0, 0);
+        log_lines(0, 0, n, NEW);
+        cut(0, 1);
+        run();
+        size_t at = 4 + 65 * PLAIN_LOG + 17, records = ((size_t)n + 6) / 7;
+        save_form(0, at + 69 * (size_t)n + 1);
+        save_form(1, at + 4 * records + 65 * (size_t)n + 1);
+        for (uint8_t done = 0, k; done < n; done = (uint8_t)(done + k)) {
+            k = n - done < 7 ? (uint8_t)(n - done) : 7;
+            at = header(at, k, done, 1, 0, 2);
+        }
+        recover_lines(n, 0, n);
+    }
+}
+
+/* Every region has records of its own: 7 + 1, then two of the same thread, then 7 of the next; of the last one an entry is still in flight, and not in the
+   image, and the others share a record. */
+static void regions_apart(void) {
+    setup("regions apart", 3, 20);
+    commit_lines(0, 20);
+    begin(0, 0, 0);
+    log_lines(0, 0, 8, NEW);
+    end(0, 0, 0);
+    begin(0, 0, 0);
+    log_lines(0, 8, 2, NEW);
+    begin(1, 0, 0);
+    log_lines(1, 10, 7, NEW);
+    begin(2, 0, 0);
+    for (uint8_t l = 17; l < 20; l++) write_word(2, l, 0, NEW, 0);
+    for (uint8_t l = 17; l < 20; l += 2) log_ack(l, 0, 0);
+    cut(0, 4);
+    run();
+    size_t at = 4 + 65 * 20 + 17 * 4;
+    save_form(0, at + 69 * 19 + 1);
+    save_form(1, at + 4 * 5 + 65 * 19 + 1);
+    at = header(at, 7, 0, 1, 0, 2);
+    at = header(at, 1, 7, 1, 0, 2);
+    at = header(at, 2, 8, 1, 0, 3);
+    at = header(at, 7, 10, 1, 1, 1);
+    at = header(at, 2, 17, 2, 2, 1);
+    check(at == image_len[1] - 1, name, "end", at);
+    recover_lines(19, 0, 20);
+}
+
+/* The largest new image: every region has eight entries, in records of seven and one. */
+static void largest(void) {
+    static uint8_t longest[LARGEST_FILE_BYTES];
+    size_t length = largest_file(longest), at = 4 + 65 * PLAIN_LINES + 17 * PLAIN_LISTED;
+    plain_answer a = plain_image_headed(longest, length, memory, sizeof memory, image[1], PLAIN_HEADED_BYTES - 1);
+    check(a.refusal == 6 && a.value == 0, "largest", "buffer shorter than", PLAIN_HEADED_BYTES);
+    a = plain_image_headed(longest, length, memory, sizeof memory, image[1], PLAIN_HEADED_BYTES);
+    check(a.refusal == 0 && a.value == PLAIN_HEADED_BYTES && a.value == 34085, "largest", "length", a.value);
+    for (int i = 0; i < PLAIN_LISTED; i++, at += 459 + 69)
+        check(image[1][at] == 47 && image[1][at + 459] == 41, "largest", "records of region", (unsigned)i);
+    check(image[1][at] == IMAGE_END, "largest", "end", at);
+}
+
 /* Refusals of the calls themselves, and how a file ends. */
 static void calls(void) {
     static const uint8_t cut_short[] = {EVENT_CUT, EVENT_SETUP, 1, 1, [15] = EVENT_SETUP, 1, 1, [29] = EVENT_CUT, EVENT_BEGIN, 0, EVENT_READ, 0};
@@ -1348,8 +1470,10 @@ static void calls(void) {
     a = plain_events(cut_short, sizeof cut_short, memory, 128, answers, 54);
     for (size_t i = 0; i < 5; i++) check(answers[9 * i] == 6, "calls", "memory that does not fit, event", i);
     check(plain_events(cut_short, 0, memory, 64, answers, 0).value == 0, "calls", "empty file", 0);
-    check(plain_image(cut_short, sizeof cut_short, memory, 64, image, sizeof image).value == 70, "calls", "image", 70);
-    check(plain_image(cut_short, 15, memory, 64, image, sizeof image).refusal == 6, "calls", "image without cut", 6);
+    check(plain_image(cut_short, sizeof cut_short, memory, 64, image[0], sizeof image[0]).value == 70, "calls", "image", 70);
+    check(plain_image(cut_short, 15, memory, 64, image[0], sizeof image[0]).refusal == 6, "calls", "image without cut", 6);
+    check(plain_image_headed(cut_short, sizeof cut_short, memory, 64, image[1], sizeof image[1]).value == 70, "calls", "new image", 70);
+    check(plain_image_headed(cut_short, 15, memory, 64, image[1], sizeof image[1]).refusal == 6, "calls", "new image without cut", 6);
 }
 
 /* The answer of the start call with this memory's length and so many bytes of the shares. */
@@ -1431,6 +1555,9 @@ int main(void) {
     each_line();
     kept_off();
     one_figure();
+    sevens();
+    regions_apart();
+    largest();
     calls();
     starts();
     printf("%u passed, %u failed\n", passed, failed);

@@ -3,7 +3,8 @@
    What must be found is the same in both, worked out of the list of accepted events and the set of committed regions. So is what a party holds in a
    channel: below its reserve it never meets 16 at a begin whose number falls there. So is the count of every slot: the different other lines that its
    region has written since its last write of the slot's line; and what a flight carries: the line as that write left it. So are the lines that open
-   regions have read, and what a read gives: as if the committed regions ran one after another in the order they ended. */
+   regions have read, and what a read gives: as if the committed regions ran one after another in the order they ended. The old image and the new one are
+   recovered side by side: every answer, every place and every line after a step is the same. */
 #include <stdio.h>
 #include <stdlib.h>
 #include <string.h>
@@ -11,7 +12,7 @@
 #include "common.h"
 #include "random.h"
 
-static uint64_t seed, cuts_tried, steps_tried, lines_torn, steps_torn, regions_committed, reads_committed, writes_kept_off;
+static uint64_t seed, cuts_tried, steps_tried, lines_torn, steps_torn, headers, headers_behind, regions_committed, reads_committed, writes_kept_off;
 
 static void require(int holds, const char *what) {
     if (holds) return;
@@ -322,12 +323,6 @@ static void expected_memory(uint8_t *memory, size_t length) {
     }
 }
 
-static uint64_t count_logs(const uint8_t *image, size_t length) {
-    plain_contents contents;
-    require(plain_read_image(image, length, &contents) == 0, "a saved image is refused");
-    return contents.logs;
-}
-
 static size_t line_at(size_t line) { return 4 + 65 * line + 1; }
 
 /* None, one, all or any words of the whole line have reached the line. Gives whether it is torn: neither as it was nor whole. */
@@ -349,58 +344,138 @@ static void tear_flights(random_source *source, const plain_engine *e, uint8_t *
     }
 }
 
-/* The line that the step at this place was restoring, if one is left there. */
-static void tear_step(random_source *source, uint8_t *image, size_t length, uint64_t place) {
-    plain_contents contents;
+/* An image is recovered three times side by side: in the old form by the old step and by the new one, in the new form by the new step. */
+typedef plain_answer recovery_step(uint8_t *, size_t, uint8_t *, size_t);
+typedef struct { recovery_step *step; int headed; size_t length; uint8_t image[PLAIN_IMAGE_BYTES], place[8]; } recovery;
+
+enum { RECOVERIES = 3 };
+static recovery recoveries[RECOVERIES] = {
+    {.step = plain_recovery_step}, {.step = plain_recovery_step_headed}, {.step = plain_recovery_step_headed, .headed = 1},
+};
+
+static const uint8_t *old_line(const recovery *r, const plain_contents *c, uint32_t log) { return r->image + c->log[log].old_at; }
+
+/* What the images hold, which is the same in all three; gives that of the first. */
+static const plain_contents *read_images(void) {
+    static plain_contents c[RECOVERIES];
+    for (int i = 0; i < RECOVERIES; i++) {
+        require(plain_read_image(recoveries[i].image, recoveries[i].length, recoveries[i].step != plain_recovery_step, &c[i]) == 0, "a saved image is refused");
+        require(c[i].logs == c[0].logs && c[i].entries == c[0].entries && memcmp(c[i].entry, c[0].entry, sizeof c[0].entry) == 0, "the regions read");
+        for (uint32_t j = 0; j < c[0].logs; j++) {
+            require(same(c[i].log[j].region, c[0].log[j].region) && c[i].log[j].line == c[0].log[j].line, "the log entries read");
+            require(memcmp(old_line(&recoveries[i], &c[i], j), old_line(&recoveries[0], &c[0], j), PLAIN_LINE_BYTES) == 0, "the old lines read");
+        }
+    }
+    return &c[0];
+}
+
+/* The line that the next step was restoring, if one is left. */
+static void tear_step(random_source *source, uint8_t *image) {
     uint32_t order[PLAIN_LOGGED];
-    require(plain_read_image(image, length, &contents) == 0, "an image is refused before a step");
-    if (place >= contents.logs) return;
-    plain_walk(&contents, order);
-    const plain_image_log *log = &contents.log[order[place]];
+    const plain_contents *c = read_images();
+    uint64_t place = get64(recoveries[0].place);
+    if (place >= c->logs) return;
+    plain_walk(c, order);
+    const plain_image_log *log = &c->log[order[place]];
     steps_torn += tear_line(source, image + line_at(log->line), image + log->old_at);
 }
 
-/* Steps with cuts between, or inside a step, then from the last cut on until 'finished', which must come in time and not before. */
-static void recover(random_source *source, uint8_t *image, size_t length, int torn) {
-    uint8_t place[8] = {0};
-    uint64_t logs = count_logs(image, length), due = logs > 0 ? logs : 1;
-    for (uint64_t cuts = random_below(source, 4); cuts > 0; cuts--) {
-        for (uint64_t steps = random_below(source, due + 2); steps > 0; steps--)
-            require(plain_recovery_step(image, length, place, sizeof place).refusal == 0, "a step is refused");
-        if (torn) tear_step(source, image, length, get64(place));
-        memset(place, 0, sizeof place);
+/* The lines of the first image go into the others, and the places to the start: the same cut in all of them. */
+static void share_cut(size_t behind) {
+    for (int i = 0; i < RECOVERIES; i++) {
+        memmove(recoveries[i].image, recoveries[0].image, behind);
+        memset(recoveries[i].place, 0, sizeof recoveries[i].place);
     }
-    for (uint64_t i = 1; i <= due; i++, steps_tried++) {
-        plain_answer a = plain_recovery_step(image, length, place, sizeof place);
-        require(a.refusal == 0 && a.value == (i < due), "'finished' too late or too early");
-    }
-    require(get64(place) == logs, "place at 'finished'");
 }
 
-/* Recovers a copy of the saved image, torn or not, and compares the memory found; nothing but lines may have changed. */
-static void try_image(random_source *source, const plain_engine *e, const uint8_t *saved, size_t length, int torn) {
-    static uint8_t image[PLAIN_IMAGE_BYTES], memory[sizeof start_memory];
+/* A step over each image: accepted, and alike in answer, place and lines. Gives its value. */
+static uint64_t step_images(size_t behind) {
+    uint64_t value = 0;
+    for (int i = 0; i < RECOVERIES; i++) {
+        recovery *r = &recoveries[i];
+        plain_answer a = r->step(r->image, r->length, r->place, sizeof r->place);
+        require(a.refusal == 0, "a step is refused");
+        require(i == 0 || a.value == value, "the answers to a step");
+        require(memcmp(r->place, recoveries[0].place, sizeof r->place) == 0 && memcmp(r->image, recoveries[0].image, behind) == 0, "what a step leaves");
+        value = a.value;
+    }
+    return value;
+}
+
+/* Steps with cuts between, or inside a step, then from the last cut on until 'finished', which must come in time and not before. */
+static void recover(random_source *source, size_t behind, int torn) {
+    uint64_t logs = read_images()->logs, due = logs > 0 ? logs : 1;
+    for (uint64_t cuts = random_below(source, 4); cuts > 0; cuts--) {
+        for (uint64_t steps = random_below(source, due + 2); steps > 0; steps--) step_images(behind);
+        if (torn) tear_step(source, recoveries[0].image);
+        share_cut(behind);
+    }
+    for (uint64_t i = 1; i <= due; i++, steps_tried++) require(step_images(behind) == (i < due), "'finished' too late or too early");
+    require(get64(recoveries[0].place) == logs, "place at 'finished'");
+}
+
+/* The images of a cut in the two forms. */
+typedef struct { size_t length; uint8_t image[PLAIN_IMAGE_BYTES]; } saved_image;
+
+/* Recovers copies of the saved images, torn or not, and compares the memory found; nothing but lines may have changed. */
+static void try_images(random_source *source, const plain_engine *e, const saved_image saved[2], int torn) {
+    static uint8_t memory[sizeof start_memory];
     size_t behind = 4 + 65 * (size_t)e->lines;
-    memcpy(image, saved, length);
-    if (torn) tear_flights(source, e, image);
-    recover(source, image, length, torn);
+    for (int i = 0; i < RECOVERIES; i++) {
+        recovery *r = &recoveries[i];
+        r->length = saved[r->headed].length;
+        memcpy(r->image, saved[r->headed].image, r->length);
+    }
+    if (torn) tear_flights(source, e, recoveries[0].image);
+    share_cut(behind);
+    recover(source, behind, torn);
     expected_memory(memory, PLAIN_LINE_BYTES * (size_t)e->lines);
     for (size_t l = 0; l < e->lines; l++)
-        require(memcmp(image + line_at(l), memory + PLAIN_LINE_BYTES * l, PLAIN_LINE_BYTES) == 0, "the memory found");
-    require(memcmp(image + behind, saved + behind, length - behind) == 0, "a step changed more than a line");
+        require(memcmp(recoveries[0].image + line_at(l), memory + PLAIN_LINE_BYTES * l, PLAIN_LINE_BYTES) == 0, "the memory found");
+    for (int i = 0; i < RECOVERIES; i++) {
+        const recovery *r = &recoveries[i];
+        require(memcmp(r->image + behind, saved[r->headed].image + behind, r->length - behind) == 0, "a step changed more than a line");
+    }
 }
 
-/* Cuts a copy of the engine and saves; tries the image as it is, then torn. */
+/* How many records a new image has for these log entries: one for every seven of a region, and one for what is left. */
+static size_t count_headers(const plain_contents *c) {
+    size_t records = 0, entries = 0;
+    for (uint32_t i = 0; i < c->logs; i++) {
+        entries = i > 0 && same(c->log[i - 1].region, c->log[i].region) ? entries + 1 : 1;
+        records += entries % 7 == 1;
+        headers_behind += entries > 1 && entries % 7 == 1;
+    }
+    return records;
+}
+
+/* The new image against the old one: it is shorter by four bytes for each record that it saves, and the old reader refuses its first header; without log
+   entries the two are the same bytes. */
+static void check_forms(const saved_image saved[2]) {
+    plain_contents c;
+    require(plain_read_image(saved[0].image, saved[0].length, 0, &c) == 0, "the old image is refused");
+    size_t records = count_headers(&c), front = saved[0].length - 1 - 69 * (size_t)c.logs;
+    require(saved[0].length - saved[1].length == 4 * (c.logs - records) && memcmp(saved[0].image, saved[1].image, front) == 0, "the new image");
+    require(plain_read_image(saved[1].image, saved[1].length, 0, &c) == (records > 0 ? 2 : 0), "the old reader and the new image");
+    headers += records;
+}
+
+/* Cuts a copy of the engine and saves both images; tries them as they are, then torn. */
 static void try_cut(random_source *source, const plain_engine *engine) {
     static plain_engine e;
-    static uint8_t image[PLAIN_IMAGE_BYTES];
+    static saved_image saved[2];
     int uncommitted = 0;
     for (int i = 0; i < history.regions; i++) uncommitted += !history.region[i].committed;
     e = *engine;
-    plain_answer cut = plain_event(&e, (uint8_t[]){EVENT_CUT}, 1), save = plain_save(&e, image, sizeof image);
+    plain_answer cut = plain_event(&e, (uint8_t[]){EVENT_CUT}, 1);
     require(cut.refusal == 0 && cut.value == (uint64_t)uncommitted, "value of the cut");
-    require(save.refusal == 0, "the image is not saved");
-    for (int torn = 0; torn <= TEARS; torn++) try_image(source, &e, image, save.value, torn > 0);
+    for (int headed = 0; headed < 2; headed++) {
+        plain_answer save = plain_save(&e, headed, saved[headed].image, PLAIN_IMAGE_BYTES);
+        require(save.refusal == 0, "the image is not saved");
+        saved[headed].length = (size_t)save.value;
+    }
+    check_forms(saved);
+    for (int torn = 0; torn <= TEARS; torn++) try_images(source, &e, saved, torn > 0);
     cuts_tried++;
 }
 
@@ -444,14 +519,16 @@ static size_t next_record(random_events *events, const plain_engine *e, int wild
     return length;
 }
 
-/* The recorded file must give the same image as the events one by one. */
+/* The recorded file must give the same images as the events one by one. */
 static void compare_file(plain_engine *e, uint8_t *file, size_t length, size_t lent) {
     static uint8_t one[PLAIN_IMAGE_BYTES], other[PLAIN_IMAGE_BYTES];
     file[length++] = EVENT_CUT;
     plain_event(e, (uint8_t[]){EVENT_CUT}, 1);
-    plain_answer a = plain_save(e, one, sizeof one);
-    plain_answer b = plain_image(file, length, start_memory, lent, other, sizeof other);
-    require(a.refusal == 0 && b.refusal == 0 && a.value == b.value && memcmp(one, other, a.value) == 0, "file and events differ");
+    for (int headed = 0; headed < 2; headed++) {
+        plain_answer a = plain_save(e, headed, one, sizeof one);
+        plain_answer b = (headed ? plain_image_headed : plain_image)(file, length, start_memory, lent, other, sizeof other);
+        require(a.refusal == 0 && b.refusal == 0 && a.value == b.value && memcmp(one, other, a.value) == 0, "file and events differ");
+    }
 }
 
 static void try_list(void) {
@@ -489,9 +566,10 @@ static void try_list(void) {
 int main(int argc, char **argv) {
     uint64_t lists = argc > 1 ? strtoull(argv[1], NULL, 10) : 2000;
     for (seed = 1; seed <= lists; seed++) try_list();
-    printf("demand 3: %llu lists, %llu cuts, %llu last-run recovery steps, %llu lines torn by a cut, %llu by a cut inside a step, %llu commits, "
-           "%llu reads of committed regions, %llu times 25, 0 failed\n",
+    printf("demand 3: %llu lists, %llu cuts, %llu last-run recovery steps, %llu lines torn by a cut, %llu by a cut inside a step, "
+           "%llu headers, %llu of them behind one of their region, %llu commits, %llu reads of committed regions, %llu times 25, 0 failed\n",
            (unsigned long long)lists, (unsigned long long)cuts_tried, (unsigned long long)steps_tried, (unsigned long long)lines_torn,
-           (unsigned long long)steps_torn, (unsigned long long)regions_committed, (unsigned long long)reads_committed, (unsigned long long)writes_kept_off);
+           (unsigned long long)steps_torn, (unsigned long long)headers, (unsigned long long)headers_behind, (unsigned long long)regions_committed,
+           (unsigned long long)reads_committed, (unsigned long long)writes_kept_off);
     return 0;
 }

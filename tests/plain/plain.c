@@ -462,10 +462,20 @@ plain_answer plain_events(const uint8_t *file, size_t file_len, const uint8_t *m
     return (plain_answer){0, count};
 }
 
-plain_answer plain_image(const uint8_t *file, size_t file_len, const uint8_t *memory, size_t memory_len,
-                         uint8_t *image, size_t image_len) {
+static plain_answer image_call(const uint8_t *file, size_t file_len, const uint8_t *memory, size_t memory_len,
+                               int headed, uint8_t *image, size_t image_len) {
     plain_engine e;
     plain_init_lent(&e, memory, memory_len);
     run_file(&e, file, file_len, NULL);
-    return plain_save(&e, image, image_len);
+    return plain_save(&e, headed, image, image_len);
+}
+
+plain_answer plain_image(const uint8_t *file, size_t file_len, const uint8_t *memory, size_t memory_len,
+                         uint8_t *image, size_t image_len) {
+    return image_call(file, file_len, memory, memory_len, 0, image, image_len);
+}
+
+plain_answer plain_image_headed(const uint8_t *file, size_t file_len, const uint8_t *memory, size_t memory_len,
+                                uint8_t *image, size_t image_len) {
+    return image_call(file, file_len, memory, memory_len, 1, image, image_len);
 }

@@ -28,11 +28,13 @@ enum {
     PLAIN_BYTES_RECORD = 13, /* that of a write of bytes */
     PLAIN_RECORD_BYTES = 4 + PLAIN_SHARES, /* the longest event record, of a setup */
     PLAIN_LOGGED = PLAIN_THREADS * PLAIN_LOG,
-    PLAIN_IMAGE_BYTES = 4 + 65 * PLAIN_LINES + 17 * PLAIN_LISTED + 69 * PLAIN_LOGGED + 1
+    PLAIN_UNDER = 7,       /* log entries under one header */
+    PLAIN_IMAGE_BYTES = 4 + 65 * PLAIN_LINES + 17 * PLAIN_LISTED + 69 * PLAIN_LOGGED + 1, /* the longest image */
+    PLAIN_HEADED_BYTES = PLAIN_IMAGE_BYTES - 4 * (PLAIN_LOGGED - 2 * PLAIN_LISTED) /* the longest new one: eight entries of each region, in two records */
 };
 
 enum { EVENT_SETUP, EVENT_BEGIN, EVENT_END, EVENT_READ, EVENT_WRITE, EVENT_LOG_ACK, EVENT_DATA_ACK, EVENT_FENCE, EVENT_CUT, EVENT_WRITE_BYTES = 10 };
-enum { IMAGE_HEAD = 32, IMAGE_LINE, IMAGE_DEPENDENCE, IMAGE_LOG, IMAGE_END };
+enum { IMAGE_HEAD = 32, IMAGE_LINE, IMAGE_DEPENDENCE, IMAGE_LOG, IMAGE_END, IMAGE_HEADER = 40 }; /* with k entries a header is 40 + k */
 
 /* Refusal 0 is acceptance; a refusal's value is 0. */
 typedef struct { uint8_t refusal; uint64_t value; } plain_answer;
@@ -98,8 +100,8 @@ plain_answer plain_event(plain_engine *engine, const uint8_t *record, size_t len
 /* Length of the whole record that stands first, or 0 if it is empty, cut short or unknown. */
 size_t plain_record_length(const uint8_t *bytes, size_t len);
 
-/* Saves the image of an engine that was cut. */
-plain_answer plain_save(const plain_engine *engine, uint8_t *image, size_t image_len);
+/* Saves the image of an engine that was cut: in the old form, or in the new one, with log entries under headers. */
+plain_answer plain_save(const plain_engine *engine, int headed, uint8_t *image, size_t image_len);
 
 /* What an accepted image holds beside its lines. */
 typedef struct { plain_region region; uint8_t state; plain_region dependence[PLAIN_HELD]; } plain_image_entry;
@@ -113,8 +115,8 @@ typedef struct {
     plain_image_log log[PLAIN_LOGGED];
 } plain_contents;
 
-/* Reads a whole image; gives its refusal. */
-uint8_t plain_read_image(const uint8_t *image, size_t image_len, plain_contents *contents);
+/* Reads a whole image of the old form, or of either; gives its refusal. */
+uint8_t plain_read_image(const uint8_t *image, size_t image_len, int headed, plain_contents *contents);
 
 /* Puts the indices of the log entries into the order in which recovery restores them. */
 void plain_walk(const plain_contents *contents, uint32_t order[PLAIN_LOGGED]);
@@ -126,5 +128,10 @@ plain_answer plain_events(const uint8_t *file, size_t file_len, const uint8_t *m
 plain_answer plain_image(const uint8_t *file, size_t file_len, const uint8_t *memory, size_t memory_len,
                          uint8_t *image, size_t image_len);
 plain_answer plain_recovery_step(uint8_t *image, size_t image_len, uint8_t *place, size_t place_len);
+
+/* The same for the new form, and a step over either. */
+plain_answer plain_image_headed(const uint8_t *file, size_t file_len, const uint8_t *memory, size_t memory_len,
+                                uint8_t *image, size_t image_len);
+plain_answer plain_recovery_step_headed(uint8_t *image, size_t image_len, uint8_t *place, size_t place_len);
 
 #endif

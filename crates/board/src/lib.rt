@@ -6,6 +6,8 @@ ghost use mathlib.Core.Path.{_≡_};
 ghost use Rattle.measures.specs.Loan.{left, was};
 ghost use Rattle.rules.specs.Image.{imageCall};
 ghost use Rattle.rules.specs.Recovery.{recoveryCall};
+ghost use Rattle.headed.specs.Image.{imageHeadedCall};
+ghost use Rattle.headed.specs.Recovery.{recoveryHeadedCall};
 ghost use Rattle.rules.specs.Run.{eventsCall, startCall};
 ghost use Rattle.files.specs.Parts.{wrote};
 ghost use Rattle.board.specs.Recovered.{recovered};
@@ -55,10 +57,26 @@ pub extern "C" fn board_image(file: &[u8], memory: &[u8], image: &mut [u8]) -> A
     files::run_image(file, memory, image)
 }
 
+// The same, and the image is a new one: its log entries stand under headers.
+#[no_mangle]
+pub extern "C" fn board_image_headed(file: &[u8], memory: &[u8], image: &mut [u8]) -> Answer
+    ensures { λ r. ⌜ wrote r (left image) ≡ imageHeadedCall (was file) (was memory) (was image) ⌝ }
+{
+    files::run_image_headed(file, memory, image)
+}
+
 // One recovery step inside the image, at the place in eight bytes, little-endian: 'more' is the value 1, 'finished' the value 0.
 #[no_mangle]
 pub extern "C" fn board_recovery_step(image: &mut [u8], place: &mut [u8]) -> Answer
     ensures { λ r. ⌜ recovered r (left image) (left place) ≡ recoveryCall (was image) (was place) ⌝ }
 {
-    recovery::recovery_call(image, place)
+    recovery::recovery_call(image, place, false)
+}
+
+// The same inside an image of either form.
+#[no_mangle]
+pub extern "C" fn board_recovery_step_headed(image: &mut [u8], place: &mut [u8]) -> Answer
+    ensures { λ r. ⌜ recovered r (left image) (left place) ≡ recoveryHeadedCall (was image) (was place) ⌝ }
+{
+    recovery::recovery_call(image, place, true)
 }

@@ -6,10 +6,12 @@
 // Behind events a case has calls on them as one file, and lines about one buffer, which begins as zeros and holds an image:
 //     answers 90 = 0 10       the file's answers into the first 90 bytes
 //     image 152 = 0 152       the image into the first 152 bytes; it is the image then
+//     headed 152 = 0 152      the same with the new image, whose log entries stand under headers
 //     record 34 0 1 0 0       a record more behind the image: its kind, its first bytes, and zeros
 //     put 4 34 9              bytes 4 and 5 become 34 and 9
 //     length 151              the image is lent as 151 bytes
 //     recover 8 = 0 1         a recovery step over the image, with a place of 8 bytes
+//     either 8 = 0 1          the same with the step that takes both forms
 //     place 0                 the place becomes 0, as after a cut
 //     byte 4 = 33 / word 1 2 = 7 / place = 2      byte 4, word 2 of line 1, the place
 // Prints a line for each case, then how many there are and how many are right. A line in no form makes its case wrong.
@@ -39,28 +41,32 @@ const ANSWERS: usize = 1;
 
 const IMAGE: usize = 2;
 
-const RECOVER: usize = 3;
+const HEADED: usize = 3;
 
-const BYTE: usize = 4;
+const RECOVER: usize = 4;
 
-const WORD: usize = 5;
+const EITHER: usize = 5;
 
-const PLACE: usize = 6;
+const BYTE: usize = 6;
 
-const RECORD: usize = 7;
+const WORD: usize = 7;
 
-const PUT: usize = 8;
+const PLACE: usize = 8;
 
-const LENGTH: usize = 9;
+const RECORD: usize = 9;
 
-const LENT: usize = 10;
+const PUT: usize = 10;
 
-const NO_WORD: usize = 11;
+const LENGTH: usize = 11;
+
+const LENT: usize = 12;
+
+const NO_WORD: usize = 13;
 
 // Whether a line begins with word i and a blank.
 fn is_word(line: &[u8], i: usize) -> bool {
     let words =
-        b"case    answers image   recover byte    word    place   record  put     length  lent    ";
+        b"case    answers image   headed  recover either  byte    word    place   record  put     length  lent    ";
     if NO_WORD <= i {
         return false;
     }
@@ -379,20 +385,23 @@ fn with_event(t: Tried, r: EventRead, h: Head, a: Answer, line: &[u8]) -> Tried 
 
 // ---- calls
 
-// The answers of the file, or its image, into the first n bytes.
+// The answers of the file, or its image of either form, into the first n bytes.
 fn run_call(word: usize, n: usize, file: &[u8], memory: &[u8], out: &mut [u8]) -> Answer {
     let k = within(out, n);
     if word == ANSWERS {
         return files::run_file(file, memory, &mut out[..k]);
     }
+    if word == HEADED {
+        return files::run_image_headed(file, memory, &mut out[..k]);
+    }
     files::run_image(file, memory, &mut out[..k])
 }
 
 // A step over an image of n bytes with a place of m bytes.
-fn step_call(out: &mut [u8], n: usize, place: &mut [u8], m: usize) -> Answer {
+fn step_call(out: &mut [u8], n: usize, place: &mut [u8], m: usize, headed: bool) -> Answer {
     let k = within(out, n);
     let p = within(place, m);
-    recovery::recovery_call(&mut out[..k], &mut place[..p])
+    recovery::recovery_call(&mut out[..k], &mut place[..p], headed)
 }
 
 // Where word w of line l stands in an image; behind the buffer if there is none.
@@ -427,11 +436,11 @@ fn call(
     place: &mut [u8],
 ) -> Answer {
     let x = trying::number(line, 0);
-    if word <= IMAGE {
+    if word <= HEADED {
         return run_call(word, x as usize, file, memory, out);
     }
-    if word == RECOVER {
-        return step_call(out, image, place, x as usize);
+    if word <= EITHER {
+        return step_call(out, image, place, x as usize, word == EITHER);
     }
     Answer {
         refusal: 0,
@@ -446,8 +455,17 @@ fn record_length(kind: u64) -> usize {
         33 => 65,
         34 => 17,
         35 => 69,
+        41..=47 => (4 + 65 * (kind - 40)) as usize,
         _ => 1,
     }
+}
+
+// An image was saved, in either form.
+fn is_saved(word: usize, a: Answer) -> bool {
+    if word == IMAGE || word == HEADED {
+        return a.refusal == 0;
+    }
+    false
 }
 
 fn set_byte(out: &mut [u8], at: usize, b: u8) {
@@ -541,7 +559,7 @@ fn try_call(
     }
     let n = file_length(t, file);
     let a = call(word, line, &file[..n], memory, out, t.image, place);
-    let saved = word == IMAGE && a.refusal == 0;
+    let saved = is_saved(word, a);
     with_call(t, true, a, line, either(saved, a.value as usize, t.image))
 }
 

@@ -53,9 +53,9 @@ words-mixed a xs ys n r₀ r₁ r₂ r₃ r₄ r₅ r₆ r₇ e₀ e₁ e₂ e�
 module _ (bs : List ℕ) (at a : ℕ) where
   pub inside-none : nextOf (readImage bs) at .there ≡ false → bs ≡ cutInside bs at a
   unfolding tornAct tornBy
-  inside-none e = go (finds bs at)
+  inside-none e = go (finds (readImage bs) at)
     where
-      go : Finds bs at → bs ≡ tornRead (choiceOf a) (readImage bs) (record { bytes = bs; at = at }) .bytes
+      go : Finds (readImage bs) at → bs ≡ tornRead (choiceOf a) (readImage bs) (record { bytes = bs; at = at }) .bytes
       go (refused n q) = rw q
       go (past p q k) = rw (q, k)
       go (entry p x xs q k) = absurd (false≢true (sym (rw (q, k) at e)))
@@ -67,9 +67,9 @@ module _ (bs : List ℕ) (at a : ℕ) where
   pub inside-some : nextOf (readImage bs) at .there ≡ true
       → paste bs (lineStart (nextOf (readImage bs) at .line)) (lineBytes (mixedAt (nextOf (readImage bs) at .line) (nextOf (readImage bs) at .old))) ≡ cutInside bs at a
   unfolding tornAct tornBy
-  inside-some e = go (finds bs at)
+  inside-some e = go (finds (readImage bs) at)
     where
-      go : Finds bs at
+      go : Finds (readImage bs) at
           → paste bs (lineStart (nextOf (readImage bs) at .line)) (lineBytes (mixedAt (nextOf (readImage bs) at .line) (nextOf (readImage bs) at .old)))
           ≡ tornRead (choiceOf a) (readImage bs) (record { bytes = bs; at = at }) .bytes
       go (refused n q) = absurd (false≢true (rw q at e))

@@ -44,7 +44,7 @@ fn mixed_line(words: u8, now: Line, old: Line) -> Line
 fn cut_inside(image: &mut [u8], at: u64, words: u8)
     ensures { λ _. ⌜ left image ≡ cutInside (was image) at words ⌝ }
 {
-    let next = recovery::next_entry(image, at);
+    let next = recovery::next_entry(image, at, false);
     if next.there {
         let start = recovery::line_start(next.line);
         let now = lines::take_line(image, start);
@@ -62,7 +62,7 @@ fn acted(image: &mut [u8], at: u64, what: u8) -> u64
         return 0;
     }
     if what == 255 {
-        let s = recovery::step_at(image, at);
+        let s = recovery::step_at(image, at, false);
         return s.at;
     }
     cut_inside(image, at, what);
@@ -87,7 +87,7 @@ pub fn recover(image: &mut [u8], acts: &[u8]) -> Answer
     ensures { λ r. ⌜ Recovered (was image) (was acts) (left image) r ⌝ }
 {
     let at = act_all(image, acts);
-    let last = recovery::step_at(image, at);
+    let last = recovery::step_at(image, at, false);
     last.answer
 }
 

@@ -10,7 +10,6 @@ use Rattle.files.proofs.Records.{answers-long, bytes-long}
 use Rattle.lines.proofs.Paste.{sets-paste}
 use Rattle.rules.specs.Record.{recordsOf}
 use Rattle.rules.specs.Run.{Wrote, answersBytes, eventsCall, runFile, wroteInto}
-use Rattle.rules.specs.Image.{imageCall, save}
 use Rattle.rules.specs.Tables.{Board, Lent, fresh}
 use Rattle.files.specs.Parts.{walked}
 use Rattle.files.proofs.Walked.{walked-all}
@@ -42,6 +41,5 @@ module _ (file memory : List ℕ) (n : ℕ) (b : Board) (en : n ≡ length (reco
       → _≡_ {A = Wrote} (record { answer = record { refusal = 0; value = n }; buffer = x }) (eventsCall file memory d)
   answered d x ex h = rw (ex, en, eb, walked-all (fresh (Lent memory)) file) (call-accepted file memory d h)
 
-  pub imaged : (b₁ : Board) (d : List ℕ) (s : Wrote) → b₁ ≡ walked n b file .board → s ≡ save b₁ d → s ≡ imageCall file memory d
-  unfolding imageCall
-  imaged b₁ d s e₁ es = rw (es, e₁, en, eb, walked-all (fresh (Lent memory)) file)
+  pub imaged : (by : Board → List ℕ → Wrote) (b₁ : Board) (d : List ℕ) (s : Wrote) → b₁ ≡ walked n b file .board → s ≡ by b₁ d → s ≡ by (runFile (Lent memory) file .board) d
+  imaged by b₁ d s e₁ es = rw (es, e₁, en, eb, walked-all (fresh (Lent memory)) file)

@@ -18,9 +18,12 @@ ghost use mathlib.Core.Path.{_≡_};
 ghost use lib.ListN.{length};
 ghost use Rattle.measures.specs.Loan.{left, was};
 ghost use Rattle.rules.specs.Record.{recordsOf};
-ghost use Rattle.rules.specs.Run.{eventsCall};
+ghost use Rattle.rules.specs.Run.{eventsCall, runFile};
 ghost use Rattle.rules.specs.Image.{imageCall};
+ghost use Rattle.rules.specs.Tables.{Lent};
+ghost use Rattle.headed.specs.Image.{imageHeadedCall};
 ghost use Rattle.rows.specs.Whole.{boardLeft, boardWas};
+ghost use Rattle.saving.specs.Image.{saveAs};
 ghost use Rattle.files.specs.Parts.{Puts, Runs, sizeOf, wrote};
 
 // ---- records
@@ -106,7 +109,7 @@ fn run_records(
     head
 }
 
-// ---- the two calls
+// ---- the calls
 
 // An event file over lent starting memory: the answers' bytes, and their number as the value; 6 and nothing written if the buffer is too short.
 pub fn run_file(file: &[u8], memory: &[u8], answers: &mut [u8]) -> Answer
@@ -150,9 +153,10 @@ pub fn run_file(file: &[u8], memory: &[u8], answers: &mut [u8]) -> Answer
     }
 }
 
-// An event file over lent starting memory, and the image that its cut left: 6 if no cut was accepted or the buffer is shorter than the image.
-pub fn run_image(file: &[u8], memory: &[u8], image: &mut [u8]) -> Answer
-    ensures { λ r. ⌜ wrote r (left image) ≡ imageCall (was file) (was memory) (was image) ⌝ }
+// An event file over lent starting memory, and the image that its cut left: 6 if no cut was accepted or the buffer is shorter than the image. With `headed` the
+// image is a new one.
+fn image_as(headed: bool, file: &[u8], memory: &[u8], image: &mut [u8]) -> Answer
+    ensures { λ r. ⌜ wrote r (left image) ≡ saveAs headed (runFile (Lent (was memory)) (was file) .board) (was image) ⌝ }
 {
     let head = starting::fresh_head(false, memory.len() as u64);
     let mut threads = [[0u64; THREAD_NUMBERS]; MOST_THREADS];
@@ -181,5 +185,21 @@ pub fn run_image(file: &[u8], memory: &[u8], image: &mut [u8]) -> Answer
         n,
         &mut none,
     );
-    saving::save(after, &threads, &regions, &med, &old, image)
+    if headed {
+        saving::save_headed(after, &threads, &regions, &med, &old, image)
+    } else {
+        saving::save(after, &threads, &regions, &med, &old, image)
+    }
+}
+
+pub fn run_image(file: &[u8], memory: &[u8], image: &mut [u8]) -> Answer
+    ensures { λ r. ⌜ wrote r (left image) ≡ imageCall (was file) (was memory) (was image) ⌝ }
+{
+    image_as(false, file, memory, image)
+}
+
+pub fn run_image_headed(file: &[u8], memory: &[u8], image: &mut [u8]) -> Answer
+    ensures { λ r. ⌜ wrote r (left image) ≡ imageHeadedCall (was file) (was memory) (was image) ⌝ }
+{
+    image_as(true, file, memory, image)
 }

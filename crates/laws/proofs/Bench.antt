@@ -132,7 +132,7 @@ pub record FromCut (b : Board) (w : Wrote) : Type 0 where
   pub cut : b .tables .cut ≡ true
   pub front : take (w .answer .value) (w .buffer) ≡ image b
 
-wrote-front : (bs d : List ℕ) → wroteInto bs (length bs) d .answer .refusal ≡ 0
+pub wrote-front : (bs d : List ℕ) → wroteInto bs (length bs) d .answer .refusal ≡ 0
     → take (wroteInto bs (length bs) d .answer .value) (wroteInto bs (length bs) d .buffer) ≡ bs
 unfolding wroteInto
 wrote-front bs d e =

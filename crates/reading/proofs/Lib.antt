@@ -1,5 +1,5 @@
 pub mod Tests
+pub mod Spots
 pub mod Counts
 pub mod Turns
-pub mod Olds
 pub mod Walk

@@ -1,327 +1,394 @@
--- The walk over the records: what the tables and counts hold after each.
-use Prim.Native.Nat.{_%_, _+_, _<_, _≤_, suc, ℕ}
-use mathlib.Core.Path.{_∙_, _≡_, ap, refl, sym}
-use mathlib.Core.Bool.{_&&_, false≢true, true}
-use mathlib.Core.List.{List, [], _++_, _∷_}
-use lib.Dec.{eqb, leb, ltb}
+-- The walk over the records: what the table of regions and the counts hold after each, and where the log entries stand.
+use Prim.Native.Nat.{_*_, _+_, _<_, _≤_, suc, ℕ}
+use mathlib.Core.Path.{_∙_, _≡_, ap, refl, subst, sym}
+use mathlib.Core.Bool.{Bool, false≢true, true, true≢false}
+use mathlib.Core.List.{List, [], _++_, _∷_, map}
+use lib.Dec.{eqb}
 use lib.ListN.{drop, getD, length, length-append, length-drop, length-replicate, replicate, set, take}
 use native.Mathlib.Omega.{arith}
-use native.Mathlib.Nat.{add-zero, zero-add}
-use borrow.Author.Tests.{eq-eqb, eqb-true, leb-true, ltb-true}
-use lib.Seq.{drop-cons, drop-drop, getD-drop, take-at}
+use native.Mathlib.Nat.{zero-add}
+use borrow.Author.Tests.{eqb-false, eqb-true}
+use lib.Seq.{drop-cons, drop-drop, take-at}
+use Rattle.headed.specs.Reader.{Progress, fieldsIn, headedBody, heldIn, isKindOf, isPlacedIn, recordsIn, recordsReadAs, stateRead, turnIn, unread}
+use Rattle.lines.proofs.Paste.{sets-join, sets-paste}
+use Rattle.rules.proofs.Codec.Only.{no-entries}
+use Rattle.rules.proofs.Codec.Records.{Passed, along-read, isLast, isOn, last-same, next-same, not-reads, readOr, turn-last, turn-next, turn-passed, turn-stop}
 use Rattle.rules.specs.Bytes.{lineAt}
-use Rattle.rules.specs.Image.{Logged, Persistent}
-use Rattle.rules.specs.Lists.{count}
-use Rattle.rules.specs.Marks.{markAt, marksOf, noMark, oldsFrom, oldsIn}
-use Rattle.rules.specs.Reader.{Next, Reads, Refuses, imageBody, isLoggedBy, lastLogged, nothing, readBy, recordsRead, turnOf}
+use Rattle.rules.specs.Image.{Persistent, withListed}
+use Rattle.rules.specs.Lists.{all, count}
+use Rattle.rules.specs.Marks.{marksOf, noMark}
+use Rattle.rules.specs.Reader.{Last, Next, Reads, Refuses, Verdict, isLoggedBy, keyAt, lastLogged, readBy}
 use Rattle.rules.specs.Tables.{threadOf}
 use Rattle.rules.specs.declared.Listed.{Listed}
 use Rattle.rules.specs.declared.Mark.{Mark}
-use Rattle.rules.proofs.Codec.Records.{along-read, next-same, turn-last, turn-next, turn-stop}
-use Rattle.rules.proofs.Recover.Entries.{Headed, entriesAt, log-adds, log-ends}
-use Rattle.lines.proofs.Paste.{sets-join, sets-paste}
-use Rattle.undo.proofs.Laws.{and-true, test}
-use Rattle.reading.specs.Item.{afterEntry, afterHead, afterLine, afterRegion, countFor, itemOf, tabled, tallyOf}
+use Rattle.undo.proofs.Laws.{is-same, never, test}
+use Rattle.reading.specs.Item.{afterEntries, afterHead, afterLine, afterRegion, countFor, itemOf, tabled, tallyOf}
 use Rattle.reading.specs.Scan.{filled, freeListed, readOf, scanOf}
+use Rattle.reading.specs.Spots.{firstSpot, holds, isInside, logStart, markOn, spotAt, spotsFrom}
 use Rattle.reading.specs.declared.Item.{Item}
-use Rattle.reading.specs.declared.Item.the-variants.{End, Entry, Head, Line, Refused, Region}
+use Rattle.reading.specs.declared.Item.the-variants.{End, Entries, Head, Line, Refused, Region}
+use Rattle.reading.specs.declared.Spot.{Spot}
 use Rattle.reading.specs.declared.Tally.{Tally}
-use Rattle.reading.proofs.Counts.{Few, count-of, few-more, few-none, last-listed, last-logged, length-more, log-room, logged-more}
-use Rattle.reading.proofs.Olds.{Ahead, ahead-next, length-marks, marks-more, place-here}
-use Rattle.reading.proofs.Turns.{added, isOn, isSound, item-fits, item-sound, turn-item, turnFrom}
+use Rattle.reading.proofs.Counts.{Few, count-of, few-more, few-none, last-listed, length-held, length-more, log-room, record-count, record-last}
+use Rattle.reading.proofs.Spots.{Stand, none, record-stands, stand-inside, stand-join, stand-marks, stand-moved}
+use Rattle.reading.proofs.Tests.{item-empty, kind-low, log-body, some-held}
+use Rattle.reading.proofs.Turns.{Entered, Shown, added, end, entries, head, is-end, is-entries, is-head, is-line, is-region, isTaken, item-shown, line, refuses, region, turn-item, turnFrom}
 
 -- ---- tables
 
 pub filled-more : {A : Type 0} (n : ℕ) (z : A) (xs : List A) (x : A) → set (filled n z xs) (length xs) x ≡ filled n z (xs ++ (x ∷ []))
 filled-more n z xs x = sym (sets-join (replicate n z) 0 xs (x ∷ []) ∙ rw (zero-add (length xs)))
 
--- ---- what holds of all that was read
-
-pub record Kept (p : Persistent) : Type 0 where
-  pub threads : p .threads ≤ 8
-  pub start : p .threads ≡ 0 → (p .regions ≡ []) × (p .log ≡ [])
-  pub held : length (p .regions) ≤ 32
-  pub few : Few (p .log)
-
-pub kept-none : Kept nothing
-kept-none = record { threads = omega arith; start = λ z. (refl, refl); held = omega arith; few = few-none }
-
-headed : {p : Persistent} → Kept p → Headed p
-headed {p} g z = g .start (eqb-true (p .threads) 0 z) .1
-
--- a log entry that is let through
-pub record Sound (p : Persistent) (k : ℕ) : Type 0 where
-  pub rises : lastLogged (p .log) ≤ k
-  pub below : threadOf k < p .threads
-  pub known : threadOf k < 8
-  pub room : countFor (tallyOf p) k < 32
-  pub count : countFor (tallyOf p) k ≡ count (isLoggedBy (threadOf k)) (p .log)
-  pub place : length (p .log) < 256
-
-pub entry-sound : (p : Persistent) (k l : ℕ) → Kept p → isSound (tallyOf p) (Entry k l) ≡ true → Sound p k
-unfolding tallyOf
-entry-sound p k l g e =
-    let s = tallyOf p in
-    let a = and-true (ltb (threadOf k) (p .threads)) (leb (s .mark) k && ltb (countFor s k) 32) e in
-    let b = and-true (leb (s .mark) k) (ltb (countFor s k) 32) (a .1) in
-    let t : threadOf k < p .threads = ltb-true (threadOf k) (p .threads) (a .0) in
-    let r : lastLogged (p .log) ≤ k = leb-true (s .mark) k (b .0) in
-    let m : countFor s k < 32 = ltb-true (countFor s k) 32 (b .1) in
-    let c : countFor s k ≡ count (isLoggedBy (threadOf k)) (p .log) = sym (count-of (p .log) k (g .few) r) in
-    let u : threadOf k < 8 = omega (arith, g .threads) in
-    let n : count (isLoggedBy (threadOf k)) (p .log) < 32 = rw c at m in
-    record { rises = r; below = t; known = u; room = m; count = c; place = omega (arith, log-room (p .log) k (g .few) r u n) }
-
-pub kept-more : (p : Persistent) (bs : List ℕ) (i : Item) → Kept p → isSound (tallyOf p) i ≡ true → Kept (added p bs i)
-unfolding tallyOf
-kept-more p bs (Refused n) g e = g
-kept-more p bs (Head t l) g e =
-    let a = and-true (leb 1 t) (leb t 8) (and-true (eqb (p .threads) 0) (leb 1 t && leb t 8) e .1) in
-    record { threads = leb-true t 8 (a .1); start = λ z. (refl, refl); held = omega arith; few = few-none }
-kept-more p bs Line g e = record { threads = g .threads; start = g .start; held = g .held; few = g .few }
-kept-more p bs (Region k q a b c d) g e =
-    let f = and-true (ltb (threadOf k) (p .threads)) (ltb (length (p .regions)) 32) e in
-    let h = ltb-true (threadOf k) (p .threads) (f .0) in
-    let n = ltb-true (length (p .regions)) 32 (f .1) in
-    record { threads = g .threads; start = λ z. absurd (omega arith); held = rw (length-more (p .regions)) (omega arith); few = g .few }
-kept-more p bs (Entry k l) g e =
-    let s = entry-sound p k l g e in
-    record {
-      threads = g .threads;
-      start = λ z. absurd (omega (arith, s .below));
-      held = g .held;
-      few = few-more (p .log) _ (g .few) (s .rises) (s .known) (rw (s .count) at (s .room));
-    }
-kept-more p bs End g e = g
-
--- ---- what the next record is judged by
-
-pub after-line : (p : Persistent) (bs : List ℕ) → afterLine (tallyOf p) ≡ tallyOf (added p bs Line)
-unfolding tallyOf
-after-line p bs = rw (length-more (p .medium))
-
-pub after-region : (p : Persistent) (bs : List ℕ) (k q a b c d : ℕ) → afterRegion (tallyOf p) k ≡ tallyOf (added p bs (Region k q a b c d))
-unfolding tallyOf
-after-region p bs k q a b c d = rw (last-listed (p .regions), length-more (p .regions))
-
-pub after-entry : (p : Persistent) (bs : List ℕ) (k l : ℕ) → Sound p k → afterEntry (tallyOf p) k ≡ tallyOf (added p bs (Entry k l))
-unfolding tallyOf
-after-entry p bs k l s = rw (s .count, last-logged (p .log), length-more (p .log), logged-more (threadOf k) (p .log), eq-eqb (threadOf k) (threadOf k) refl)
-
-pub after-head : (p : Persistent) (bs : List ℕ) (t l : ℕ) → afterHead t l ≡ tallyOf (added p bs (Head t l))
-unfolding tallyOf count
-after-head p bs t l = refl
-
--- ---- one turn of the walk
-
--- the reading stops at a record that is refused, and at the end
-pub stop-read : (p : Persistent) (bs : List ℕ) (n : ℕ) → Kept p → itemOf (tallyOf p) bs ≡ Refused n → recordsRead p 0 bs ≡ Refuses n
-unfolding itemOf readBy
-stop-read p [] n g e = cc
-stop-read p (k ∷ bs) n g e = turn-stop turnOf imageBody p n k bs (turn-item p bs k (g .few) ∙ ap (turnFrom p bs) e)
-
-pub end-read : (p : Persistent) (bs : List ℕ) → Kept p → itemOf (tallyOf p) bs ≡ End → recordsRead p 0 bs ≡ Reads p
-unfolding itemOf
-end-read p [] g e = let z : _≡_ {A = ℕ} 0 1 = cc in absurd (omega arith)
-end-read p (k ∷ bs) g e = turn-last turnOf imageBody p p k bs (turn-item p bs k (g .few) ∙ ap (turnFrom p bs) e)
-
-next-turn : (p : Persistent) (bs : List ℕ) (i : Item) → isOn i ≡ true → turnFrom p bs i ≡ Next (added p bs i)
-next-turn p bs (Refused n) on = absurd (false≢true on)
-next-turn p bs (Head t l) on = refl
-next-turn p bs Line on = refl
-next-turn p bs (Region k q a b c d) on = refl
-next-turn p bs (Entry k l) on = refl
-next-turn p bs End on = absurd (false≢true on)
-
--- a record that goes on, at a place of the whole slice
-module _ (p : Persistent) (src : List ℕ) (at : ℕ) (i : Item) (g : Kept p) (h : at < length src) (e : itemOf (tallyOf p) (drop at src) ≡ i) (on : isOn i ≡ true) where
-  pub next-here : turnOf p (getD src at 0 ∷ drop (suc at) src) ≡ Next (added p (drop (suc at) src) i)
-  next-here =
-      let k = getD src at 0 in
-      let bs = drop (suc at) src in
-      let f : itemOf (tallyOf p) (k ∷ bs) ≡ i = ap (itemOf (tallyOf p)) (sym (drop-cons src at 0 h)) ∙ e in
-      turn-item p bs k (g .few) ∙ (ap (turnFrom p bs) f ∙ next-turn p bs i on)
-
-  -- what is behind its body
-  pub next-behind : drop (imageBody (getD src at 0)) (drop (suc at) src) ≡ drop (at + 1 + imageBody (getD src at 0)) src
-  next-behind =
-      let k = getD src at 0 in
-      let n : suc at + imageBody k ≡ at + 1 + imageBody k = omega arith in
-      drop-drop (imageBody k) (suc at) src ∙ ap (λ m. drop m src) n
-
-  pub next-read : recordsRead p 0 (drop at src) ≡ recordsRead (added p (drop (suc at) src) i) 0 (drop (at + 1 + imageBody (getD src at 0)) src)
-  next-read =
-      let k = getD src at 0 in
-      let bs = drop (suc at) src in
-      ap (recordsRead p 0) (drop-cons src at 0 h)
-      ∙ (turn-next turnOf imageBody p (added p bs i) k bs next-here ∙ ap (recordsRead (added p bs i) 0) next-behind)
-
--- ---- what was read finds its place in the tables
-
-kept-next : (p q : Persistent) (bs : List ℕ) (i : Item) → Kept p → isSound (tallyOf p) i ≡ true → turnFrom p bs i ≡ Next q → Kept q
-kept-next p q bs (Refused n) g s e = let z : _≡_ {A = ℕ} 0 1 = cc in absurd (omega arith)
-kept-next p q bs (Head t l) g s e = rw (← next-same e) (kept-more p bs (Head t l) g s)
-kept-next p q bs Line g s e = rw (← next-same e) (kept-more p bs Line g s)
-kept-next p q bs (Region n m a b c d) g s e = rw (← next-same e) (kept-more p bs (Region n m a b c d) g s)
-kept-next p q bs (Entry n l) g s e = rw (← next-same e) (kept-more p bs (Entry n l) g s)
-kept-next p q bs End g s e = let z : _≡_ {A = ℕ} 0 1 = cc in absurd (omega arith)
-
-kept-read : (bs : List ℕ) (q : Persistent) → recordsRead nothing 0 bs ≡ Reads q → Kept q
-kept-read bs q e =
-    along-read turnOf imageBody (λ p bs. Kept p) Kept
-    (λ p q b bs g t. kept-next p q bs (itemOf (tallyOf p) (b ∷ bs)) g (item-sound (tallyOf p) (b ∷ bs)) (sym (turn-item p bs b (g .few)) ∙ t))
-    (λ p q b bs g t. rw (← log-ends p q b bs t .1 .1) g) bs 0 nothing q kept-none e
-
--- at most 32 regions and 256 log entries
-pub read-few : (bs : List ℕ) (p : Persistent) → recordsRead nothing 0 bs ≡ Reads p → (length (p .regions) ≤ 32) × (length (p .log) ≤ 256)
-read-few bs p e = let g = kept-read bs p e in (g .held, omega (arith, g .few .last, g .few .full, g .few .sum))
-
--- and they stand at the front of their tables
+-- what a table holds stands at its front
 pub take-filled : {A : Type 0} (n : ℕ) (z : A) (xs : List A) → length xs ≤ n → take (length xs) (filled n z xs) ≡ xs
 take-filled n z xs h =
     let d : 0 + length xs ≤ length (replicate n z) = rw (length-replicate n z) (omega arith) in
     rw (sets-paste (replicate n z) 0 xs d) (take-at xs _ (length xs) refl)
 
--- ---- where the loop stands
+-- ---- what holds of all that was read, up to a place of the bytes
 
-pub record Reached (src : List ℕ) (s : Tally) (rs : List Listed) (es : List Mark) (at : ℕ) : Type 0 where
-  pub state : Persistent
-  pub kept : Kept state
-  pub tally : s ≡ tallyOf state
-  pub regions : rs ≡ filled 32 freeListed (state .regions)
-  pub log : es ≡ filled 256 noMark (marksOf (oldsIn src) (state .log))
-  pub ahead : Ahead src state at (drop at src)
-  pub inside : at ≤ length src
-  pub reads : recordsRead state 0 (drop at src) ≡ recordsRead nothing 0 src
+-- before the head
+pub record Blank (s : Progress) (at : ℕ) : Type 0 where
+  pub regions : s .state .regions ≡ []
+  pub kind : s .kind ≡ 0
+  pub place : at ≡ 0
 
--- behind a record that went on
-pub record Went (src : List ℕ) (s : Tally) (rs : List Listed) (es : List Mark) (at : ℕ) : Type 0 where
-  pub low : 32 ≤ getD src at 0
-  pub high : getD src at 0 ≤ 36
-  pub within : at + 1 + imageBody (getD src at 0) ≤ length src
-  pub on : Reached src s rs es (at + 1 + imageBody (getD src at 0))
+pub record Kept (ws : List ℕ) (s : Progress) (at : ℕ) : Type 0 where
+  pub threads : s .state .threads ≤ 8
+  pub start : s .state .threads ≡ 0 → Blank s at
+  pub seen : length (s .state .medium) ≤ s .state .lines
+  pub early : length (s .state .medium) < s .state .lines → s .state .log ≡ []
+  pub held : length (s .state .regions) ≤ 32
+  pub few : Few (s .state .log)
+  -- the log stands behind the head, the lines and the regions
+  pub stand : (s .state .threads ≡ 0 → ⊥) → Stand ws (firstSpot (s .state)) (s .state .log) (spotAt at)
 
-pub reached-none : (src : List ℕ) → Reached src (afterHead 0 0) (replicate 32 freeListed) (replicate 256 noMark) 0
-unfolding tallyOf count
-reached-none src = record { state = nothing; kept = kept-none; tally = refl; regions = refl; log = refl; ahead = refl; inside = omega arith; reads = refl }
-
--- the places ahead, from the record at the loop's place on
-here-ahead : {src : List ℕ} {s : Tally} {rs : List Listed} {es : List Mark} {at : ℕ} (r : Reached src s rs es at) → at < length src
-    → Ahead src (r .state) at (getD src at 0 ∷ drop (suc at) src)
-here-ahead {src} {at = at} r h = r .ahead ∙ ap (oldsFrom 0 at) (drop-cons src at 0 h)
-
-pub went : {src : List ℕ} {s t : Tally} {rs qs : List Listed} {es fs : List Mark} {at : ℕ} (r : Reached src s rs es at) (i : Item)
-    → itemOf s (drop at src) ≡ i → isOn i ≡ true
-    → t ≡ tallyOf (added (r .state) (drop (suc at) src) i)
-    → qs ≡ filled 32 freeListed (added (r .state) (drop (suc at) src) i .regions)
-    → fs ≡ filled 256 noMark (marksOf (oldsIn src) (added (r .state) (drop (suc at) src) i .log))
-    → Went src t qs fs at
-went {src} {s} {t} {rs} {qs} {es} {fs} {at} r i e on a b c =
-    let p = r .state in
-    let n = length-drop at src in
-    let q : itemOf (tallyOf p) (drop at src) ≡ i = ap (λ x. itemOf x (drop at src)) (sym (r .tally)) ∙ e in
-    let f = item-fits (tallyOf p) (drop at src) (ap isOn q ∙ on) in
-    let k : getD (drop at src) 0 0 ≡ getD src at 0 = getD-drop at src 0 0 ∙ rw (add-zero at) in
-    let h : at < length src = omega (arith, f .some) in
-    let w : 1 + imageBody (getD src at 0) ≤ length (drop at src) = rw k at (f .within) in
-    let d : isSound (tallyOf p) i ≡ true = ap (isSound (tallyOf p)) (sym q) ∙ item-sound (tallyOf p) (drop at src) in
-    let m : at + 1 + imageBody (getD src at 0) ≤ length src = omega arith in
+kept-none : (ws : List ℕ) → Kept ws unread 0
+kept-none ws =
     record {
-      low = rw k at (f .low);
-      high = rw k at (f .high);
-      within = m;
-      on =
-          record {
-            state = added p (drop (suc at) src) i;
-            kept = kept-more p (drop (suc at) src) i (r .kept) d;
-            tally = a;
-            regions = b;
-            log = c;
-            ahead = rw (next-behind p src at i (r .kept) h q on)
-                at (ahead-next src p at (getD src at 0) (drop (suc at) src) (here-ahead r h) (added p (drop (suc at) src) i) (headed (r .kept)) (next-here p src at i (r .kept) h q on));
-            inside = m;
-            reads = sym (next-read p src at i (r .kept) h q on) ∙ r .reads;
-          };
+      threads = omega arith;
+      start = λ z. record { regions = refl; kind = refl; place = refl };
+      seen = omega arith;
+      early = λ h. refl;
+      held = omega arith;
+      few = few-none;
+      stand = λ n. absurd (n refl);
     }
 
--- ---- each kind of record, at the loop's place
+-- log entries that are let through: their thread is counted, and all find a place
+pub record Counted (s : Progress) (b k : ℕ) : Type 0 where
+  pub known : threadOf k < 8
+  pub count : countFor (tallyOf s) k ≡ count (isLoggedBy (threadOf k)) (s .state .log)
+  pub place : length (s .state .log) + holds b ≤ 256
 
-module _ {src : List ℕ} {s : Tally} {rs : List Listed} {es : List Mark} {at : ℕ} (r : Reached src s rs es at) where
+module _ {ws : List ℕ} {s : Progress} {at : ℕ} (g : Kept ws s at) where
+  abbrev kind : ℕ
+  kind = getD ws at 0
+
+  abbrev body : List ℕ
+  body = drop (suc at) ws
+
+  counted : {b k d : ℕ} {bs : List ℕ} → Entered (tallyOf s) b bs k d → Counted s b k
+  unfolding tallyOf
+  counted {b} {k} e =
+      let c : countFor (tallyOf s) k ≡ count (isLoggedBy (threadOf k)) (s .state .log) = sym (count-of (s .state .log) k (g .few) (e .climbs)) in
+      let t : threadOf k < 8 = omega (arith, e .known, g .threads) in
+      record { known = t; count = c; place = omega (arith, log-room (s .state .log) k (g .few) (e .climbs), e .room) }
+
+  kept-head : (t l : ℕ) → kind ≡ 32 → s .state .threads ≡ 0 → 1 ≤ t → t ≤ 8 → Kept ws (added s body (Head t l)) (at + 1 + headedBody kind)
+  kept-head t l e z lo hi =
+      let o : at + 1 + headedBody kind ≡ 4 = rw e (omega (arith, g .start z .place)) in
+      record {
+        threads = hi;
+        start = λ n. absurd (omega arith);
+        seen = omega arith;
+        early = λ h. refl;
+        held = omega arith;
+        few = few-none;
+        stand = λ n. rw o none;
+      }
+
+  kept-line : kind ≡ 33 → (s .state .threads ≡ 0 → ⊥) → length (s .state .medium) < s .state .lines → Kept ws (added s body Line) (at + 1 + headedBody kind)
+  kept-line e n m =
+      let r = length (s .state .regions) in
+      let l = length-more (s .state .medium) (lineAt body 0) in
+      record {
+        threads = g .threads;
+        start = λ z. absurd (n z);
+        seen = rw l (omega arith);
+        early = λ h. g .early m;
+        held = g .held;
+        few = g .few;
+        stand = λ n. stand-moved (logStart (length (s .state .medium)) r) at (logStart (length (s .state .medium ++ (lineAt body 0 ∷ []))) r) (at + 1 + headedBody kind)
+            (g .stand n) (g .early m) (λ q. rw (l, e) (omega arith));
+      }
+
+  kept-region : (x : Listed) → kind ≡ 34 → (s .state .threads ≡ 0 → ⊥) → eqb (length (s .state .log)) 0 ≡ true → length (s .state .regions) < 32
+      → Kept ws (record { state = withListed (s .state .regions ++ (x ∷ [])) (s .state); kind = s .kind }) (at + 1 + headedBody kind)
+  kept-region x e n z m =
+      let r = length (s .state .medium) in
+      let l = length-more (s .state .regions) x in
+      record {
+        threads = g .threads;
+        start = λ z. absurd (n z);
+        seen = g .seen;
+        early = g .early;
+        held = rw l (omega arith);
+        few = g .few;
+        stand = λ n. stand-moved (logStart r (length (s .state .regions))) at (logStart r (length (s .state .regions ++ (x ∷ [])))) (at + 1 + headedBody kind)
+            (g .stand n) (no-entries (s .state .log) z) (λ q. rw (l, e) (omega arith));
+      }
+
+  kept-entries : (k d : ℕ) → headedBody kind ≤ length body → Entered (tallyOf s) kind body k d → Kept ws (added s body (Entries k d)) (at + 1 + headedBody kind)
+  unfolding tallyOf
+  kept-entries k d h e =
+      let c = counted e in
+      let m = holds kind in
+      let o : at + 4 + 65 * m ≡ at + 1 + headedBody kind = rw (log-body kind (e .held)) (omega arith) in
+      let room : count (isLoggedBy (threadOf (keyAt body 0))) (s .state .log) + m ≤ 32 = rw (← e .key, ← c .count) (e .room) in
+      let inside : at + 4 + 65 * m ≤ length ws = omega (arith, length-drop (suc at) ws) in
+      rw (e .kind)
+      (record {
+        threads = g .threads;
+        start = λ z. absurd (omega (arith, e .known));
+        seen = g .seen;
+        early = λ j. absurd (omega (arith, e .late));
+        held = g .held;
+        few = few-more (s .state .log) m m body (g .few) (rw (← e .key) (e .climbs)) (rw (← e .key) (c .known)) (some-held kind) room;
+        stand = λ n. rw (← o) (stand-join (g .stand n) (record-stands ws at (some-held kind) inside));
+      })
+
+  kept-more : {i : Item} {q : Progress} → headedBody kind ≤ length body → Shown (tallyOf s) kind body i → turnFrom s body i ≡ Next q → Kept ws q (at + 1 + headedBody kind)
+  unfolding tallyOf
+  kept-more h refuses e = absurd (false≢true (ap isOn e))
+  kept-more h (head {t} {l} b z lo hi) e = rw (← next-same e) (kept-head t l b z lo hi)
+  kept-more h (line b n m) e = rw (← next-same e) (kept-line b n m)
+  kept-more h (region b n l m) e = rw (← next-same e) (kept-region _ b n l m)
+  kept-more h (entries {k} {d} b) e = rw (← next-same e) (kept-entries k d h b)
+  kept-more h (end n) e = absurd (true≢false (ap isLast e))
+
+  -- the end
+  ended-here : {i : Item} {q : Progress} → Shown (tallyOf s) kind body i → turnFrom s body i ≡ Last q → (s ≡ q) × (s .state .threads ≡ 0 → ⊥)
+  unfolding tallyOf
+  ended-here refuses e = absurd (false≢true (ap isOn e))
+  ended-here (head b z lo hi) e = absurd (false≢true (ap isLast e))
+  ended-here (line b n m) e = absurd (false≢true (ap isLast e))
+  ended-here (region b n l m) e = absurd (false≢true (ap isLast e))
+  ended-here (entries b) e = absurd (false≢true (ap isLast e))
+  ended-here (end n) e = (last-same e, n)
+
+  -- one turn
+  module _ (headed : Bool) (q : Progress) where
+    abbrev passed : turnIn headed s (kind ∷ body) ≡ Next q → Passed (isKindOf headed) isPlacedIn headedBody fieldsIn s kind body (Next q)
+    passed t = turn-passed (isKindOf headed) isPlacedIn headedBody fieldsIn s kind body (Next q) refl t
+
+    kept-next : turnIn headed s (kind ∷ body) ≡ Next q → Kept ws q (at + 1 + headedBody kind)
+    kept-next t = kept-more (passed t .long) (item-shown (tallyOf s) body headed kind) (sym (turn-item s body headed kind (g .few)) ∙ t)
+
+    kept-last : turnIn headed s (kind ∷ body) ≡ Last q → (s ≡ q) × (s .state .threads ≡ 0 → ⊥)
+    kept-last t = ended-here (item-shown (tallyOf s) body headed kind) (sym (turn-item s body headed kind (g .few)) ∙ t)
+
+-- ---- what the next record is judged by
+
+after-head : (s : Progress) (bs : List ℕ) (t l : ℕ) → s .kind ≡ 0 → afterHead t l ≡ tallyOf (added s bs (Head t l))
+unfolding tallyOf count
+after-head s bs t l z = rw z
+
+after-line : (s : Progress) (bs : List ℕ) → afterLine (tallyOf s) ≡ tallyOf (added s bs Line)
+unfolding tallyOf
+after-line s bs = rw (length-more (s .state .medium))
+
+after-region : (s : Progress) (bs : List ℕ) (k q a b c d : ℕ) → afterRegion (tallyOf s) k ≡ tallyOf (added s bs (Region k q a b c d))
+unfolding tallyOf
+after-region s bs k q a b c d = rw (last-listed (s .state .regions), length-more (s .state .regions))
+
+after-entries : (s : Progress) (b k d : ℕ) (bs : List ℕ) → Entered (tallyOf s) b bs k d → Counted s b k → afterEntries (tallyOf s) k d ≡ tallyOf (added s bs (Entries k d))
+unfolding tallyOf
+after-entries s b k d bs e c =
+    let m = holds d in
+    let es = s .state .log in
+    rw (c .count, e .key, record-last m bs es m (some-held d), length-append es (heldIn m bs), length-held m bs 0 m, record-count m bs (threadOf (keyAt bs 0)) es m, is-same (threadOf (keyAt bs 0)))
+
+-- ---- what is read of an image
+
+-- the bytes behind the record at a place
+behind : (ws : List ℕ) (at n : ℕ) → drop n (drop (suc at) ws) ≡ drop (at + 1 + n) ws
+behind ws at n = let o : suc at + n ≡ at + 1 + n = omega arith in drop-drop n (suc at) ws ∙ ap (λ m. drop m ws) o
+
+-- at most 32 regions and 256 log entries, which stand behind the regions
+pub record Laid (ws : List ℕ) (p : Persistent) : Type 0 where
+  pub few : (length (p .regions) ≤ 32) × (length (p .log) ≤ 256)
+  pub end : Spot
+  pub stand : Stand ws (firstSpot p) (p .log) end
+
+laid : {ws : List ℕ} {s : Progress} {at : ℕ} → Kept ws s at → (s .state .threads ≡ 0 → ⊥) → Laid ws (s .state)
+laid {at = at} g n = record { few = (g .held, omega (arith, g .few .last, g .few .full, g .few .sum)); end = spotAt at; stand = g .stand n }
+
+-- how far the bytes are read
+record Far (ws : List ℕ) (s : Progress) (bs : List ℕ) : Type 0 where
+  pub at : ℕ
+  pub here : drop at ws ≡ bs
+  pub kept : Kept ws s at
+
+module _ (headed : Bool) (ws : List ℕ) where
+  front : (at b : ℕ) (bs : List ℕ) → drop at ws ≡ b ∷ bs → getD ws at 0 ∷ drop (suc at) ws ≡ b ∷ bs
+  front at b bs e = sym (drop-cons ws at 0 (omega (arith, length-drop at ws, ap length e))) ∙ e
+
+  further : (s q : Progress) (b : ℕ) (bs : List ℕ) → Far ws s (b ∷ bs) → turnIn headed s (b ∷ bs) ≡ Next q → Far ws q (drop (headedBody b) bs)
+  further s q b bs f t =
+      let at = f .at in
+      let e = front at b bs (f .here) in
+      let k : getD ws at 0 ≡ b = cc in
+      let r : drop (suc at) ws ≡ bs = cc in
+      record { at = at + 1 + headedBody (getD ws at 0); here = rw (← behind ws at (headedBody (getD ws at 0)), k, r); kept = kept-next (f .kept) headed q (ap (turnIn headed s) e ∙ t) }
+
+  finished : (s q : Progress) (b : ℕ) (bs : List ℕ) → Far ws s (b ∷ bs) → turnIn headed s (b ∷ bs) ≡ Last q → Laid ws (q .state)
+  finished s q b bs f t = let a = kept-last (f .kept) headed q (ap (turnIn headed s) (front (f .at) b bs (f .here)) ∙ t) in rw (← a .0) (laid (f .kept) (a .1))
+
+  pub read-laid : (p : Persistent) → recordsReadAs headed ws ≡ Reads p → Laid ws p
+  unfolding recordsReadAs
+  read-laid p e = go (recordsIn headed unread 0 ws) refl e
+    where
+      go : (v : Verdict Progress) → recordsIn headed unread 0 ws ≡ v → stateRead v ≡ Reads p → Laid ws p
+      go (Refuses n) q e = not-reads e
+      go (Reads s) q e =
+          subst (Laid ws) (ap (readOr (s .state)) e)
+          (along-read (turnIn headed) headedBody (Far ws) (λ r. Laid ws (r .state)) further finished ws 0 unread s
+          (record { at = 0; here = refl; kept = kept-none ws }) q)
+
+-- ---- where the loop stands
+
+pub record Reached (headed : Bool) (src : List ℕ) (s : Tally) (rs : List Listed) (at : ℕ) : Type 0 where
+  pub state : Progress
+  pub kept : Kept src state at
+  pub tally : s ≡ tallyOf state
+  pub regions : rs ≡ filled 32 freeListed (state .state .regions)
+  pub inside : at ≤ length src
+  pub reads : recordsIn headed state 0 (drop at src) ≡ recordsIn headed unread 0 src
+
+-- behind a record that went on
+pub record Went (headed : Bool) (src : List ℕ) (s : Tally) (rs : List Listed) (at : ℕ) : Type 0 where
+  pub low : 32 ≤ getD src at 0
+  pub within : at + 1 + headedBody (getD src at 0) ≤ length src
+  pub on : Reached headed src s rs (at + 1 + headedBody (getD src at 0))
+
+pub reached-none : (headed : Bool) (src : List ℕ) → Reached headed src (afterHead 0 0) (replicate 32 freeListed) 0
+unfolding tallyOf count
+reached-none headed src = record { state = unread; kept = kept-none src; tally = refl; regions = refl; inside = omega arith; reads = refl }
+
+-- the reading stops at a record that is refused
+stop-read : (headed : Bool) (s : Progress) (bs : List ℕ) (n : ℕ) → Few (s .state .log) → itemOf headed (tallyOf s) bs ≡ Refused n → recordsIn headed s 0 bs ≡ Refuses n
+unfolding itemOf readBy
+stop-read headed s [] n few e = cc
+stop-read headed s (k ∷ bs) n few e = turn-stop (turnIn headed) headedBody s n k bs (turn-item s bs headed k few ∙ ap (turnFrom s bs) e)
+
+module _ {headed : Bool} {src : List ℕ} {s : Tally} {rs : List Listed} {at : ℕ} (r : Reached headed src s rs at) where
+  abbrev rest : List ℕ
+  rest = drop (suc at) src
+
   -- what is judged by the counts is judged by all that was read
-  same-item : {i : Item} → itemOf s (drop at src) ≡ i → itemOf (tallyOf (r .state)) (drop at src) ≡ i
-  same-item e = ap (λ x. itemOf x (drop at src)) (sym (r .tally)) ∙ e
+  same-item : {i : Item} → itemOf headed s (drop at src) ≡ i → itemOf headed (tallyOf (r .state)) (drop at src) ≡ i
+  same-item e = ap (λ x. itemOf headed x (drop at src)) (sym (r .tally)) ∙ e
 
-  sound-item : (i : Item) → itemOf s (drop at src) ≡ i → isSound (tallyOf (r .state)) i ≡ true
-  sound-item i e = ap (isSound (tallyOf (r .state))) (sym (same-item e)) ∙ item-sound (tallyOf (r .state)) (drop at src)
+  pub stopped : (n : ℕ) → itemOf headed s (drop at src) ≡ Refused n → recordsReadAs headed src ≡ Refuses n
+  unfolding recordsReadAs
+  stopped n e = ap stateRead (sym (r .reads) ∙ stop-read headed (r .state) (drop at src) n (r .kept .few) (same-item e))
 
-  pub stopped : (n : ℕ) → itemOf s (drop at src) ≡ Refused n → recordsRead nothing 0 src ≡ Refuses n
-  stopped n e = sym (r .reads) ∙ stop-read (r .state) (drop at src) n (r .kept) (same-item e)
+  -- ---- a record that is taken
 
-  pub ended : itemOf s (drop at src) ≡ End → record { refusal = 0; scan = tabled s rs es } ≡ readOf src (recordsRead nothing 0 src)
-  unfolding scanOf tallyOf
-  ended e = rw (sym (r .reads) ∙ end-read (r .state) (drop at src) (r .kept) (same-item e), r .tally, r .regions, r .log)
+  module _ (i : Item) (e : itemOf headed s (drop at src) ≡ i) (taken : isTaken i ≡ true) where
+    there : at < length src
+    there =
+        test (eqb (length (drop at src)) 0)
+        (λ z. never taken (ap isTaken (sym e ∙ item-empty headed s (drop at src) (eqb-true (length (drop at src)) 0 z))))
+        (λ z. omega (arith, length-drop at src, eqb-false (length (drop at src)) 0 z))
 
-  pub went-head : (t l : ℕ) → itemOf s (drop at src) ≡ Head t l → Went src (afterHead t l) rs es at
+    pub shown : Shown s (getD src at 0) rest i
+    shown = subst (Shown s (getD src at 0) rest) (ap (itemOf headed s) (sym (drop-cons src at 0 there)) ∙ e) (item-shown s rest headed (getD src at 0))
+
+    turned : turnIn headed (r .state) (getD src at 0 ∷ rest) ≡ turnFrom (r .state) rest i
+    turned =
+        turn-item (r .state) rest headed (getD src at 0) (r .kept .few)
+        ∙ ap (turnFrom (r .state) rest) (ap (itemOf headed (tallyOf (r .state))) (sym (drop-cons src at 0 there)) ∙ same-item e)
+
+    went : {t : Tally} {qs : List Listed} → turnFrom (r .state) rest i ≡ Next (added (r .state) rest i) → t ≡ tallyOf (added (r .state) rest i)
+        → qs ≡ filled 32 freeListed (added (r .state) rest i .state .regions) → Went headed src t qs at
+    went n a b =
+        let k = getD src at 0 in
+        let q = added (r .state) rest i in
+        let p = passed (r .kept) headed q (turned ∙ n) in
+        let m : at + 1 + headedBody k ≤ length src = omega (arith, p .long, there, length-drop (suc at) src) in
+        record {
+          low = kind-low headed k (p .known);
+          within = m;
+          on =
+              record {
+                state = q;
+                kept = kept-next (r .kept) headed q (turned ∙ n);
+                tally = a;
+                regions = b;
+                inside = m;
+                reads = sym (turn-next (turnIn headed) headedBody (r .state) q k rest (turned ∙ n) ∙ ap (recordsIn headed q 0) (behind src at (headedBody k)))
+                    ∙ (ap (recordsIn headed (r .state) 0) (sym (drop-cons src at 0 there)) ∙ r .reads);
+              };
+        }
+
+  -- ---- each kind of record, at the loop's place
+
+  pub went-head : (t l : ℕ) → itemOf headed s (drop at src) ≡ Head t l → Went headed src (afterHead t l) rs at
   unfolding tallyOf
   went-head t l e =
-      let p = r .state in
-      let z = and-true (eqb (p .threads) 0) (leb 1 t && leb t 8) (sound-item (Head t l) e) .0 in
-      let n = r .kept .start (eqb-true (p .threads) 0 z) in
-      went r (Head t l) e refl (after-head p (drop (suc at) src) t l) (r .regions ∙ ap (filled 32 freeListed) (n .0)) (r .log ∙ ap (λ x. filled 256 noMark (marksOf (oldsIn src) x)) (n .1))
+      let z = r .kept .start (rw (r .tally) at (is-head (shown (Head t l) e refl))) in
+      went (Head t l) e refl refl (after-head (r .state) rest t l (z .kind)) (r .regions ∙ ap (filled 32 freeListed) (z .regions))
 
-  pub went-line : itemOf s (drop at src) ≡ Line → Went src (afterLine s) rs es at
-  went-line e = went r Line e refl (ap afterLine (r .tally) ∙ after-line (r .state) (drop (suc at) src)) (r .regions) (r .log)
+  pub line-room : itemOf headed s (drop at src) ≡ Line → s .seen < s .lines
+  line-room e = is-line (shown Line e refl)
 
-  pub went-region : (k q a b c d : ℕ) → itemOf s (drop at src) ≡ Region k q a b c d
-      → Went src (afterRegion s k) (set rs (s .held) (record { key = k; state = q; deps = a ∷ b ∷ c ∷ d ∷ [] })) es at
-  unfolding tallyOf
-  went-region k q a b c d e =
-      let p = r .state in
-      let x : Listed = record { key = k; state = q; deps = a ∷ b ∷ c ∷ d ∷ [] } in
-      went r (Region k q a b c d) e refl (ap (λ t. afterRegion t k) (r .tally) ∙ after-region p (drop (suc at) src) k q a b c d)
-      (rw (r .regions, r .tally) (filled-more 32 freeListed (p .regions) x)) (r .log)
+  pub went-line : itemOf headed s (drop at src) ≡ Line → Went headed src (afterLine s) rs at
+  went-line e = went Line e refl refl (ap afterLine (r .tally) ∙ after-line (r .state) rest) (r .regions)
 
-  -- the kind of a log entry's record, and the place of its old line
-  entry-kind : (k l : ℕ) → itemOf s (drop at src) ≡ Entry k l → eqb (getD src at 0) 35 ≡ true
-  entry-kind k l e =
-      let p = r .state in
-      let b = getD src at 0 in
-      let bs = drop (suc at) src in
-      let h : at < length src = omega (arith, length-drop at src, item-fits s (drop at src) (ap isOn e) .some) in
-      let t = log-adds p (added p bs (Entry k l)) b bs (headed (r .kept)) (next-here p src at (Entry k l) (r .kept) h (same-item e) refl) .0 in
-      let n : length (p .log) + 1 ≡ length (p .log ++ entriesAt b bs) = sym (length-more (p .log) _) ∙ ap length t in
-      test (eqb b 35) (λ d. d) (λ d. let z : length (p .log ++ []) ≡ length (p .log) + 0 = length-append (p .log) [] in absurd (omega (arith, rw d at n)))
+  module _ (k q a b c d : ℕ) (e : itemOf headed s (drop at src) ≡ Region k q a b c d) where
+    pub region-room : s .held < 32
+    region-room = is-region (shown (Region k q a b c d) e refl)
 
-  old-place : (k l : ℕ) → itemOf s (drop at src) ≡ Entry k l → getD (oldsIn src) (length (r .state .log)) 0 ≡ at + 5
-  old-place k l e =
-      let h : at < length src = omega (arith, length-drop at src, item-fits s (drop at src) (ap isOn e) .some) in
-      place-here src (r .state) at (getD src at 0) (drop (suc at) src) (here-ahead r h) (entry-kind k l e)
+    pub went-region : Went headed src (afterRegion s k) (set rs (s .held) (record { key = k; state = q; deps = a ∷ b ∷ c ∷ d ∷ [] })) at
+    unfolding tallyOf
+    went-region =
+        went (Region k q a b c d) e refl refl (ap (λ t. afterRegion t k) (r .tally) ∙ after-region (r .state) rest k q a b c d)
+        (rw (r .regions, r .tally) (filled-more 32 freeListed (r .state .state .regions) (record { key = k; state = q; deps = a ∷ b ∷ c ∷ d ∷ [] })))
 
-  pub entry-inside : (k l : ℕ) → itemOf s (drop at src) ≡ Entry k l → at + 69 ≤ length src
-  entry-inside k l e =
-      let f = item-fits s (drop at src) (ap isOn e) in
-      let n : getD (drop at src) 0 0 ≡ 35 = getD-drop at src 0 0 ∙ (rw (add-zero at) (eqb-true (getD src at 0) 35 (entry-kind k l e))) in
-      let w : 1 + imageBody 35 ≤ length (drop at src) = rw n at (f .within) in
-      omega (arith, length-drop at src)
+  module _ (k d : ℕ) (e : itemOf headed s (drop at src) ≡ Entries k d) where
+    entered : Entered (tallyOf (r .state)) (getD src at 0) rest k d
+    entered = rw (r .tally) at (is-entries (shown (Entries k d) e refl))
 
-  pub went-entry : (k l : ℕ) → itemOf s (drop at src) ≡ Entry k l
-      → Went src (afterEntry s k) rs (set es (s .logged) (record { key = k; line = l; at = (at + 5) % 65536 })) at
-  unfolding tallyOf
-  went-entry k l e =
-      let p = r .state in
-      let y : Logged = record { key = k; line = l; old = lineAt (drop (suc at) src) 4 } in
-      let g = entry-sound p k l (r .kept) (sound-item (Entry k l) e) in
-      let m = length-marks (oldsIn src) (p .log) in
-      went r (Entry k l) e refl (ap (λ t. afterEntry t k) (r .tally) ∙ after-entry p (drop (suc at) src) k l g) (r .regions)
-      (rw (r .log, r .tally, ← old-place k l e, marks-more (oldsIn src) (p .log) y, ← m) (filled-more 256 noMark (marksOf (oldsIn src) (p .log)) (markAt _ y)))
+    pub entries-room : (s .logged ≤ 256) × (countFor s k ≤ 32)
+    unfolding tallyOf
+    entries-room = let f = entered in let c = counted (r .kept) f in rw (r .tally) (omega (arith, c .place), omega (arith, f .room))
 
-  pub entry-room : (k l : ℕ) → itemOf s (drop at src) ≡ Entry k l → (s .logged < 256) × (countFor s k < 32)
-  unfolding tallyOf
-  entry-room k l e = let g = entry-sound (r .state) k l (r .kept) (sound-item (Entry k l) e) in rw (r .tally) (g .place, g .room)
+    pub went-entries : Went headed src (afterEntries s k d) rs at
+    went-entries =
+        went (Entries k d) e refl refl (ap (λ t. afterEntries t k d) (r .tally) ∙ after-entries (r .state) (getD src at 0) k d rest entered (counted (r .kept) entered)) (r .regions)
 
-pub line-room : (s : Tally) (bs : List ℕ) → itemOf s bs ≡ Line → s .seen < s .lines
-line-room s bs e = ltb-true (s .seen) (s .lines) (ap (isSound s) (sym e) ∙ item-sound s bs)
+  -- ---- the end
 
-pub region-room : (s : Tally) (bs : List ℕ) (k q a b c d : ℕ) → itemOf s bs ≡ Region k q a b c d → s .held < 32
-region-room s bs k q a b c d e =
-    ltb-true (s .held) 32 (and-true (ltb (threadOf k) (s .threads)) (ltb (s .held) 32) (ap (isSound s) (sym e) ∙ item-sound s bs) .1)
+  module _ (e : itemOf headed s (drop at src) ≡ End) where
+    all-read : Laid src (r .state .state)
+    unfolding tallyOf
+    all-read = laid (r .kept) (rw (r .tally) at (is-end (shown End e refl)))
+
+    pub start-room : (s .seen ≤ s .lines) × (s .held ≤ 32)
+    unfolding tallyOf
+    start-room = rw (r .tally) (r .kept .seen, r .kept .held)
+
+    pub marks-inside : (all (isInside src) (spotsFrom (s .logged) src (spotAt (logStart (s .seen) (s .held)))) ≡ true) × (s .logged ≤ 256)
+    unfolding tallyOf
+    marks-inside = rw (r .tally) (stand-inside (all-read .stand), all-read .few .1)
+
+    pub ended : {log : List Mark} → log ≡ filled 256 noMark (map (markOn src) (spotsFrom (s .logged) src (spotAt (logStart (s .seen) (s .held)))))
+        → record { refusal = 0; scan = tabled s rs log } ≡ readOf src (recordsReadAs headed src)
+    unfolding recordsReadAs scanOf tallyOf
+    ended q =
+        let x : recordsIn headed unread 0 src ≡ Reads (r .state)
+        = sym (r .reads) ∙ (ap (recordsIn headed (r .state) 0) (drop-cons src at 0 (there End e refl))
+        ∙ turn-last (turnIn headed) headedBody (r .state) (r .state) (getD src at 0) rest (turned End e refl)) in
+        rw (x, q, r .tally, r .regions, stand-marks (all-read .stand))

@@ -1,21 +1,24 @@
-// One pass over the records of an image: 32 head, then L records 33, any 34, any 35, then 36.
+// One pass over the records of an image of either form: 32 head, then L records 33, any 34, any 35 or any of 41 to 47, then 36. A second one over its log.
 use measures::MOST_ENTRIES;
 use measures::MOST_LOGGED;
 use measures::MOST_REGIONS;
 use measures::NUMBERS;
 use rules::Listed;
 use rules::Mark;
-ghost use Prim.Native.Nat.{_+_, _<_, _≤_};
-ghost use mathlib.Core.Bool.{_||_};
-ghost use lib.Dec.{eqb, ltb};
+ghost use Prim.Native.Nat.{_*_, _+_, _<_, _≤_};
+ghost use mathlib.Core.Bool.{_&&_, _||_, true};
+ghost use lib.Dec.{eqb, leb, ltb};
 ghost use mathlib.Core.Path.{_≡_};
-ghost use mathlib.Core.List.{[], _∷_};
+ghost use mathlib.Core.List.{[], _∷_, map};
 ghost use lib.ListN.{length};
-ghost use Rattle.rules.specs.Reader.{nothing, imageBody, isKnownThread, keyAt, listedAt, recordsRead};
+ghost use Rattle.rules.specs.Marks.{noMark};
+ghost use Rattle.rules.specs.Reader.{isKnownThread, keyAt, listedAt};
 ghost use Rattle.rules.specs.Lists.{all};
-ghost use Rattle.reading.specs.Scan.{freeListed, readOf, refusedWith};
-ghost use Rattle.reading.specs.Item.{placed, headItem, regionItem, countFor, entryItem, endItem, fieldsItem, itemOf};
-ghost use Rattle.reading.specs.Item.{afterHead, afterLine, afterRegion, afterEntry, tabled};
+ghost use Rattle.headed.specs.Reader.{headedBody, heldIn, isBeside, isHeader, isKindOf, isOnBoard, recordsReadAs};
+ghost use Rattle.reading.specs.Scan.{filled, freeListed, readOf, refusedWith};
+ghost use Rattle.reading.specs.Spots.{holds, isInside, isLogKind, logStart, markOn, nextSpot, oldAt, spotAt, spotsFrom};
+ghost use Rattle.reading.specs.Item.{behindShort, countFor, endItem, entriesItem, fieldsItem, headItem, itemOf, placed, regionItem};
+ghost use Rattle.reading.specs.Item.{afterEntries, afterHead, afterLine, afterRegion, tabled};
 
 // What was read: T and L (0 before the head), the number of line records, the regions, the log entries.
 pub struct Scan {
@@ -35,7 +38,7 @@ pub struct Read {
 }
 
 // What the next record is judged by: T and L, how many lines, regions and log entries came before it, the key of the last region and of the last log entry,
-// and how many log entries the thread of the last one has.
+// how many log entries the thread of the last one has, and the kind of the last log record, 0 before the first.
 pub struct Tally {
     pub threads: u8,
     pub lines: u16,
@@ -45,35 +48,95 @@ pub struct Tally {
     pub logged: usize,
     pub mark: u32,
     pub count: usize,
+    pub kind: u8,
 }
 
-// A record: refused with its number; T and L; a line; a region's key, state and dependences; a log entry's key and line; the end.
+// An old line among the log records: that of one entry of the record at a place.
+pub struct Spot {
+    pub at: usize,
+    pub entry: usize,
+}
+
+// A record: refused with its number; T and L; a line; a region's key, state and dependences; the key of log entries and the kind that holds them; the end.
 pub enum Item {
     Refused(u8),
     Head(u8, u16),
     Line,
     Region(u32, u8, u32, u32, u32, u32),
-    Entry(u32, u8),
+    Entries(u32, u8),
     End,
+}
+
+fn is_within(k: u8, low: u8, high: u8) -> bool
+    ensures { λ r. ⌜ r ≡ (leb low k && leb k high) ⌝ }
+{
+    low <= k && k <= high
+}
+
+// Whether a record is one of 41 to 47.
+fn is_header(k: u8) -> bool
+    ensures { λ r. ⌜ r ≡ isHeader k ⌝ }
+{
+    is_within(k, 41, 47)
+}
+
+// Whether a record is one of an image, with `headed` of a new one too.
+fn is_kind(k: u8, headed: bool) -> bool
+    ensures { λ r. ⌜ r ≡ isKindOf headed k ⌝ }
+{
+    is_within(k, 32, 36) || (headed && is_header(k))
+}
+
+// Whether a record holds log entries.
+fn is_log_kind(k: u8) -> bool
+    ensures { λ r. ⌜ r ≡ isLogKind k ⌝ }
+{
+    k == 35 || is_header(k)
+}
+
+// How many log entries a record of a log holds.
+fn held_by(k: u8) -> usize
+    ensures { λ r. ⌜ r ≡ holds k ⌝ }
+{
+    if is_header(k) {
+        return (k - 40) as usize;
+    }
+    1
 }
 
 // The bytes of a body, by its kind.
 fn body_length(kind: u8) -> usize
-    requires { ⌜ (32 ≤ kind) × (kind ≤ 36) ⌝ }
-    ensures { λ r. ⌜ r ≡ imageBody kind ⌝ }
+    requires { ⌜ 32 ≤ kind ⌝ }
+    ensures { λ r. ⌜ r ≡ headedBody kind ⌝ }
 {
     let table: [usize; 4] = [3, 64, 16, 68];
-    if kind == 36 {
+    if is_header(kind) {
+        return 3 + 65 * held_by(kind);
+    }
+    if 36 <= kind {
         return 0;
     }
     let k = (kind - 32) as usize;
     table[k]
 }
 
+// Whether 35 stands beside any of 41 to 47.
+fn is_beside(last: u8, k: u8) -> bool
+    ensures { λ r. ⌜ r ≡ isBeside last k ⌝ }
+{
+    if k == 35 {
+        return is_header(last);
+    }
+    is_header(k) && last == 35
+}
+
 // Whether a record of this kind may stand here.
 fn is_placed(s: Tally, k: u8) -> bool
     ensures { λ r. ⌜ r ≡ placed s k ⌝ }
 {
+    if is_beside(s.kind, k) {
+        return false;
+    }
     if s.threads == 0 {
         return k == 32;
     }
@@ -195,23 +258,52 @@ fn count_for(s: Tally, k: u32) -> usize
     0
 }
 
-// A log entry: 3 for its thread, 4 for its line, 7 for a key that falls, 7 for an entry too many of its thread.
-fn entry(s: Tally, k: u32, l: u8) -> Item
-    ensures { λ r. ⌜ r ≡ entryItem s k l ⌝ }
+// Whether the lines of n entries are below L.
+fn is_on_board(body: &[u8], n: usize, l: u16) -> bool
+    requires { ⌜ 3 + n ≤ length (now body) ⌝ }
+    ensures { λ r. ⌜ r ≡ all (isOnBoard l) (heldIn n (now (body .entry))) ⌝ }
 {
+    let mut i: usize = 0;
+    while i < n {
+        if l <= body[3 + i] as u16 {
+            return false;
+        }
+        i = i + 1;
+    }
+    true
+}
+
+// Whether the last log record is of this region and holds fewer than seven entries.
+fn is_behind_short(s: Tally, k: u32) -> bool
+    ensures { λ r. ⌜ r ≡ behindShort s k ⌝ }
+{
+    is_header(s.kind) && (s.kind < 47 && s.mark == k)
+}
+
+// Log entries: 3 for their thread, 4 for any of their lines, 7 for a key that falls, 7 behind fewer than seven of their region, 7 for entries too many of
+// their thread.
+fn entries(body: &[u8], s: Tally, kind: u8) -> Item
+    requires { ⌜ 3 + 65 * holds kind ≤ length (now body) ⌝ }
+    ensures { λ r. ⌜ r ≡ entriesItem s kind (now (body .entry)) ⌝ }
+{
+    let n = held_by(kind);
+    let k = key_at(body, 0);
     if !is_known(s.threads, k) {
         return Item::Refused(3);
     }
-    if s.lines <= l as u16 {
+    if !is_on_board(body, n, s.lines) {
         return Item::Refused(4);
     }
     if k < s.mark {
         return Item::Refused(7);
     }
-    if MOST_ENTRIES <= count_for(s, k) {
+    if is_behind_short(s, k) {
         return Item::Refused(7);
     }
-    Item::Entry(k, l)
+    if MOST_ENTRIES - n < count_for(s, k) {
+        return Item::Refused(7);
+    }
+    Item::Entries(k, kind)
 }
 
 // The end: 7 for bytes behind it.
@@ -225,7 +317,7 @@ fn end(body: &[u8]) -> Item
 }
 
 fn fields(body: &[u8], s: Tally, k: u8) -> Item
-    requires { ⌜ imageBody k ≤ length (now body) ⌝ }
+    requires { ⌜ headedBody k ≤ length (now body) ⌝ }
     ensures { λ r. ⌜ r ≡ fieldsItem s k (now (body .entry)) ⌝ }
 {
     if k == 32 {
@@ -237,24 +329,21 @@ fn fields(body: &[u8], s: Tally, k: u8) -> Item
     if k == 34 {
         return region(s, listed_at(body));
     }
-    if k == 35 {
-        return entry(s, key_at(body, 0), body[3]);
+    if is_log_kind(k) {
+        return entries(body, s, k);
     }
     end(body)
 }
 
 // The record at the front: 1 if nothing is left, 2 for its kind, 7 for its place, 1 for its length, then its fields.
-fn one_record(src: &[u8], s: Tally) -> Item
-    ensures { λ r. ⌜ r ≡ itemOf s (now (src .entry)) ⌝ }
+fn one_record(src: &[u8], s: Tally, headed: bool) -> Item
+    ensures { λ r. ⌜ r ≡ itemOf headed s (now (src .entry)) ⌝ }
 {
     if src.len() == 0 {
         return Item::Refused(1);
     }
     let k = src[0];
-    if k < 32 {
-        return Item::Refused(2);
-    }
-    if 36 < k {
+    if !is_kind(k, headed) {
         return Item::Refused(2);
     }
     if !is_placed(s, k) {
@@ -280,6 +369,7 @@ fn after_head(t: u8, l: u16) -> Tally
         logged: 0,
         mark: 0,
         count: 0,
+        kind: 0,
     }
 }
 
@@ -302,15 +392,25 @@ fn after_region(s: Tally, k: u32) -> Tally
     q
 }
 
-fn after_entry(s: Tally, k: u32) -> Tally
-    requires { ⌜ (s .logged < 256) × (countFor s k < 32) ⌝ }
-    ensures { λ r. ⌜ r ≡ afterEntry s k ⌝ }
+fn after_entries(s: Tally, k: u32, kind: u8) -> Tally
+    requires { ⌜ (s .logged ≤ 256) × (countFor s k ≤ 32) ⌝ }
+    ensures { λ r. ⌜ r ≡ afterEntries s k kind ⌝ }
 {
+    let n = held_by(kind);
     let mut q = s;
-    q.logged = s.logged + 1;
+    q.logged = s.logged + n;
     q.mark = k;
-    q.count = count_for(s, k) + 1;
+    q.count = count_for(s, k) + n;
+    q.kind = kind;
     q
+}
+
+// Where the records of the log begin: behind the head, the lines and the regions.
+fn log_start(s: Tally) -> usize
+    requires { ⌜ (s .seen ≤ s .lines) × (s .held ≤ 32) ⌝ }
+    ensures { λ r. ⌜ r ≡ logStart (s .seen) (s .held) ⌝ }
+{
+    4 + 65 * s.seen + 17 * s.held
 }
 
 fn no_listed() -> Listed
@@ -357,16 +457,64 @@ pub fn refused(n: u8) -> Read
     read_of(n, after_head(0, 0), regions, log)
 }
 
+// The log entry at a spot.
+fn mark_at(src: &[u8], s: Spot) -> Mark
+    requires { ⌜ oldAt (now src) s + 64 ≤ length (now src) ⌝ }
+    ensures { λ r. ⌜ r ≡ markOn (now (src .entry)) s ⌝ }
+{
+    let at = s.at;
+    let i = s.entry;
+    let old = at + 4 + held_by(src[at]) + 64 * i;
+    mark_of(key_at(src, at + 1), src[at + 4 + i], (old % 65536) as u16)
+}
+
+// The spot behind it: of the next entry of its record, or of the first one of the next record.
+fn next_spot(src: &[u8], s: Spot) -> Spot
+    requires { ⌜ oldAt (now src) s + 64 ≤ length (now src) ⌝ }
+    ensures { λ r. ⌜ r ≡ nextSpot (now (src .entry)) s ⌝ }
+{
+    let at = s.at;
+    let n = held_by(src[at]);
+    if s.entry + 1 < n {
+        return Spot {
+            at: at,
+            entry: s.entry + 1,
+        };
+    }
+    Spot {
+        at: at + 4 + 65 * n,
+        entry: 0,
+    }
+}
+
+// The log entries from the first record of the log on.
+fn log_marks(src: &[u8], first: usize, logged: usize) -> [Mark; MOST_LOGGED]
+    requires { ⌜ (all (isInside (now src)) (spotsFrom logged (now src) (spotAt first)) ≡ true) × (logged ≤ 256) ⌝ }
+    ensures { λ r. ⌜ r ≡ filled 256 noMark (map (markOn (now (src .entry))) (spotsFrom logged (now (src .entry)) (spotAt first))) ⌝ }
+{
+    let mut log = [mark_of(0, 0, 0); MOST_LOGGED];
+    let mut s = Spot {
+        at: first,
+        entry: 0,
+    };
+    let mut i: usize = 0;
+    while i < logged {
+        log[i] = mark_at(src, s);
+        s = next_spot(src, s);
+        i = i + 1;
+    }
+    log
+}
+
 // Record for record, until one is refused or the image is whole.
-pub fn read_records(src: &[u8]) -> Read
-    ensures { λ r. ⌜ r ≡ readOf (now (src .entry)) (recordsRead nothing 0 (now (src .entry))) ⌝ }
+pub fn read_records(src: &[u8], headed: bool) -> Read
+    ensures { λ r. ⌜ r ≡ readOf (now (src .entry)) (recordsReadAs headed (now (src .entry))) ⌝ }
 {
     let mut s = after_head(0, 0);
     let mut regions = [no_listed(); MOST_REGIONS];
-    let mut log = [mark_of(0, 0, 0); MOST_LOGGED];
     let mut at: usize = 0;
     loop {
-        let item = one_record(&src[at..], s);
+        let item = one_record(&src[at..], s, headed);
         match item {
             Item::Refused(n) => {
                 return refused(n);
@@ -382,12 +530,11 @@ pub fn read_records(src: &[u8]) -> Read
                 regions[i] = listed_of(key, state, a, b, c, d);
                 s = after_region(s, key);
             }
-            Item::Entry(key, line) => {
-                let i = s.logged;
-                log[i] = mark_of(key, line, ((at + 5) % 65536) as u16);
-                s = after_entry(s, key);
+            Item::Entries(key, kind) => {
+                s = after_entries(s, key, kind);
             }
             Item::End => {
+                let log = log_marks(src, log_start(s), s.logged);
                 return read_of(0, s, regions, log);
             }
         }

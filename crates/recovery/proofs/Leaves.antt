@@ -9,21 +9,21 @@ use lib.Seq.{getD-take}
 use native.Mathlib.Numerals.{add-one}
 use native.Mathlib.Omega.{arith}
 use borrow.Author.Tests.{ne-eqb}
-use Rattle.reading.proofs.Olds.{olds-stand, second, stand-at}
-use Rattle.reading.proofs.Walk.{read-few}
-use Rattle.reading.specs.Scan.{readOf, scanOf}
+use Rattle.headed.specs.Reader.{readAs, recordsReadAs}
+use Rattle.reading.proofs.Spots.{stand-at}
+use Rattle.reading.proofs.Walk.{Laid, read-laid}
+use Rattle.reading.specs.Scan.{oldsOf, readOf, scanOf}
 use Rattle.reading.specs.declared.Read.{Read}
 use Rattle.reading.specs.declared.Scan.{Scan}
-use Rattle.recovery.proofs.Accepted.{image-said, log-front, logged-few, reads-plain, refuses-plain, regions-front, scan-read, stateRead}
-use Rattle.recovery.proofs.Places.{image-short}
+use Rattle.recovery.proofs.Accepted.{image-said, log-front, logged-few, read-records, reads-plain, refuses-plain, regions-front, scan-read, stateRead}
+use Rattle.recovery.proofs.Places.{accepted-image, image-short}
 use Rattle.recovery.specs.Places.{foundAt, moreOf, nextOf, noEntry}
-use Rattle.rules.proofs.Codec.Image.{only-image, read-records, read-valid}
 use Rattle.rules.specs.Bytes.{lineAt}
 use Rattle.rules.specs.Claim.{isByte}
 use Rattle.rules.specs.Image.{Logged, Persistent, noListed, noLogged}
 use Rattle.rules.specs.Lists.{all}
-use Rattle.rules.specs.Marks.{markAt, marksOf, oldsIn}
-use Rattle.rules.specs.Reader.{Reads, Refuses, nothing, readImage, recordsRead}
+use Rattle.rules.specs.Marks.{markAt, marksOf}
+use Rattle.rules.specs.Reader.{Reads, Refuses}
 use Rattle.rules.specs.Walk.{nextPlace, walk, walkEntries, walkFrom, without}
 use Rattle.rules.specs.declared.Found.the-variants.{At, Full}
 use Rattle.rules.specs.declared.Found.{Found}
@@ -38,6 +38,10 @@ use Rattle.walking.specs.Indices.{indicesOf, lastFirst, nth, walkIndices}
 keys-marks : (ps : List ℕ) (es : List Logged) → map (λ m. m .key) (marksOf ps es) ≡ map (λ e. e .key) es
 keys-marks ps [] = refl
 keys-marks ps (e ∷ es) = ap (_∷_ (e .key)) (keys-marks (drop 1 ps) es)
+
+second : (ps : List ℕ) (n : ℕ) → getD (drop 1 ps) n 0 ≡ getD ps (suc n) 0
+second [] n = refl
+second (p ∷ ps) n = refl
 
 mark-at : (ps : List ℕ) (es : List Logged) (i : ℕ) (d : Mark) (z : Logged) → i < length es → getD (marksOf ps es) i d ≡ markAt (getD ps i 0) (getD es i z)
 mark-at ps [] i d z h = absurd (omega arith)
@@ -117,67 +121,70 @@ module _ (ps : List ℕ) (s : Scan) (p : Persistent) (e : s ≡ scanOf ps p) (fe
 
 -- ---- a step
 
-module _ (bs : List ℕ) (bytes : all isByte bs ≡ true) (r : Read) (e : r ≡ readOf bs (readImage bs)) (at : ℕ) where
-  pub next-refused : (r .refusal ≡ 0 → ⊥) → noEntry (r .refusal) ≡ nextOf (readImage bs) at
-  next-refused z = let q : readImage bs ≡ Refuses (r .refusal) = rw (← e) at (refuses-plain bs (readImage bs) (rw e at z)) in rw q
+module _ (headed : Bool) (bs : List ℕ) (bytes : all isByte bs ≡ true) (r : Read) (e : r ≡ readOf bs (readAs headed bs)) (at : ℕ) where
+  pub next-refused : (r .refusal ≡ 0 → ⊥) → noEntry (r .refusal) ≡ nextOf (readAs headed bs) at
+  next-refused z = let q : readAs headed bs ≡ Refuses (r .refusal) = rw (← e) at (refuses-plain bs (readAs headed bs) (rw e at z)) in rw q
 
   module _ (z : r .refusal ≡ 0) where
     abbrev state : Persistent
-    state = stateRead (readImage bs)
+    state = stateRead (readAs headed bs)
 
-    state-reads : readImage bs ≡ Reads state
-    state-reads = reads-plain bs (readImage bs) (image-said bs) (rw e at z)
+    state-reads : readAs headed bs ≡ Reads state
+    state-reads = reads-plain bs (readAs headed bs) (image-said headed bs) (rw e at z)
 
-    records-read : recordsRead nothing 0 bs ≡ Reads state
-    records-read = read-records bs state state-reads .0
+    records-read : recordsReadAs headed bs ≡ Reads state
+    records-read = read-records headed bs state state-reads
+
+    state-laid : Laid bs state
+    state-laid = read-laid headed bs state records-read
 
     state-few : (length (state .regions) ≤ 32) × (length (state .log) ≤ 256)
-    state-few = read-few bs state records-read
+    state-few = state-laid .few
 
-    scan-is : r .scan ≡ scanOf (oldsIn bs) state
-    scan-is = ap (λ x. x .scan) e ∙ scan-read bs (readImage bs) state state-reads
+    scan-is : r .scan ≡ scanOf (oldsOf bs state) state
+    scan-is = ap (λ x. x .scan) e ∙ scan-read bs (readAs headed bs) state state-reads
 
     pub logged-small : r .scan .logged ≤ 256
-    logged-small = logged-few (oldsIn bs) (r .scan) state scan-is state-few
+    logged-small = logged-few (oldsOf bs state) (r .scan) state scan-is state-few
 
-    pub next-past : foundAt (r .scan) at ≡ Full → noEntry 0 ≡ nextOf (readImage bs) at
-    next-past f = rw (state-reads, none-found (oldsIn bs) (r .scan) state scan-is state-few at f)
+    pub next-past : foundAt (r .scan) at ≡ Full → noEntry 0 ≡ nextOf (readAs headed bs) at
+    next-past f = rw (state-reads, none-found (oldsOf bs state) (r .scan) state scan-is state-few at f)
 
     module _ (i : ℕ) (f : foundAt (r .scan) at ≡ At i) where
       pub at-small : at < 8192
-      at-small = soon-found (oldsIn bs) (r .scan) state scan-is state-few at i f
+      at-small = soon-found (oldsOf bs state) (r .scan) state scan-is state-few at i f
 
       pub index-small : i < r .scan .logged
-      index-small = inside-found (oldsIn bs) (r .scan) state scan-is state-few at i f
+      index-small = inside-found (oldsOf bs state) (r .scan) state scan-is state-few at i f
 
       in-log : i < length (state .log)
-      in-log = rw (logged-is (oldsIn bs) (r .scan) state scan-is state-few) at index-small
+      in-log = rw (logged-is (oldsOf bs state) (r .scan) state scan-is state-few) at index-small
 
-      found-mark : (d : Mark) → getD (r .scan .log) i d ≡ markAt (getD (oldsIn bs) i 0) (getD (state .log) i noLogged)
-      found-mark d = mark-is (oldsIn bs) (r .scan) state scan-is state-few i d index-small
+      found-mark : (d : Mark) → getD (r .scan .log) i d ≡ markAt (getD (oldsOf bs state) i 0) (getD (state .log) i noLogged)
+      found-mark d = mark-is (oldsOf bs state) (r .scan) state scan-is state-few i d index-small
 
       -- the old line stands at the mark's place
-      old-is : (lineAt bs (getD (oldsIn bs) i 0) ≡ getD (state .log) i noLogged .old) × (getD (oldsIn bs) i 0 + 64 ≤ length bs)
-      old-is = stand-at (olds-stand bs state records-read) i noLogged in-log
+      old-is : (lineAt bs (getD (oldsOf bs state) i 0) ≡ getD (state .log) i noLogged .old) × (getD (oldsOf bs state) i 0 + 64 ≤ length bs)
+      old-is = stand-at (state-laid .stand) i noLogged in-log
 
       -- which is below 65536
-      place-small : getD (oldsIn bs) i 0 % 65536 ≡ getD (oldsIn bs) i 0
+      place-small : getD (oldsOf bs state) i 0 % 65536 ≡ getD (oldsOf bs state) i 0
       place-small =
-          let n : length bs ≤ 34853 = rw (only-image bs state bytes state-reads) at (image-short state (read-valid bs state bytes state-reads) (state-few .1)) in
+          let n : length bs ≤ 34853 = image-short (accepted-image headed bs state bytes records-read) (state-few .1) in
           omega (arith, old-is .1)
 
       pub old-room : (d : Mark) → getD (r .scan .log) i d .at + 64 ≤ length bs
       old-room d = rw (found-mark d, place-small) (old-is .1)
 
       pub next-more : (d : Mark) (g : Found) → g ≡ foundAt (r .scan) (at + 1)
-          → record { refusal = 0; there = true; line = getD (r .scan .log) i d .line; old = lineAt bs (getD (r .scan .log) i d .at); more = moreOf g } ≡ nextOf (readImage bs) at
+          → record { refusal = 0; there = true; line = getD (r .scan .log) i d .line; old = lineAt bs (getD (r .scan .log) i d .at); more = moreOf g } ≡ nextOf (readAs headed bs) at
       next-more d g q =
           rw (
             state-reads,
-            one-found (oldsIn bs) (r .scan) state scan-is state-few at i f,
+            one-found (oldsOf bs state) (r .scan) state scan-is state-few at i f,
             q,
             add-one at,
-            more-found (oldsIn bs) (r .scan) state scan-is state-few (suc at),
+            more-found (oldsOf bs state) (r .scan) state scan-is state-few (suc at),
             found-mark d,
             place-small,
             old-is .0,

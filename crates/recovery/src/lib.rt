@@ -1,8 +1,9 @@
-// The recovery step over a lent image: the image is judged whole, and one log entry is put back to its line.
+// The recovery step over a lent image, of the old form, or with `headed` of either: the image is judged whole, and one log entry is put back to its line.
 ghost use mathlib.Core.Path.{_≡_};
 ghost use lib.ListN.{take};
-ghost use Rattle.rules.specs.Reader.{readImage};
-ghost use Rattle.rules.specs.Recovery.{lineStart, restore, recoveryCall};
+ghost use Rattle.rules.specs.Recovery.{lineStart};
+ghost use Rattle.headed.specs.Reader.{readAs};
+ghost use Rattle.headed.specs.Recovery.{recoveryCallAs, restoreAs};
 ghost use Rattle.reading.specs.Scan.{readOf};
 ghost use Rattle.walking.specs.Indices.{entryAt, orderOf};
 ghost use Rattle.recovery.specs.Places.{walkedKeys, moreOf, lentAt, leftBy, nextOf, noEntry, restoredOf, stayed, calledWith};
@@ -21,10 +22,10 @@ pub struct Walked {
 }
 
 // The image's reading: 8 after all other refusals.
-fn read_image(src: &[u8]) -> Read
-    ensures { λ r. ⌜ r ≡ readOf (now (src .entry)) (readImage (now (src .entry))) ⌝ }
+fn read_image(src: &[u8], headed: bool) -> Read
+    ensures { λ r. ⌜ r ≡ readOf (now (src .entry)) (readAs headed (now (src .entry))) ⌝ }
 {
-    let read = reading::read_records(src);
+    let read = reading::read_records(src, headed);
     if read.refusal != 0 {
         return read;
     }
@@ -86,10 +87,10 @@ fn no_entry(refusal: u8) -> Next
 }
 
 // What a recovery step at a place finds: no entry where the image is refused, or where the place is past the last one.
-pub fn next_entry(image: &[u8], at: u64) -> Next
-    ensures { λ r. ⌜ r ≡ nextOf (readImage (now (image .entry))) at ⌝ }
+pub fn next_entry(image: &[u8], at: u64, headed: bool) -> Next
+    ensures { λ r. ⌜ r ≡ nextOf (readAs headed (now (image .entry))) at ⌝ }
 {
-    let read = read_image(image);
+    let read = read_image(image, headed);
     if read.refusal != 0 {
         return no_entry(read.refusal);
     }
@@ -134,10 +135,10 @@ pub fn line_start(line: u8) -> usize
 }
 
 // A recovery step by value: the entry at the place goes back to its line.
-fn restored(image: &mut [u8], at: u64) -> Walked
-    ensures { λ r. ⌜ restoredOf (now (image .exit)) r ≡ restore (record { bytes = now (image .entry); at = at }) ⌝ }
+fn restored(image: &mut [u8], at: u64, headed: bool) -> Walked
+    ensures { λ r. ⌜ restoredOf (now (image .exit)) r ≡ restoreAs headed (record { bytes = now (image .entry); at = at }) ⌝ }
 {
-    let next = next_entry(image, at);
+    let next = next_entry(image, at, headed);
     if !next.there {
         return stay(next.refusal, at);
     }
@@ -159,21 +160,21 @@ pub struct Place {
 }
 
 // A recovery step that moves a lent place on.
-pub fn step(image: &mut [u8], place: &mut Place) -> Answer
-    ensures { λ r. ⌜ leftBy r (now (image .exit)) (now (place .exit)) ≡ restore (lentAt (now (image .entry)) (now (place .entry))) ⌝ }
+pub fn step(image: &mut [u8], place: &mut Place, headed: bool) -> Answer
+    ensures { λ r. ⌜ leftBy r (now (image .exit)) (now (place .exit)) ≡ restoreAs headed (lentAt (now (image .entry)) (now (place .entry))) ⌝ }
 {
     let n = place.steps;
-    let s = restored(image, n);
+    let s = restored(image, n, headed);
     place.steps = s.at;
     s.answer
 }
 
 // A recovery step at a place of its own, which it lends to `step`.
-pub fn step_at(image: &mut [u8], at: u64) -> Walked
-    ensures { λ r. ⌜ restoredOf (now (image .exit)) r ≡ restore (record { bytes = now (image .entry); at = at }) ⌝ }
+pub fn step_at(image: &mut [u8], at: u64, headed: bool) -> Walked
+    ensures { λ r. ⌜ restoredOf (now (image .exit)) r ≡ restoreAs headed (record { bytes = now (image .entry); at = at }) ⌝ }
 {
     let mut place = Place { steps: at };
-    let answer = step(image, &mut place);
+    let answer = step(image, &mut place, headed);
     Walked {
         answer: answer,
         at: place.steps,
@@ -181,12 +182,12 @@ pub fn step_at(image: &mut [u8], at: u64) -> Walked
 }
 
 // A recovery step for a caller whose place is eight lent bytes, little-endian: 6 for a place of another length, before any other check.
-pub fn recovery_call(image: &mut [u8], place: &mut [u8]) -> Answer
-    ensures { λ r. ⌜ calledWith r (now (image .exit)) (now (place .exit)) ≡ recoveryCall (now (image .entry)) (now (place .entry)) ⌝ }
+pub fn recovery_call(image: &mut [u8], place: &mut [u8], headed: bool) -> Answer
+    ensures { λ r. ⌜ calledWith r (now (image .exit)) (now (place .exit)) ≡ recoveryCallAs headed (now (image .entry)) (now (place .entry)) ⌝ }
 {
     if place.len() == 8 {
         let at = lines::take_word(place, 0);
-        let s = step_at(image, at);
+        let s = step_at(image, at, headed);
         lines::put_word(place, 0, s.at);
         return s.answer;
     }

@@ -1,11 +1,8 @@
 -- A log entry of an image as the programs hold it: by its region and line, and by the place where its old line stands.
-use Prim.Native.Nat.{_%_, _+_, suc, zero, ℕ}
-use mathlib.Core.Bool.{cond}
+use Prim.Native.Nat.{_%_, ℕ}
 use mathlib.Core.List.{List, [], _∷_}
-use lib.Dec.{eqb}
 use lib.ListN.{drop, getD}
 use Rattle.rules.specs.Image.{Logged}
-use Rattle.rules.specs.Reader.{imageBody}
 use Rattle.rules.specs.declared.Mark.{Mark}
 
 -- the entry whose old line stands at a place; in an image that is accepted all places are below 65536
@@ -20,12 +17,3 @@ noMark = record { key = 0; line = 0; at = 0 }
 abbrev pub marksOf : List ℕ → List Logged → List Mark
 marksOf ps [] = []
 marksOf ps (e ∷ es) = markAt (getD ps 0 0) e ∷ marksOf (drop 1 ps) es
-
--- the places of the old lines: behind kind, key and line of each record of kind 35, where n bytes of a record before them are still to come
-unfoldable pub oldsFrom : ℕ → ℕ → List ℕ → List ℕ
-oldsFrom n at [] = []
-oldsFrom (suc n) at (b ∷ bs) = oldsFrom n (suc at) bs
-oldsFrom zero at (k ∷ bs) = cond (eqb k 35) ((at + 5) ∷ oldsFrom (imageBody k) (suc at) bs) (oldsFrom (imageBody k) (suc at) bs)
-
-abbrev pub oldsIn : List ℕ → List ℕ
-oldsIn bs = oldsFrom 0 0 bs

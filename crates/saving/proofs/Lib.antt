@@ -1,3 +1,5 @@
 pub mod Emit
+pub mod Gathered
+pub mod Headers
 pub mod Records
 pub mod Whole

@@ -107,7 +107,7 @@ module _ (b : Board) where
         = ext-getD [] (tornState (chosen q) b .medium) (q .medium) (lines-torn (chosen q) ∙ sym (d .lines)) (λ l h. same-line l) in
         (chosen q, rest-saved (chosen q) ∙ (ap (λ md. withMedium md (saved b)) same ∙ sym (d .rest)))
 
-  none-torn : (l : ℕ) (xs : List (List ℕ)) → tornFrom (λ l w. false) b l xs ≡ xs
+  pub none-torn : (l : ℕ) (xs : List (List ℕ)) → tornFrom (λ l w. false) b l xs ≡ xs
   unfolding tornFrom
   none-torn l [] = refl
   none-torn l (x ∷ xs) =

@@ -112,10 +112,14 @@ line-in (x ∷ m) (suc i) t h e =
     rw (append-assoc (lineRecord x) (flat lineRecord m) t, o, drop-append-add (lineRecord x) (flat lineRecord m ++ t) (65 * i + 1))
     (line-in m i t (omega arith) (and-true (isLine x) (all isLine m) e .1))
 
+-- behind a head, whatever stands behind the lines
+pub front-line : (n l i : ℕ) (m : List (List ℕ)) (t : List ℕ) → i < length m → all isLine m ≡ true
+    → lineAt (headRecord n l ++ (flat lineRecord m ++ t)) (lineStart i) ≡ lineOf i m
+front-line n l i m t h e =
+    let o : 4 + (65 * i + 1) ≡ length (headRecord n l) + (65 * i + 1) = omega (arith, length-head n l) in
+    rw (o, drop-append-add (headRecord n l) (flat lineRecord m ++ t) (65 * i + 1)) (line-in m i t h e)
+
 pub image-line : (p : Persistent) (l : ℕ) → Valid p → l < p .lines → lineAt (encode p) (lineStart l) ≡ lineOf l (p .medium)
 unfolding encode
 image-line p l v h =
-    let hd = headRecord (p .threads) (p .lines) in
-    let t = flat regionRecord (p .regions) ++ (flat entryRecord (p .log) ++ (36 ∷ [])) in
-    let o : 4 + (65 * l + 1) ≡ length hd + (65 * l + 1) = omega (arith, length-head (p .threads) (p .lines)) in
-    rw (o, drop-append-add hd (flat lineRecord (p .medium) ++ t) (65 * l + 1)) (line-in (p .medium) l t (omega (arith, v .whole)) (v .medium))
+    front-line (p .threads) (p .lines) l (p .medium) (flat regionRecord (p .regions) ++ (flat entryRecord (p .log) ++ (36 ∷ []))) (omega (arith, v .whole)) (v .medium)

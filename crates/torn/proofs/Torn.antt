@@ -18,6 +18,7 @@ use borrow.Author.Tests.{eqb-true, lt-ltb, ltb-true}
 use Rattle.rules.proofs.Codec.Back.{image-read, reads-back}
 use Rattle.rules.proofs.Codec.Bytes.{all-at, isLine}
 use Rattle.rules.proofs.Codec.Turns.{size-lines}
+use Rattle.rules.proofs.Codec.Valid.{Valid}
 use Rattle.rules.proofs.Commits.{commits-told}
 use Rattle.rules.proofs.Cuts.{cut-is}
 use Rattle.rules.proofs.Main.{recovery-is-right}
@@ -60,17 +61,15 @@ module _ {start : ℕ → List ℕ} {b : Board} {es : List Account} {s : u.State
       structured start s h rc .flight-logged l k (lineOf l (b .car))
       (flies-here k l rc i n (found-listed rs l (g .good) f (g .unique)) (rw at (found-flight rs l (g .good) f)))
 
-  pub torn-stands : (p : ℕ → ℕ → Bool) → Standing rc i up quiet (record { bytes = tornImage p b; at = 0 })
-  unfolding tornImage tornState saved
-  torn-stands p =
+  -- what is left is a state that an image can hold
+  pub torn-valid : (p : ℕ → ℕ → Bool) → Valid (tornState p b)
+  unfolding tornState saved
+  torn-valid p =
       let z = saved-valid rc i up in
       let n = b .tables .size .lines in
       let ll = size-lines (b .tables .size .threads) n up in
       let lm : length (take n (b .med)) ≡ n = z .whole in
-      let md = tornFrom p b 0 (take n (b .med)) in
-      -- behind the lines of the board anything may stand
-      stands md (λ l. cond (ltb l n) (lineOf l md) (s .med l)) refl
-      (record {
+      record {
         size = z .size;
         whole = torn-length p b 0 (take n (b .med)) ∙ lm;
         medium = torn-lines p b 0 (take n (b .med)) (omega arith) (i .memories .car-lines) (z .medium);
@@ -80,7 +79,15 @@ module _ {start : ℕ → List ℕ} {b : Board} {es : List Account} {s : u.State
         room = z .room;
         climbing = z .climbing;
         entries = z .entries;
-      })
+      }
+
+  pub torn-stands : (p : ℕ → ℕ → Bool) → Standing rc i up quiet (record { bytes = tornImage p b; at = 0 })
+  unfolding tornImage tornState saved
+  torn-stands p =
+      let n = b .tables .size .lines in
+      let md = tornFrom p b 0 (take n (b .med)) in
+      -- behind the lines of the board anything may stand
+      stands md (λ l. cond (ltb l n) (lineOf l md) (s .med l)) refl (torn-valid p)
       (λ l k. rw (lt-ltb l n k))
       (w.begins {a = λ l. cond (ltb l n) (lineOf l md) (s .med l)} (λ l k. test (ltb l n) (λ d. rw d (same l k (ltb-true l n d))) (λ d. rw d)))
     where
@@ -124,20 +131,21 @@ module _ {start : ℕ → List ℕ} {b : Board} {es : List Account} {s : u.State
   torn-acts-stand [] p = p
   torn-acts-stand (c ∷ xs) p = torn-acts-stand xs (torn-act-stands c p)
 
--- a cut sets the place to 0
-pub cut-place : (r : Recovering) (c : TornAct) → isCut c ≡ true → tornAct r c .at ≡ 0
-unfolding tornAct tornBy act
-cut-place r Whole e = absurd (false≢true e)
-cut-place r Between e = refl
-cut-place r (Inside p) e = read (readImage (r .bytes))
+-- a cut sets the place to 0, whatever the image reads as
+pub tear-place : (p : ℕ → Bool) (v : Verdict Persistent) (r : Recovering) → tornRead p v r .at ≡ 0
+unfolding tornBy
+tear-place p (Refuses n) r = refl
+tear-place p (Reads q) r = by-entries (drop (r .at) (walkEntries q))
   where
     by-entries : (es : List Logged) → tornBy p es r .at ≡ 0
     by-entries [] = refl
     by-entries (e ∷ es) = refl
 
-    read : (v : Verdict Persistent) → tornRead p v r .at ≡ 0
-    read (Refuses n) = refl
-    read (Reads q) = by-entries (drop (r .at) (walkEntries q))
+pub cut-place : (r : Recovering) (c : TornAct) → isCut c ≡ true → tornAct r c .at ≡ 0
+unfolding tornAct act
+cut-place r Whole e = absurd (false≢true e)
+cut-place r Between e = refl
+cut-place r (Inside p) e = tear-place p (readImage (r .bytes)) r
 
 module _ (m : Memory) (rs : List (List ℕ)) (bm : isByteMemory m ≡ true) {s : u.State (List ℕ)} {h : v.History (List ℕ)}
     (rc : Reach (λ l. lineOf l (startLines m)) s h) (i : Sim (boardAfter m rs) (acceptedIn m rs) s h) where

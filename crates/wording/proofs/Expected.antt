@@ -11,7 +11,7 @@ use lib.ListN.{drop, length, length-append, length-drop, length-replicate, take}
 use lib.Seq.{drop-append-add, drop-at, drop-drop, getD-take, length-take-le, take-append-seam}
 use native.Mathlib.Omega.{arith}
 use borrow.Author.Tests.{le-leb}
-use Rattle.recovery.proofs.Places.{flat-at, image-short, no-test}
+use Rattle.recovery.proofs.Places.{flat-at, image-short, no-test, old-form}
 use Rattle.rules.proofs.Codec.Bytes.{all-at, isLine, length-words, line-back}
 use Rattle.rules.proofs.Codec.Store.{found, length-head, length-line}
 use Rattle.rules.proofs.Codec.Turns.{size-lines}
@@ -127,7 +127,7 @@ module _ {start : ℕ → List ℕ} {b : Board} {es : List Account} {s : u.State
 
   saved-short : length (image b) ≤ 34853
   unfolding image
-  saved-short = image-short (saved b) (saved-valid rc i up) (image-log b (i .shape .threads .logs))
+  saved-short = image-short (old-form (saved b) (saved-valid rc i up)) (image-log b (i .shape .threads .logs))
 
 -- ---- the text
 

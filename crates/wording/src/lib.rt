@@ -81,7 +81,7 @@ fn recover(image: &mut [u8])
     let mut at: u64 = 0;
     let mut n: usize = MOST_LOGGED;
     loop {
-        let s = recovery::step_at(image, at);
+        let s = recovery::step_at(image, at, false);
         let a = s.answer;
         if a.value != 1 {
             break;

@@ -85,6 +85,15 @@ fn put_line(dst: &mut [u8], at: usize, line: Line) -> usize
 
 // ---- records, where there is room
 
+// The kind of a record that is about a region, and the region's key.
+fn set_header(dst: &mut [u8], at: usize, kind: u8, key: u32) -> usize
+    requires { ⌜ at + length (kind ∷ keyBytes key) ≤ length (now dst) ⌝ }
+    ensures { λ r. ⌜ Put (now (dst .entry)) (now (dst .exit)) at r (kind ∷ keyBytes key) ⌝ }
+{
+    let a = put_byte(dst, at, kind);
+    put_key(dst, a, key as u64)
+}
+
 fn set_head(dst: &mut [u8], at: usize, threads: u8, lines: u16) -> usize
     requires { ⌜ at + length (headRecord threads lines) ≤ length (now dst) ⌝ }
     ensures { λ r. ⌜ Put (now (dst .entry)) (now (dst .exit)) at r (headRecord threads lines) ⌝ }
@@ -106,20 +115,18 @@ fn set_region(dst: &mut [u8], at: usize, key: u32, state: u8, deps: [u64; MOST_D
     requires { ⌜ at + length (regionRecord (record { key = key; state = state; deps = deps })) ≤ length (now dst) ⌝ }
     ensures { λ r. ⌜ Put (now (dst .entry)) (now (dst .exit)) at r (regionRecord (record { key = key; state = state; deps = deps })) ⌝ }
 {
-    let a = put_byte(dst, at, 34);
-    let b = put_key(dst, a, key as u64);
-    let c = put_byte(dst, b, state);
-    put_deps(dst, c, deps)
+    let a = set_header(dst, at, 34, key);
+    let b = put_byte(dst, a, state);
+    put_deps(dst, b, deps)
 }
 
 fn set_entry(dst: &mut [u8], at: usize, key: u32, line: u8, old: Line) -> usize
     requires { ⌜ at + length (entryRecord (record { key = key; line = line; old = old })) ≤ length (now dst) ⌝ }
     ensures { λ r. ⌜ Put (now (dst .entry)) (now (dst .exit)) at r (entryRecord (record { key = key; line = line; old = old })) ⌝ }
 {
-    let a = put_byte(dst, at, 35);
-    let b = put_key(dst, a, key as u64);
-    let c = put_byte(dst, b, line);
-    put_line(dst, c, old)
+    let a = set_header(dst, at, 35, key);
+    let b = put_byte(dst, a, line);
+    put_line(dst, b, old)
 }
 
 // ---- records
@@ -161,11 +168,33 @@ pub fn put_entry(dst: &mut [u8], at: usize, key: u32, line: u8, old: Line) -> us
     set_entry(dst, at, key, line, old)
 }
 
-pub fn put_end(dst: &mut [u8], at: usize) -> usize
-    ensures { λ r. ⌜ Puts (now (dst .entry)) (now (dst .exit)) at r (36 ∷ []) ⌝ }
+// ---- parts of records
+
+// The kind and the key of a record of several log entries.
+pub fn put_header(dst: &mut [u8], at: usize, kind: u8, key: u32) -> usize
+    ensures { λ r. ⌜ Puts (now (dst .entry)) (now (dst .exit)) at r (kind ∷ keyBytes key) ⌝ }
+{
+    if !lines::has_room(dst.len(), at, 4) {
+        return at;
+    }
+    set_header(dst, at, kind, key)
+}
+
+// One byte: a line number, or the record that ends an image, which is its kind alone.
+pub fn put_one(dst: &mut [u8], at: usize, x: u8) -> usize
+    ensures { λ r. ⌜ Puts (now (dst .entry)) (now (dst .exit)) at r (x ∷ []) ⌝ }
 {
     if !lines::has_room(dst.len(), at, 1) {
         return at;
     }
-    put_byte(dst, at, 36)
+    put_byte(dst, at, x)
+}
+
+pub fn put_old_line(dst: &mut [u8], at: usize, old: Line) -> usize
+    ensures { λ r. ⌜ Puts (now (dst .entry)) (now (dst .exit)) at r (lineBytes old) ⌝ }
+{
+    if !lines::has_room(dst.len(), at, 64) {
+        return at;
+    }
+    put_line(dst, at, old)
 }

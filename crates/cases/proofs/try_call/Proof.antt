@@ -34,6 +34,9 @@ slice-aggregate-call c = simp length-take (omega (arith, c .before .file-length 
 call-requires : tie.Need-call-requires
 call-requires c κs = search needs
 
+is-saved-requires : tie.Need-is-saved-requires
+is-saved-requires c κs = search needs
+
 either-requires : tie.Need-either-requires
 either-requires c κs = search needs
 
@@ -63,6 +66,7 @@ try-call-spec =
     file-length-requires
     slice-aggregate-call
     call-requires
+    is-saved-requires
     either-requires
     with-call-requires-2
     same-length-3

@@ -4,10 +4,10 @@ use Rattle.cases.proofs.word_of.Statement.{statement}
 use Rattle.cases.proofs.word_of.Tie as tie
 
 abbrev Inv-loop : tie.InvT-loop
-Inv-loop line i₀ i = i ≤ 11
+Inv-loop line i₀ i = i ≤ 13
 
 abbrev μ-loop : tie.MeasureT-loop
-μ-loop line i₀ i = 11 - i
+μ-loop line i₀ i = 13 - i
 
 loop-holds : tie.Need-loop-holds Inv-loop μ-loop
 loop-holds c = search needs

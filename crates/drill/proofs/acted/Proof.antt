@@ -1,5 +1,6 @@
 -- `drill::acted` meets its contract: a power cut between two steps, a recovery step, or a power cut inside one.
 use mathlib.Core.Path.{_∙_, ap}
+use Rattle.headed.proofs.Old.{old-step}
 use Rattle.rules.specs.Recovery.{Restored}
 use Rattle.drill.proofs.Laws.{act-between, act-inside, act-step}
 use borrow.Author.Needs.{needs}
@@ -20,7 +21,7 @@ returns-2 c =
     let t = c .before .before in
     let s = t .before .before in
     let a = s .before .before .before .args in
-    ap (λ (x : Restored). x .after) (t .step-at .ensures) ∙ act-step (record { bytes = a .image .now; at = a .at }) (a .what) (s .before .if1 .left) (s .if2 .taken)
+    ap (λ (x : Restored). x .after) (t .step-at .ensures ∙ old-step _) ∙ act-step (record { bytes = a .image .now; at = a .at }) (a .what) (s .before .if1 .left) (s .if2 .taken)
 
 cut-inside-requires : tie.Need-cut-inside-requires
 cut-inside-requires c κs = search needs

@@ -1,10 +1,11 @@
 -- `drill::cut_inside` meets its contract: nothing to restore, or words of the entry that was found.
 use Prim.Native.Nat.{ℕ}
 use mathlib.Core.Path.{_∙_, _≡_, ap, sym}
-use mathlib.Core.Bool.{true}
+use mathlib.Core.Bool.{false, true}
 use mathlib.Core.List.{List}
 use lib.ListN.{length}
 use native.Mathlib.Omega.{arith}
+use Rattle.headed.proofs.Old.{old-image}
 use Rattle.lines.proofs.Paste.{sets-paste}
 use Rattle.lines.proofs.Room.{line-room, put-room}
 use Rattle.recovery.proofs.Places.{all-bytes}
@@ -35,6 +36,9 @@ place k = k .before .before .before .args .at
 bytes : (k : tie.After-next-entry) → all isByte (image k) ≡ true
 bytes k = all-bytes (image k) (λ i. k .before .before .slice-known .given i .fits)
 
+found : (k : tie.After-next-entry) → k .next-entry .result ≡ nextOf (readImage (image k)) (place k)
+found k = rw (old-image (image k)) at (k .next-entry .ensures)
+
 -- ---- the needs
 
 next-entry-requires : tie.Need-next-entry-requires
@@ -64,8 +68,8 @@ returns c =
     let m = image k in
     let w = k .before .before .before .args .words in
     let n = nextOf (readImage m) (place k) in
-    let there : n .there ≡ true = sym (ap (λ (y : Next). y .there) (k .next-entry .ensures)) ∙ s .before .if1 .taken in
-    let room = next-room m (place k) (bytes k) there in
+    let there : n .there ≡ true = sym (ap (λ (y : Next). y .there) (found k)) ∙ s .before .if1 .taken in
+    let room = rw (old-image m) at (next-room false m (place k) (bytes k) (rw (old-image m) there)) in
     let line = mixed (choiceOf w) 0 (lineAt m (lineStart (n .line))) (n .old) in
     let l : length (lineBytes line) ≡ 64 = length-words 8 line in
     let put = put-room 64 m (lineStart (n .line)) (lineBytes line) room ∙ sets-paste m (lineStart (n .line)) (lineBytes line) (omega arith) in
@@ -74,7 +78,7 @@ returns c =
       x .mixed-line .ensures,
       t .take-line .ensures,
       s .line-start .ensures,
-      k .next-entry .ensures,
+      found k,
       line-room m (lineStart (n .line)) room,
       put,
     )
@@ -86,7 +90,7 @@ same-length-2 c = search needs
 returns-2 : tie.Need-returns-2
 returns-2 c =
     let k = c .before in
-    inside-none (image k) (place k) (k .before .before .before .args .words) (sym (ap (λ (y : Next). y .there) (k .next-entry .ensures)) ∙ c .if1 .left)
+    inside-none (image k) (place k) (k .before .before .before .args .words) (sym (ap (λ (y : Next). y .there) (found k)) ∙ c .if1 .left)
 
 pub cut-inside-spec : {M : Type 1} → statement M
 cut-inside-spec =

@@ -2,6 +2,7 @@
 use mathlib.Core.Path.{_∙_, ap}
 use Rattle.drill.proofs.Laws.{recovered-right}
 use Rattle.drill.specs.Drilled.{stepOf}
+use Rattle.headed.proofs.Old.{old-step}
 use Rattle.rules.specs.Recovery.{Recovering, restore}
 use borrow.Author.Needs.{needs}
 use Rattle.drill.proofs.recover.Statement.{statement}
@@ -20,7 +21,7 @@ returns : tie.Need-returns
 returns c =
     let t = c .before .before .before in
     let a = t .before .before .before .before in
-    recovered-right _ _ _ _ (ap stepOf (t .step-at .ensures) ∙ ap (λ (x : Recovering). stepOf (restore x)) (a .act-all .ensures))
+    recovered-right _ _ _ _ (ap stepOf (t .step-at .ensures ∙ old-step _) ∙ ap (λ (x : Recovering). stepOf (restore x)) (a .act-all .ensures))
 
 pub recover-spec : {M : Type 1} → statement M
 recover-spec = tie.close (tie.spec act-all-requires step-at-requires same-length returns)

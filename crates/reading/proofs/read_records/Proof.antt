@@ -8,34 +8,34 @@ use Rattle.reading.specs.Item.{itemOf}
 use Rattle.reading.specs.Scan.{readOf}
 use Rattle.reading.specs.declared.Item.{Item}
 use Rattle.reading.specs.declared.Item.the-variants.{End, Line}
-use Rattle.reading.proofs.Walk.{Reached, Went, ended, entry-inside, entry-room, line-room, reached-none, region-room, stopped, went-entry, went-head, went-line, went-region}
+use Rattle.reading.proofs.Walk.{Reached, Went, ended, entries-room, line-room, marks-inside, reached-none, region-room, start-room, stopped, went-entries, went-head, went-line, went-region}
 use borrow.Author.Needs.{needs}
 use Rattle.reading.proofs.read_records.Statement.{statement}
 use Rattle.reading.proofs.read_records.Tie as tie
 
 abbrev Inv-loop : tie.InvT-loop
-Inv-loop src s₀ regions₀ log₀ at₀ s regions log at = Reached src s regions log at
+Inv-loop src headed s₀ regions₀ at₀ s regions at = Reached headed src s regions at
 
 abbrev μ-loop : tie.MeasureT-loop
-μ-loop src s₀ regions₀ log₀ at₀ s regions log at = length src - at
+μ-loop src headed s₀ regions₀ at₀ s regions at = length src - at
 
 -- the record at the loop's place
 here : (c : tie.After-one-record Inv-loop μ-loop) (i : Item) → c .one-record .result ≡ i
-    → itemOf (c .before .before .loop .s) (drop (c .before .before .loop .at) (c .before .before .before .before .before .before .before .args .src .now)) ≡ i
-here c i e = rw (rest (c .before .before .before .before .before .before .before .args .src .now) (c .before .before .loop .at)) at (sym (c .one-record .ensures) ∙ e)
+    → itemOf (c .before .before .before .before .before .before .args .headed) (c .before .before .loop .s) (drop (c .before .before .loop .at) (c .before .before .before .before .before .before .args .src .now)) ≡ i
+here c i e = rw (rest (c .before .before .before .before .before .before .args .src .now) (c .before .before .loop .at)) at (sym (c .one-record .ensures) ∙ e)
 
 -- behind a record that goes on, whatever its kind
 behind : (c : tie.At-match-came Inv-loop μ-loop)
-    → Went (c .before .before .before .before .before .before .before .before .args .src .now) (c .match .s) (c .match .regions) (c .match .log) (c .before .before .before .loop .at)
+    → Went (c .before .before .before .before .before .before .before .args .headed) (c .before .before .before .before .before .before .before .args .src .now) (c .match .s) (c .match .regions) (c .before .before .before .loop .at)
 behind c =
     let r = c .before .before .before .loop .inv in
     ⊎-elim
-    (λ w. rw (w .4, w .5, w .6, w .3 .ensures) (went-head r _ _ (here (c .before) _ (w .1 .given .1))))
+    (λ w. rw (w .4, w .5, w .3 .ensures) (went-head r _ _ (here (c .before) _ (w .1 .given .1))))
     (⊎-elim
-    (λ w. rw (w .3, w .4, w .5, w .2 .ensures) (went-line r (here (c .before) Line (w .1 .given .1))))
+    (λ w. rw (w .3, w .4, w .2 .ensures) (went-line r (here (c .before) Line (w .1 .given .1))))
     (⊎-elim
-    (λ w. rw (w .5, w .6, w .7, w .4 .ensures, w .3 .ensures) (went-region r _ _ _ _ _ _ (here (c .before) _ (w .1 .given .1))))
-    (λ w. rw (w .5, w .6, w .7, w .4 .ensures, w .3 .ensures) (went-entry r _ _ (here (c .before) _ (w .1 .given .1))))))
+    (λ w. rw (w .5, w .6, w .4 .ensures, w .3 .ensures) (went-region r _ _ _ _ _ _ (here (c .before) _ (w .1 .given .1))))
+    (λ w. rw (w .4, w .5, w .3 .ensures) (went-entries r _ _ (here (c .before) _ (w .1 .given .1))))))
     (c .match .came)
 
 after-head-requires : tie.Need-after-head-requires Inv-loop μ-loop
@@ -44,11 +44,8 @@ after-head-requires c κs = search needs
 no-listed-requires : tie.Need-no-listed-requires Inv-loop μ-loop
 no-listed-requires c κs = search needs
 
-mark-of-requires : tie.Need-mark-of-requires Inv-loop μ-loop
-mark-of-requires c κs = search needs
-
 loop-holds : tie.Need-loop-holds Inv-loop μ-loop
-loop-holds c = rw (c .mark-of .ensures, c .before .no-listed .ensures, c .before .before .after-head .ensures) (reached-none (c .before .before .before .before .args .src .now))
+loop-holds c = rw (c .no-listed .ensures, c .before .after-head .ensures) (reached-none (c .before .before .before .args .headed) (c .before .before .before .args .src .now))
 
 sub-one-record : tie.Need-sub-one-record Inv-loop μ-loop
 sub-one-record c = omega (arith, c .loop .inv .inside)
@@ -81,7 +78,7 @@ enum-told : tie.Need-enum-told Inv-loop μ-loop
 enum-told c = search needs
 
 after-line-requires : tie.Need-after-line-requires Inv-loop μ-loop
-after-line-requires c κs = line-room (c .before .before .before .before .loop .s) _ (here (c .before .before) Line (c .enum-told .given .1))
+after-line-requires c κs = line-room (c .before .before .before .before .loop .inv) (here (c .before .before) Line (c .enum-told .given .1))
 
 enum-known-item-3 : tie.Need-enum-known-item-3 Inv-loop μ-loop
 enum-known-item-3 c = search needs
@@ -90,43 +87,34 @@ listed-of-requires : tie.Need-listed-of-requires Inv-loop μ-loop
 listed-of-requires c κs = search needs
 
 mul-regions : tie.Need-mul-regions Inv-loop μ-loop
-mul-regions c = let h : c .before .before .before .before .before .before .loop .s .held < 32 = region-room (c .before .before .before .before .before .before .loop .s) _ _ _ _ _ _ _ (here (c .before .before .before .before) _ (c .before .before .item3 .given .1)) in record { fits = omega arith }
+mul-regions c = let h : c .before .before .before .before .before .before .loop .s .held < 32 = region-room (c .before .before .before .before .before .before .loop .inv) _ _ _ _ _ _ (here (c .before .before .before .before) _ (c .before .before .item3 .given .1)) in record { fits = omega arith }
 
 array-set-from-regions : tie.Need-array-set-from-regions Inv-loop μ-loop
-array-set-from-regions c = region-room (c .before .before .before .before .before .before .loop .s) _ _ _ _ _ _ _ (here (c .before .before .before .before) _ (c .before .before .item3 .given .1))
+array-set-from-regions c = region-room (c .before .before .before .before .before .before .loop .inv) _ _ _ _ _ _ (here (c .before .before .before .before) _ (c .before .before .item3 .given .1))
 
 after-region-requires : tie.Need-after-region-requires Inv-loop μ-loop
-after-region-requires c κs = region-room (c .before .before .before .before .before .before .loop .s) _ _ _ _ _ _ _ (here (c .before .before .before .before) _ (c .before .before .item3 .given .1))
+after-region-requires c κs = region-room (c .before .before .before .before .before .before .loop .inv) _ _ _ _ _ _ (here (c .before .before .before .before) _ (c .before .before .item3 .given .1))
 
 enum-known-item-4 : tie.Need-enum-known-item-4 Inv-loop μ-loop
 enum-known-item-4 c = search needs
 
-add-mark-of : tie.Need-add-mark-of Inv-loop μ-loop
-add-mark-of c = let h = entry-inside (c .before .before .before .before .before .loop .inv) _ _ (here (c .before .before .before) _ (c .before .item4 .given .1)) in record { fits = omega arith }
-
-cast-mark-of : tie.Need-cast-mark-of Inv-loop μ-loop
-cast-mark-of c = search needs
-
-mark-of-requires-2 : tie.Need-mark-of-requires-2 Inv-loop μ-loop
-mark-of-requires-2 c κs = search needs
-
-mul-log : tie.Need-mul-log Inv-loop μ-loop
-mul-log c = let h : c .before .before .before .before .before .before .loop .s .logged < 256 = entry-room (c .before .before .before .before .before .before .loop .inv) _ _ (here (c .before .before .before .before) _ (c .before .before .item4 .given .1)) .0 in record { fits = omega arith }
-
-array-set-from-log : tie.Need-array-set-from-log Inv-loop μ-loop
-array-set-from-log c = entry-room (c .before .before .before .before .before .before .loop .inv) _ _ (here (c .before .before .before .before) _ (c .before .before .item4 .given .1)) .0
-
-after-entry-requires : tie.Need-after-entry-requires Inv-loop μ-loop
-after-entry-requires c κs = entry-room (c .before .before .before .before .before .before .loop .inv) _ _ (here (c .before .before .before .before) _ (c .before .before .item4 .given .1))
+after-entries-requires : tie.Need-after-entries-requires Inv-loop μ-loop
+after-entries-requires c κs = entries-room (c .before .before .before .before .before .loop .inv) _ _ (here (c .before .before .before) _ (c .before .item4 .given .1))
 
 enum-told-2 : tie.Need-enum-told-2 Inv-loop μ-loop
 enum-told-2 c = search needs
+
+log-start-requires : tie.Need-log-start-requires Inv-loop μ-loop
+log-start-requires c κs = start-room (c .before .before .before .before .loop .inv) (here (c .before .before) End (c .enum-told2 .given .1))
+
+log-marks-requires : tie.Need-log-marks-requires Inv-loop μ-loop
+log-marks-requires c κs = rw (c .log-start .ensures) (marks-inside (c .before .before .before .before .before .loop .inv) (here (c .before .before .before) End (c .before .enum-told2 .given .1)))
 
 read-of-requires : tie.Need-read-of-requires Inv-loop μ-loop
 read-of-requires c κs = search needs
 
 returns-2 : tie.Need-returns-2 Inv-loop μ-loop
-returns-2 c = rw (c .read-of .ensures) (ended (c .before .before .before .before .before .loop .inv) (here (c .before .before .before) End (c .before .enum-told2 .given .1)))
+returns-2 c = rw (c .read-of .ensures) (ended (c .before .before .before .before .before .before .before .loop .inv) (here (c .before .before .before .before .before) End (c .before .before .before .enum-told2 .given .1)) (rw (c .before .before .log-start .ensures) at (c .before .log-marks .ensures)))
 
 shared-slice-read-kind : tie.Need-shared-slice-read-kind Inv-loop μ-loop
 shared-slice-read-kind c = omega (arith, behind (c .before) .within)
@@ -135,7 +123,7 @@ add-at : tie.Need-add-at Inv-loop μ-loop
 add-at c = search needs
 
 body-length-requires : tie.Need-body-length-requires Inv-loop μ-loop
-body-length-requires c κs = (behind (c .before) .low, behind (c .before) .high)
+body-length-requires c κs = behind (c .before) .low
 
 add-at-2 : tie.Need-add-at-2 Inv-loop μ-loop
 add-at-2 c = let w = behind (c .before .before) in record { fits = omega (arith, w .within, c .body-length .ensures) }
@@ -154,7 +142,6 @@ read-records-spec =
     μ-loop
     after-head-requires
     no-listed-requires
-    mark-of-requires
     loop-holds
     sub-one-record
     part-one-record-start
@@ -173,13 +160,10 @@ read-records-spec =
     array-set-from-regions
     after-region-requires
     enum-known-item-4
-    add-mark-of
-    cast-mark-of
-    mark-of-requires-2
-    mul-log
-    array-set-from-log
-    after-entry-requires
+    after-entries-requires
     enum-told-2
+    log-start-requires
+    log-marks-requires
     read-of-requires
     returns-2
     shared-slice-read-kind

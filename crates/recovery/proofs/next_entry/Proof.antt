@@ -1,7 +1,7 @@
 -- `recovery::next_entry` meets its contract: a refusal; a place past the last entry; an entry.
 use Prim.Native.Nat.{_<_, _≤_, ℕ}
 use mathlib.Core.Path.{_∙_, _≡_, sym}
-use mathlib.Core.Bool.{true}
+use mathlib.Core.Bool.{Bool, true}
 use mathlib.Core.List.{List}
 use native.Mathlib.Omega.{arith}
 use Rattle.lines.proofs.Room.{line-room}
@@ -28,6 +28,9 @@ read k = k .read-image .result
 abbrev place : tie.After-read-image → ℕ
 place k = k .before .before .args .at
 
+abbrev form : tie.After-read-image → Bool
+form k = k .before .before .args .headed
+
 bytes : (k : tie.After-read-image) → all isByte (image k) ≡ true
 bytes k = all-bytes (image k) (λ i. k .before .shared-slice-known .given i .fits)
 
@@ -48,10 +51,10 @@ found l =
     ∙ l .before .before .found .given .1
 
 few : (l : tie.After-log) → read (start l) .scan .logged ≤ 256
-few l = let k = start l in logged-small (image k) (bytes k) (read k) (k .read-image .ensures) (place k) (accepted l)
+few l = let k = start l in logged-small (form k) (image k) (bytes k) (read k) (k .read-image .ensures) (place k) (accepted l)
 
 inside : (l : tie.After-log) → index l < read (start l) .scan .logged
-inside l = let k = start l in index-small (image k) (bytes k) (read k) (k .read-image .ensures) (place k) (accepted l) (index l) (found l)
+inside l = let k = start l in index-small (form k) (image k) (bytes k) (read k) (k .read-image .ensures) (place k) (accepted l) (index l) (found l)
 
 -- ---- the needs
 
@@ -64,7 +67,7 @@ no-entry-requires c κs = search needs
 returns : tie.Need-returns
 returns c =
     let k = c .before .before .before in
-    rw (c .no-entry .ensures) (next-refused (image k) (bytes k) (read k) (k .read-image .ensures) (place k) (c .before .if1 .taken))
+    rw (c .no-entry .ensures) (next-refused (form k) (image k) (bytes k) (read k) (k .read-image .ensures) (place k) (c .before .if1 .taken))
 
 order-of-requires : tie.Need-order-of-requires
 order-of-requires c κs = search needs
@@ -86,7 +89,7 @@ returns-2 c =
     let o = c .before .before .before .before in
     let k = o .before .before .before .before in
     let f = sym (rw (o .order-of .ensures) at (c .before .before .before .found-at .ensures)) ∙ c .before .enum-told .given .1 in
-    rw (c .no-entry2 .ensures) (next-past (image k) (bytes k) (read k) (k .read-image .ensures) (place k) (o .before .before .if1 .left) f)
+    rw (c .no-entry2 .ensures) (next-past (form k) (image k) (bytes k) (read k) (k .read-image .ensures) (place k) (o .before .before .if1 .left) f)
 
 mul-mark : tie.Need-mul-mark
 mul-mark c = record { fits = omega (arith, few c, inside c) }
@@ -104,7 +107,7 @@ add-after : tie.Need-add-after
 add-after c =
     let l = c .before .before .before in
     let k = start l in
-    let h = at-small (image k) (bytes k) (read k) (k .read-image .ensures) (place k) (accepted l) (index l) (found l) in
+    let h = at-small (form k) (image k) (bytes k) (read k) (k .read-image .ensures) (place k) (accepted l) (index l) (found l) in
     record { fits = omega arith }
 
 found-at-requires-2 : tie.Need-found-at-requires-2
@@ -121,9 +124,9 @@ returns-3 c =
     rw (
       c .more .ensures,
       t .take-line .ensures,
-      line-room (image k) _ (old-room (image k) (bytes k) (read k) (k .read-image .ensures) (place k) (accepted l) (index l) (found l) noMark),
+      line-room (image k) _ (old-room (form k) (image k) (bytes k) (read k) (k .read-image .ensures) (place k) (accepted l) (index l) (found l) noMark),
     )
-    (next-more (image k) (bytes k) (read k) (k .read-image .ensures) (place k) (accepted l) (index l) (found l) noMark _
+    (next-more (form k) (image k) (bytes k) (read k) (k .read-image .ensures) (place k) (accepted l) (index l) (found l) noMark _
     (rw (l .before .before .before .before .before .order-of .ensures) at (c .before .found-at2 .ensures)))
 
 pub next-entry-spec : {M : Type 1} → statement M

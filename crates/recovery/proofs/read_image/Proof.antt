@@ -8,7 +8,7 @@ read-records-requires : tie.Need-read-records-requires
 read-records-requires c κs = search needs
 
 returns : tie.Need-returns
-returns c = let k = c .before .before .before in let bs = k .before .args .src .now in let r = c .before .before .read-records in read-refused bs (r .result) (r .ensures) (c .if1 .taken)
+returns c = let k = c .before .before .before in let a = k .before .args in let r = c .before .before .read-records in read-refused (a .headed) (a .src .now) (r .result) (r .ensures) (c .if1 .taken)
 
 contradicts-requires : tie.Need-contradicts-requires
 contradicts-requires c κs = search needs
@@ -17,10 +17,10 @@ refused-requires : tie.Need-refused-requires
 refused-requires c κs = search needs
 
 returns-2 : tie.Need-returns-2
-returns-2 c = let k = c .before .before .before .before .before .before .before .before .before in let bs = k .before .args .src .now in let r = c .before .before .before .before .before .before .before .before .read-records in c .refused .ensures ∙ read-contradicted bs (r .result) (r .ensures) (c .before .before .before .before .before .before .if1 .left) (sym (c .before .before .contradicts .ensures) ∙ c .before .if2 .taken)
+returns-2 c = let k = c .before .before .before .before .before .before .before .before .before in let a = k .before .args in let r = c .before .before .before .before .before .before .before .before .read-records in c .refused .ensures ∙ read-contradicted (a .headed) (a .src .now) (r .result) (r .ensures) (c .before .before .before .before .before .before .if1 .left) (sym (c .before .before .contradicts .ensures) ∙ c .before .if2 .taken)
 
 returns-3 : tie.Need-returns-3
-returns-3 c = let k = c .before .before .before .before .before .before .before .before in let bs = k .before .args .src .now in let r = c .before .before .before .before .before .before .before .read-records in read-accepted bs (r .result) (r .ensures) (c .before .before .before .before .before .if1 .left) (sym (c .before .contradicts .ensures) ∙ c .if2 .left)
+returns-3 c = let k = c .before .before .before .before .before .before .before .before in let a = k .before .args in let r = c .before .before .before .before .before .before .before .read-records in read-accepted (a .headed) (a .src .now) (r .result) (r .ensures) (c .before .before .before .before .before .if1 .left) (sym (c .before .contradicts .ensures) ∙ c .if2 .left)
 
 pub read-image-spec : {M : Type 1} → statement M
 read-image-spec =

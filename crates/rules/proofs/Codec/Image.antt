@@ -13,7 +13,7 @@ use Rattle.rules.specs.Lists.{all}
 use Rattle.rules.specs.Reader.{Reads, Refuses, Verdict, nothing, readImage, recordsRead, unlessContradicted}
 use Rattle.undo.proofs.Laws.{test}
 
-accepted : (v : Verdict Persistent) (p : Persistent) → unlessContradicted v ≡ Reads p → (v ≡ Reads p) × (contradicts p ≡ false)
+pub accepted : (v : Verdict Persistent) (p : Persistent) → unlessContradicted v ≡ Reads p → (v ≡ Reads p) × (contradicts p ≡ false)
 accepted (Refuses n) p e = not-reads e
 accepted (Reads q) p e =
     test (contradicts q) (λ c. not-reads (rw c at e))

@@ -45,7 +45,7 @@ kind-of k e =
 
 -- ---- where each may stand
 
-placed-behind : (p : Persistent) (k : ℕ) → inRange (p .threads) (p .lines) ≡ true → isPlaced p k ≡ true
+pub placed-behind : (p : Persistent) (k : ℕ) → inRange (p .threads) (p .lines) ≡ true → isPlaced p k ≡ true
     → cond (ltb (length (p .medium)) (p .lines)) (eqb k 33) (cond (eqb (length (p .log)) 0) (leb 34 k) (leb 35 k)) ≡ true
 placed-behind p k s e = let z : eqb (p .threads) 0 ≡ false = ne-eqb (p .threads) 0 (λ z. omega (arith, size-threads (p .threads) (p .lines) s .0)) in rw z at e
 
@@ -64,11 +64,11 @@ among-regions true b e = absurd (false≢true e)
 among-regions false true e = (refl, refl)
 among-regions false false e = absurd (false≢true e)
 
-behind-lines : (a b : Bool) → cond a false b ≡ true → a ≡ false
+pub behind-lines : (a b : Bool) → cond a false b ≡ true → a ≡ false
 behind-lines true b e = absurd (false≢true e)
 behind-lines false b e = refl
 
-no-entries : (es : List Logged) → eqb (length es) 0 ≡ true → es ≡ []
+pub no-entries : (es : List Logged) → eqb (length es) 0 ≡ true → es ≡ []
 no-entries [] e = refl
 no-entries (x ∷ es) e = absurd (omega (arith, eqb-true (suc (length es)) 0 e))
 
@@ -191,7 +191,7 @@ pub data Far (ws : List ℕ) (p : Persistent) (bs : List ℕ) : Type 0 where
   begun : Begun p → withoutEnd p ++ bs ≡ ws → all isByte bs ≡ true → Far ws p bs
 
 module _ (ws : List ℕ) where
-  further : (p q : Persistent) (b : ℕ) (bs : List ℕ) → Far ws p (b ∷ bs) → turnOf p (b ∷ bs) ≡ Next q → Far ws q (drop (imageBody b) bs)
+  pub further : (p q : Persistent) (b : ℕ) (bs : List ℕ) → Far ws p (b ∷ bs) → turnOf p (b ∷ bs) ≡ Next q → Far ws q (drop (imageBody b) bs)
   further p q b bs (none-yet z w y) t =
       let n : all isByte bs ≡ true = and-true (isByte b) (all isByte bs) y .1 in
       let c = turn-passed isImageKind isPlaced imageBody fieldsTurn nothing b bs (Next q) refl (rw z at t) in
@@ -203,7 +203,7 @@ module _ (ws : List ℕ) where
       let a = next p q bs n g (kind-of b (c .known)) c in
       begun (a .after) (a .same ∙ w) (all-drop isByte (imageBody b) bs n)
 
-  finished : (p q : Persistent) (b : ℕ) (bs : List ℕ) → Far ws p (b ∷ bs) → turnOf p (b ∷ bs) ≡ Last q → Only q ws
+  pub finished : (p q : Persistent) (b : ℕ) (bs : List ℕ) → Far ws p (b ∷ bs) → turnOf p (b ∷ bs) ≡ Last q → Only q ws
   finished p q b bs (none-yet z w y) t =
       let c = turn-passed isImageKind isPlaced imageBody fieldsTurn nothing b bs (Last q) refl (rw z at t) in
       let e : isPlaced nothing 36 ≡ true = rw (only-end (kind-of b (c .known)) c .0) at (c .place) in

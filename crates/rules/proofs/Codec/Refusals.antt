@@ -27,7 +27,7 @@ pub record ImageRefusals (ok : ℕ → Bool) : Type 0 where
   pub eight : ok 8 ≡ true
 
 module _ {S : Type 0} (ok : ℕ → Bool) where
-  abbrev stopsBy : Turn S → Bool
+  abbrev pub stopsBy : Turn S → Bool
   stopsBy (Stop n) = ok n
   stopsBy (Next s) = true
   stopsBy (Last s) = true
@@ -36,7 +36,7 @@ module _ {S : Type 0} (ok : ℕ → Bool) where
   refusesBy (Refuses n) = ok n
   refusesBy (Reads s) = true
 
-  either : (b : Bool) (x y : Turn S) → stopsBy x ≡ true → stopsBy y ≡ true → stopsBy (cond b x y) ≡ true
+  pub either : (b : Bool) (x y : Turn S) → stopsBy x ≡ true → stopsBy y ≡ true → stopsBy (cond b x y) ≡ true
   either b x y e f = test b (λ t. rw t e) (λ t. rw t f)
 
 module _ (ok : ℕ → Bool) (h : ImageRefusals ok) where
@@ -55,7 +55,7 @@ module _ (ok : ℕ → Bool) (h : ImageRefusals ok) where
       (either ok (leb (lastLogged (p .log)) (e .key)) _ (Stop 7)
       (either ok (ltb (count (isLoggedBy (threadOf (e .key))) (p .log)) 32) (Next _) (Stop 7) refl (h .seven)) (h .seven)) (h .four)) (h .three)
 
-  fields-stop : (p : Persistent) (k : ℕ) (bs : List ℕ) → stopsBy ok (fieldsTurn p k bs) ≡ true
+  pub fields-stop : (p : Persistent) (k : ℕ) (bs : List ℕ) → stopsBy ok (fieldsTurn p k bs) ≡ true
   unfolding fieldsTurn headTurn lineTurn endTurn
   fields-stop p k bs =
       either ok (eqb k 32) _ _ (either ok (inRange (getD bs 0 0) (numOf (take 2 (drop 1 bs)))) (Next _) (Stop 6) refl (h .six))
@@ -74,10 +74,11 @@ module _ (ok : ℕ → Bool) (h : ImageRefusals ok) where
   records-refuse bs =
       along turnOf imageBody (λ p bs. Unit {0}) (λ v. refusesBy ok v ≡ true) (h .one) (λ p n b bs g t. rw t at (turn-stops p b bs)) (λ p q b bs g t. tt) (λ p q b bs g t. refl) bs 0 nothing tt
 
+  -- 8 is one of them
+  pub unless-refuses : (v : Verdict Persistent) → refusesBy ok v ≡ true → refusesBy ok (unlessContradicted v) ≡ true
+  unless-refuses (Refuses n) e = e
+  unless-refuses (Reads p) e = test (contradicts p) (λ c. rw c (h .eight)) (λ c. rw c)
+
   pub image-refuses : (bs : List ℕ) → refusesBy ok (readImage bs) ≡ true
   unfolding readImage
-  image-refuses bs = go (recordsRead nothing 0 bs) (records-refuse bs)
-    where
-      go : (v : Verdict Persistent) → refusesBy ok v ≡ true → refusesBy ok (unlessContradicted v) ≡ true
-      go (Refuses n) e = e
-      go (Reads p) e = test (contradicts p) (λ c. rw c (h .eight)) (λ c. rw c)
+  image-refuses bs = unless-refuses (recordsRead nothing 0 bs) (records-refuse bs)

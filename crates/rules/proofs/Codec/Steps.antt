@@ -36,7 +36,7 @@ pub record Added (p q : Persistent) (k : ℕ) (bs : List ℕ) : Type 0 where
   pub after : Begun q
   pub same : withoutEnd q ++ drop (imageBody k) bs ≡ withoutEnd p ++ (k ∷ bs)
 
-flat-end : {A : Type 0} (f : A → List ℕ) (xs : List A) (x : A) → flat f (xs ++ (x ∷ [])) ≡ flat f xs ++ f x
+pub flat-end : {A : Type 0} (f : A → List ℕ) (xs : List A) (x : A) → flat f (xs ++ (x ∷ [])) ≡ flat f xs ++ f x
 unfolding flat
 flat-end f [] x = append-nil (f x)
 flat-end f (y ∷ xs) x = rw (flat-end f xs x) (sym (append-assoc (f y) (flat f xs) (f x)))

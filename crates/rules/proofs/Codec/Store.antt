@@ -14,6 +14,7 @@ use Rattle.rules.specs.History.{foundFrom, memoryFound}
 use Rattle.rules.specs.Image.{Logged, Persistent, encode, entryRecord, headRecord, lineRecord, regionRecord, withMedium}
 use Rattle.rules.specs.Lists.{flat}
 use Rattle.rules.specs.Recovery.{putBack}
+use Rattle.rules.specs.Refusal.{inRange}
 
 -- bytes behind a front part
 paste-behind : (a d bs : List ℕ) (i : ℕ) → paste (a ++ d) (length a + i) bs ≡ a ++ paste d i bs
@@ -50,17 +51,18 @@ pub length-head : (n l : ℕ) → length (headRecord n l) ≡ 4
 unfolding headRecord
 length-head n l = ap suc (ap suc (length-bytes 2 l))
 
--- an entry that is put back into an image gives the image of the state in which its line is put back
+-- an entry that is put back behind a head and lines, whatever stands behind these
+pub put-front : (n l : ℕ) (m : List (List ℕ)) (t : List ℕ) (e : Logged) → e .line < length m
+    → putBack e (headRecord n l ++ (flat lineRecord m ++ t)) ≡ headRecord n l ++ (flat lineRecord (set m (e .line) (e .old)) ++ t)
+put-front n l m t e h =
+    let o : 4 + (65 * e .line + 1) ≡ length (headRecord n l) + (65 * e .line + 1) = omega (arith, length-head n l) in
+    rw (o, paste-behind (headRecord n l) (flat lineRecord m ++ t) (lineBytes (e .old)) (65 * e .line + 1), paste-line m (e .line) (e .old) t h)
+
+-- so an entry that is put back into an image gives the image of the state in which its line is put back
 pub put-back : (p : Persistent) (e : Logged) → Valid p → e .line < p .lines → putBack e (encode p) ≡ encode (withMedium (set (p .medium) (e .line) (e .old)) p)
 unfolding encode
 put-back p e v h =
-    let t = flat regionRecord (p .regions) ++ (flat entryRecord (p .log) ++ (36 ∷ [])) in
-    let o : 4 + (65 * e .line + 1) ≡ length (headRecord (p .threads) (p .lines)) + (65 * e .line + 1) = omega (arith, length-head (p .threads) (p .lines)) in
-    rw (
-      o,
-      paste-behind (headRecord (p .threads) (p .lines)) (flat lineRecord (p .medium) ++ t) (lineBytes (e .old)) (65 * e .line + 1),
-      paste-line (p .medium) (e .line) (e .old) t (omega arith),
-    )
+    put-front (p .threads) (p .lines) (p .medium) (flat regionRecord (p .regions) ++ (flat entryRecord (p .log) ++ (36 ∷ []))) e (omega (arith, v .whole))
 
 pub put-valid : (p : Persistent) (e : Logged) → Valid p → isLine (e .old) ≡ true → Valid (withMedium (set (p .medium) (e .line) (e .old)) p)
 put-valid p e v o =
@@ -99,15 +101,14 @@ head-lines : (n l : ℕ) (t : List ℕ) → l < 256 ^ 2 → numOf (take 2 (drop 
 unfolding headRecord
 head-lines n l t h = rw (take-at (bytesOf 2 l) t 2 (length-bytes 2 l)) (num-bytes 2 l h)
 
+-- of a head and lines, whatever stands behind these
+pub found-front : (n l : ℕ) (m : List (List ℕ)) (t : List ℕ) → inRange n l ≡ true → length m ≡ l → memoryFound (headRecord n l ++ (flat lineRecord m ++ t)) ≡ flat lineBytes m
+found-front n l m t size whole =
+    let h = headRecord n l in
+    let s : l < 256 ^ 2 = omega (arith, size-lines n l size .1) in
+    let d : drop (4 + 65 * 0) (h ++ (flat lineRecord m ++ t)) ≡ flat lineRecord m ++ t = drop-at h (flat lineRecord m ++ t) 4 (length-head n l) in
+    rw (head-lines n l (flat lineRecord m ++ t) s) (rw whole at (found-from 0 (h ++ (flat lineRecord m ++ t)) m t d))
+
 pub found : (p : Persistent) → Valid p → memoryFound (encode p) ≡ flat lineBytes (p .medium)
 unfolding encode
-found p v =
-    let t = flat regionRecord (p .regions) ++ (flat entryRecord (p .log) ++ (36 ∷ [])) in
-    let h = headRecord (p .threads) (p .lines) in
-    let s : p .lines < 256 ^ 2 = omega (arith, size-lines (p .threads) (p .lines) (v .size) .1) in
-    let d : drop (4 + 65 * 0) (h ++ (flat lineRecord (p .medium) ++ t)) ≡ flat lineRecord (p .medium) ++ t =
-    drop-at h (flat lineRecord (p .medium) ++ t) 4 (length-head (p .threads) (p .lines)) in
-    rw (head-lines (p .threads) (p .lines) (flat lineRecord (p .medium) ++ t) s)
-    (rw (v .whole) at (found-from 0 (h ++ (flat lineRecord (p .medium) ++ t)) (p .medium) t d))
-
--- ---- the lines bear on no contradiction and on no walk
+found p v = found-front (p .threads) (p .lines) (p .medium) (flat regionRecord (p .regions) ++ (flat entryRecord (p .log) ++ (36 ∷ []))) (v .size) (v .whole)

@@ -37,13 +37,16 @@ size-lines n l e =
     let b = and-true (leb 1 l) (leb l 256) (a .1) in
     (leb-true 1 l (b .0), leb-true l 256 (b .1))
 
-pub head-read : (n l : ℕ) (more : List ℕ) → inRange n l ≡ true → recordsRead nothing 0 (headRecord n l ++ more) ≡ recordsRead (persistentOf n l [] [] []) 0 more
-unfolding headRecord fieldsTurn headTurn
-head-read n l more e =
+pub head-fields : (n l : ℕ) (more : List ℕ) → inRange n l ≡ true → fieldsTurn nothing 32 (n ∷ (bytesOf 2 l ++ more)) ≡ Next (persistentOf n l [] [] [])
+unfolding fieldsTurn headTurn
+head-fields n l more e =
     let s : l < 256 ^ 2 = omega (arith, size-lines n l e .1) in
-    let t : fieldsTurn nothing 32 (n ∷ (bytesOf 2 l ++ more)) ≡ Next (persistentOf n l [] [] []) =
-    rw (take-at (bytesOf 2 l) more 2 (length-bytes 2 l), num-bytes 2 l s, e) in
-    record-read isImageKind isPlaced imageBody fieldsTurn nothing (persistentOf n l [] [] []) 32 (n ∷ bytesOf 2 l) more refl refl (ap suc (length-bytes 2 l)) t
+    rw (take-at (bytesOf 2 l) more 2 (length-bytes 2 l), num-bytes 2 l s, e)
+
+pub head-read : (n l : ℕ) (more : List ℕ) → inRange n l ≡ true → recordsRead nothing 0 (headRecord n l ++ more) ≡ recordsRead (persistentOf n l [] [] []) 0 more
+unfolding headRecord
+head-read n l more e =
+    record-read isImageKind isPlaced imageBody fieldsTurn nothing (persistentOf n l [] [] []) 32 (n ∷ bytesOf 2 l) more refl refl (ap suc (length-bytes 2 l)) (head-fields n l more e)
 
 -- ---- behind the head
 
@@ -52,12 +55,19 @@ module _ (n l : ℕ) (m : List (List ℕ)) (rs : List Listed) (es : List Logged)
   headed : eqb n 0 ≡ false
   headed = ne-eqb n 0 (λ z. omega (arith, size-threads n l size .0))
 
+  pub line-placed : length m < l → isPlaced (persistentOf n l m rs es) 33 ≡ true
+  line-placed h = rw (headed, lt-ltb (length m) l h)
+
+  pub line-fields : (x more : List ℕ) → isLine x ≡ true → fieldsTurn (persistentOf n l m rs es) 33 (lineBytes x ++ more) ≡ Next (persistentOf n l (m ++ (x ∷ [])) rs es)
+  unfolding fieldsTurn lineTurn
+  line-fields x more e = rw (line-back x more e)
+
   pub line-read : (x more : List ℕ) → isLine x ≡ true → length m < l
       → recordsRead (persistentOf n l m rs es) 0 (lineRecord x ++ more) ≡ recordsRead (persistentOf n l (m ++ (x ∷ [])) rs es) 0 more
-  unfolding lineRecord fieldsTurn lineTurn
+  unfolding lineRecord
   line-read x more e h =
       record-read isImageKind isPlaced imageBody fieldsTurn (persistentOf n l m rs es) (persistentOf n l (m ++ (x ∷ [])) rs es) 33 (lineBytes x) more
-      refl (rw (headed, lt-ltb (length m) l h)) (length-words 8 x) (rw (line-back x more e))
+      refl (line-placed h) (length-words 8 x) (line-fields x more e)
 
 -- ---- regions
 

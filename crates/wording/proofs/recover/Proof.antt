@@ -1,5 +1,6 @@
 use mathlib.Core.Path.{_≡_, _∙_, refl}
 use lib.ListN.{length}
+use Rattle.headed.proofs.Old.{old-step}
 use Rattle.wording.proofs.Finish.{finish-last, finish-more, finish-stop}
 use Rattle.wording.specs.Text.{finish, recovered}
 use borrow.Author.Needs.{needs}
@@ -34,7 +35,7 @@ loop-less c = search needs
 -- src/lib.rt:121:5
 loop-again : tie.Need-loop-again Inv-loop μ-loop
 loop-again c = let q = c .before .before .before .before .before .before .before .before .loop in let w = c .before .before .before .before .before .before .step-at in
-    (w .kept .0 ∙ q .inv .0, finish-more (record { bytes = q .image; at = q .at }) _ (w .result) (w .ensures) (q .n) (c .before .if1 .left) (c .if2 .left) ∙ q .inv .1)
+    (w .kept .0 ∙ q .inv .0, finish-more (record { bytes = q .image; at = q .at }) _ (w .result) (w .ensures ∙ old-step _) (q .n) (c .before .if1 .left) (c .if2 .left) ∙ q .inv .1)
 
 -- src/lib.rt:116:1
 same-length : tie.Need-same-length Inv-loop μ-loop
@@ -43,7 +44,7 @@ same-length c = c .before .before .before .before .before .step-at .kept .0 ∙ 
 -- src/lib.rt:116:1
 returns : tie.Need-returns Inv-loop μ-loop
 returns c = let q = c .before .before .before .before .before .before .before .loop in let w = c .before .before .before .before .before .step-at in
-    finish-stop (record { bytes = q .image; at = q .at }) _ (w .result) (w .ensures) (q .n) (c .if1 .taken) ∙ q .inv .1
+    finish-stop (record { bytes = q .image; at = q .at }) _ (w .result) (w .ensures ∙ old-step _) (q .n) (c .if1 .taken) ∙ q .inv .1
 
 -- src/lib.rt:116:1
 same-length-2 : tie.Need-same-length-2 Inv-loop μ-loop
@@ -52,7 +53,7 @@ same-length-2 c = c .before .before .before .before .before .before .step-at .ke
 -- src/lib.rt:116:1
 returns-2 : tie.Need-returns-2 Inv-loop μ-loop
 returns-2 c = let q = c .before .before .before .before .before .before .before .before .loop in let w = c .before .before .before .before .before .before .step-at in
-    finish-last (record { bytes = q .image; at = q .at }) _ (w .result) (w .ensures) (q .n) (c .if2 .taken) ∙ q .inv .1
+    finish-last (record { bytes = q .image; at = q .at }) _ (w .result) (w .ensures ∙ old-step _) (q .n) (c .if2 .taken) ∙ q .inv .1
 
 pub recover-spec : {M : Type 1} → statement M
 recover-spec =

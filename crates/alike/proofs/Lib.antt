@@ -1,0 +1,4 @@
+pub mod Forms
+pub mod Entries
+pub mod Alike
+pub mod Bench
