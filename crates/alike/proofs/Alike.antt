@@ -1,34 +1,32 @@
 -- Recovery of the new image is that of the old one, act by act; so demand 3 and the promise for torn stores hold of it.
 use Prim.Native.Nat.{_-_, suc, zero, ℕ}
-use mathlib.Core.Path.{_∙_, _≡_, ap, refl, subst, sym}
-use mathlib.Core.Bool.{Bool, false, true}
+use mathlib.Core.Path.{_∙_, _≡_, ap, refl, sym}
+use mathlib.Core.Bool.{Bool, true}
 use mathlib.Core.List.{List, [], _∷_}
-use lib.ListN.{length, replicate}
+use lib.ListN.{replicate}
 use Rattle.headed.proofs.Main.{saved-both, unless-stopped}
-use Rattle.headed.specs.Image.{encodeHeaded, imageHeaded}
+use Rattle.headed.specs.Image.{imageHeaded}
 use Rattle.headed.specs.Reader.{readHeaded}
 use Rattle.headed.specs.Recovery.{restoreAs, restoreHeaded}
 use Rattle.rules.proofs.Codec.Back.{image-read, reads-back}
 use Rattle.rules.proofs.Codec.Records.{not-reads}
-use Rattle.rules.proofs.Codec.Valid.{Valid}
 use Rattle.rules.proofs.Cuts.{cut-is}
 use Rattle.rules.proofs.Recover.Entries.{entries-read}
 use Rattle.rules.proofs.Recover.Sound.{sound}
-use Rattle.rules.proofs.Recover.Valid.{saved-valid}
 use Rattle.rules.proofs.Sim.All.{every}
 use Rattle.rules.proofs.Sim.Looks.{reach}
 use Rattle.rules.proofs.Sim.State.{Simulated, by}
 use Rattle.rules.specs.Claim.{boardAfter, isByteMemory, passLength, restores}
 use Rattle.rules.specs.Contradiction.{contradicts}
-use Rattle.rules.specs.History.{acceptedIn, memoryFound}
+use Rattle.rules.specs.History.{acceptedIn}
 use Rattle.rules.specs.Image.{encode, image, saved}
 use Rattle.rules.specs.Reader.{readImage}
 use Rattle.rules.specs.Recovery.{Recovering, act, isFinished, restore, restoreRead}
-use Rattle.rules.specs.Tables.{Board, Memory}
+use Rattle.rules.specs.Tables.{Memory}
 use Rattle.torn.proofs.Choices.{none-torn}
 use Rattle.torn.proofs.Torn.{tear-place, torn-recovery, torn-valid}
 use Rattle.torn.specs.Torn.{Between, Inside, TornAct, TornHolds, Whole, tornAct, tornActs, tornImage, tornRead, tornState}
-use Rattle.alike.specs.Alike.{GoesAlike, HeadedHolds, HeadedRecovery, entriesUnder, headedAct, headedActs, headedPass, headedRecovering, tornHeaded}
+use Rattle.alike.specs.Alike.{HeadedHolds, HeadedRecovery, headedAct, headedActs, headedPass, tornHeaded}
 use Rattle.alike.proofs.Entries.{entries-under}
 use Rattle.alike.proofs.Forms.{Forms, forms, same-lines, same-step, same-tear}
 

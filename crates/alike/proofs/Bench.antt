@@ -1,36 +1,31 @@
 -- Calls on the new image go as the calls on the old one.
 use Prim.Native.Nat.{_-_, max, suc, zero, ℕ}
-use mathlib.Core.Path.{_∙_, _≡_, ap, refl, subst, sym}
-use mathlib.Core.Bool.{Bool, _&&_, true}
+use mathlib.Core.Path.{_∙_, _≡_, ap, refl, sym}
+use mathlib.Core.Bool.{_&&_, true}
 use mathlib.Core.List.{List, [], _∷_}
 use lib.Dec.{eqb}
 use lib.ListN.{length, replicate, take}
 use native.Mathlib.Nat.{le-refl}
 use native.Mathlib.Omega.{arith}
 use borrow.Author.Tests.{le-leb}
-use Rattle.headed.proofs.Main.{saved-both}
 use Rattle.headed.specs.Image.{imageHeaded, imageHeadedCall, saveHeaded}
 use Rattle.headed.specs.Recovery.{recoveryCallAs}
-use Rattle.laws.proofs.Bench.{FromCut, save-accepted, wrote-front}
+use Rattle.laws.proofs.Bench.{save-accepted, wrote-front}
 use Rattle.laws.specs.Bench.{Bench, benchAct, benchActs, lentImage, nextCall}
-use Rattle.rules.proofs.Codec.Back.{reads-back}
-use Rattle.rules.proofs.Recover.Entries.{entries-read}
 use Rattle.rules.specs.Bytes.{bytesOf, numOf}
-use Rattle.rules.specs.Claim.{boardAfter, entriesIn, isByte}
-use Rattle.rules.specs.History.{memoryFound}
-use Rattle.rules.specs.Image.{encode, image, imageCall, save, saved}
-use Rattle.rules.specs.Lists.{all}
+use Rattle.rules.specs.Claim.{boardAfter, entriesIn}
+use Rattle.rules.specs.Image.{image, imageCall, save, saved}
 use Rattle.rules.specs.Record.{recordsOf}
-use Rattle.rules.specs.Recovery.{PowerCut, Restore, isFinished, recoveryCall}
+use Rattle.rules.specs.Recovery.{Restore, isFinished, recoveryCall}
 use Rattle.rules.specs.Refusal.{isSetUp}
 use Rattle.rules.specs.Run.{Wrote, wroteInto}
-use Rattle.rules.specs.Tables.{Board, Lent, Memory}
+use Rattle.rules.specs.Tables.{Board, Lent}
 use Rattle.torn.proofs.Bench.{torn-bench}
-use Rattle.torn.specs.Bench.{TornBenchHolds, tornCall, tornCalls}
-use Rattle.torn.specs.Torn.{Between, Inside, TornAct, Whole, tornAct, tornImage}
+use Rattle.torn.specs.Bench.{tornCall, tornCalls}
+use Rattle.torn.specs.Torn.{Between, Inside, TornAct, Whole}
 use Rattle.undo.proofs.Laws.{and-true, test}
-use Rattle.alike.specs.Alike.{entriesUnder, headedAct, tornHeaded}
-use Rattle.alike.specs.Bench.{HeadedBenchHolds, HeadedBenchRecovers, headedCall, headedCalls, headedNext}
+use Rattle.alike.specs.Alike.{entriesUnder}
+use Rattle.alike.specs.Bench.{HeadedBenchRecovers, headedCall, headedCalls, headedNext}
 use Rattle.alike.proofs.Alike.{same-pass, start-beside}
 use Rattle.alike.proofs.Forms.{Forms, same-lines, same-step, same-tear}
 

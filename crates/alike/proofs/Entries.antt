@@ -1,7 +1,7 @@
 -- The log entries that a new image holds by its bytes are those of its state.
 use Prim.Native.Nat.{_+_, _-_, suc, zero, ℕ}
 use mathlib.Core.Path.{_∙_, _≡_, ap, refl}
-use mathlib.Core.Bool.{Bool, _&&_, cond, false, true}
+use mathlib.Core.Bool.{_&&_, cond, true}
 use mathlib.Core.List.{List, [], _++_, _∷_, append-assoc}
 use lib.Dec.{eqb}
 use lib.ListN.{drop, length, length-append}

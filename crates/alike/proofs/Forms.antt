@@ -1,9 +1,9 @@
 -- The two forms of one state: a step, and a step that is cut inside, does to both the same.
 use Prim.Native.Nat.{_+_, _<_, ℕ}
-use mathlib.Core.Path.{_∙_, _≡_, ap, refl, sym}
+use mathlib.Core.Path.{_∙_, _≡_, refl, sym}
 use mathlib.Core.Bool.{Bool, false, true}
 use mathlib.Core.List.{List, [], _++_, _∷_}
-use lib.ListN.{drop, length, set}
+use lib.ListN.{drop, set}
 use native.Mathlib.Omega.{arith}
 use Rattle.headed.proofs.Back.{headed-back}
 use Rattle.headed.specs.Image.{encodeHeaded, headedRecord, logRecords}
@@ -19,8 +19,8 @@ use Rattle.rules.specs.Contradiction.{contradicts}
 use Rattle.rules.specs.History.{memoryFound}
 use Rattle.rules.specs.Image.{Logged, Persistent, encode, regionRecord, withMedium}
 use Rattle.rules.specs.Lists.{flat}
-use Rattle.rules.specs.Reader.{Reads, Refuses, readImage}
-use Rattle.rules.specs.Recovery.{Recovering, lineStart, putBack, restore, restoreBy}
+use Rattle.rules.specs.Reader.{Reads, readImage}
+use Rattle.rules.specs.Recovery.{lineStart, putBack, restore, restoreBy}
 use Rattle.rules.specs.Tables.{lineOf}
 use Rattle.rules.specs.Walk.{walkEntries}
 use Rattle.torn.proofs.Mixed.{front-line, image-line, mixed-line}

@@ -15,7 +15,7 @@ use Rattle.rules.specs.History.{acceptedIn, committed, drawsOn, expectedBytes, 
 use Rattle.rules.specs.Lists.{all}
 use Rattle.rules.specs.Recovery.{PowerCut, Recovering, act, isFinished, restore}
 use Rattle.rules.specs.Tables.{Board, Memory}
-use Rattle.torn.specs.Torn.{Between, Inside, TornAct, Whole, isCut, tornActs, tornImage, tornRead, tornRecovering, tornState}
+use Rattle.torn.specs.Torn.{Between, Inside, TornAct, Whole, isCut, tornImage, tornRead, tornRecovering, tornState}
 
 -- ---- the new image, and acts on it with the new step
 

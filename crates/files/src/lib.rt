@@ -192,12 +192,14 @@ fn image_as(headed: bool, file: &[u8], memory: &[u8], image: &mut [u8]) -> Answe
     }
 }
 
+// The old image of such a run.
 pub fn run_image(file: &[u8], memory: &[u8], image: &mut [u8]) -> Answer
     ensures { λ r. ⌜ wrote r (left image) ≡ imageCall (was file) (was memory) (was image) ⌝ }
 {
     image_as(false, file, memory, image)
 }
 
+// Its new image.
 pub fn run_image_headed(file: &[u8], memory: &[u8], image: &mut [u8]) -> Answer
     ensures { λ r. ⌜ wrote r (left image) ≡ imageHeadedCall (was file) (was memory) (was image) ⌝ }
 {

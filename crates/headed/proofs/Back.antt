@@ -1,8 +1,8 @@
 -- A new image reads back to the state that it was written from; the old reader stops at its first header.
-use Prim.Native.Nat.{_+_, _-_, _<_, _≤_, suc, zero, ℕ}
+use Prim.Native.Nat.{_+_, _-_, _<_, _≤_, suc, ℕ}
 use mathlib.Core.Path.{_∙_, _≡_, ap, refl, sym}
 use mathlib.Core.Logic.{_≢_}
-use mathlib.Core.Bool.{Bool, _&&_, _||_, cond, false, not, true}
+use mathlib.Core.Bool.{Bool, _&&_, _||_, false, not, true}
 use mathlib.Core.List.{List, [], _++_, _∷_, append-assoc, append-nil}
 use lib.Dec.{eqb, leb, ltb}
 use lib.ListN.{drop, getD, length, take}
@@ -12,19 +12,19 @@ use Rattle.rules.proofs.Codec.Back.{end-placed, front-read, lines-by, region-fi
 use Rattle.rules.proofs.Codec.Bytes.{isLine, length-bytes, length-words}
 use Rattle.rules.proofs.Codec.Records.{record-read, turn-last, turn-stop}
 use Rattle.rules.proofs.Codec.Turns.{head-fields, line-fields, line-placed, persistentOf, regionBody, size-threads}
-use Rattle.rules.proofs.Codec.Valid.{Valid, bound, bound-last, count-append, fitsEntry, fitsRegion, keyOfListed, keyOfLogged, logged-test, rises, rises-append}
+use Rattle.rules.proofs.Codec.Valid.{Valid, bound, count-append, fitsEntry, fitsRegion, keyOfListed, keyOfLogged, logged-test, rises, rises-append}
 use Rattle.rules.specs.Bytes.{bytesOf, lineBytes}
 use Rattle.rules.specs.Contradiction.{contradicts}
 use Rattle.rules.specs.Image.{Logged, Persistent, encode, headRecord, lineRecord, noLogged, regionRecord}
 use Rattle.rules.specs.Lists.{all, count, flat}
-use Rattle.rules.specs.Reader.{Last, Next, Reads, Refuses, Verdict, endTurn, fieldsTurn, imageBody, isImageKind, isKnownThread, isLoggedBy, isPlaced, keyAt, lastLogged, nothing, readImage, recordsRead, turnBy, turnOf, unlessContradicted}
+use Rattle.rules.specs.Reader.{Reads, Refuses, Verdict, endTurn, fieldsTurn, imageBody, isImageKind, isKnownThread, isLoggedBy, lastLogged, readImage, recordsRead, turnBy, turnOf, unlessContradicted}
 use Rattle.rules.specs.Refusal.{inRange}
 use Rattle.rules.specs.Tables.{threadOf}
 use Rattle.rules.specs.declared.Listed.{Listed}
 use Rattle.undo.proofs.Laws.{and-true, is-same, never, or-right, test}
 use Rattle.headed.specs.Claim.{Grouped, group, held, isApart, isOf, none}
-use Rattle.headed.specs.Image.{alsoHeld, encodeHeaded, headedRecord, logRecords, logRecordsFrom, recordKey}
-use Rattle.headed.specs.Reader.{Progress, fieldsIn, headedBody, headerTurn, heldBy, heldIn, isBehindShort, isBeside, isHeader, isKindOf, isOnBoard, isPlacedIn, onward, readAs, readHeaded, recordsIn, recordsReadAs, stateRead, turnIn, unread}
+use Rattle.headed.specs.Image.{alsoHeld, encodeHeaded, headedRecord, logRecords, logRecordsFrom}
+use Rattle.headed.specs.Reader.{Progress, fieldsIn, headedBody, headerTurn, isBehindShort, isHeader, isKindOf, isOnBoard, isPlacedIn, readAs, readHeaded, recordsIn, recordsReadAs, stateRead, turnIn, unread}
 use Rattle.headed.proofs.Groups.{all-grouped, nothing-lost}
 use Rattle.headed.proofs.Header.{body-long, header-back, header-is, headerBody}
 use Rattle.headed.proofs.Old.{and-none}

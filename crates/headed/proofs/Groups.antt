@@ -1,8 +1,8 @@
 -- The log entries record by record: nothing is lost, and a list of records is the only one of its entries.
 use Prim.Native.Nat.{_+_, _≤_, suc, zero, ℕ}
 use mathlib.Core.Path.{_∙_, _≡_, ap, refl, sym}
-use mathlib.Core.Bool.{Bool, _||_, cond, false, not, true}
-use mathlib.Core.List.{List, [], _++_, _∷_, append-assoc, append-nil}
+use mathlib.Core.Bool.{Bool, _||_, false, not, true}
+use mathlib.Core.List.{List, [], _++_, _∷_, append-assoc}
 use lib.Dec.{eqb}
 use lib.ListN.{drop, length, length-append, length-drop, length-take, take, take-append-drop}
 use lib.Seq.{drop-at, take-at}
@@ -13,7 +13,7 @@ use Rattle.rules.specs.Image.{Logged}
 use Rattle.rules.specs.Lists.{all}
 use Rattle.undo.proofs.Laws.{and-true, is-same, never, or-right, test}
 use Rattle.headed.specs.Claim.{Grouped, group, held, isApart, isOf, none}
-use Rattle.headed.specs.Image.{alsoHeld, entryKeys, logRecords, logRecordsFrom, recordKey, sameFront}
+use Rattle.headed.specs.Image.{alsoHeld, entryKeys, logRecordsFrom, recordKey, sameFront}
 
 pub held-append : (gs hs : List (List Logged)) → held (gs ++ hs) ≡ held gs ++ held hs
 held-append [] hs = refl

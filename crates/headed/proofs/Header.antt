@@ -1,9 +1,8 @@
 -- A record of kind 41 to 47: what is written is read back, and what is read is written back.
 use Prim.Native.Nat.{_*_, _+_, _<_, _≤_, suc, zero, ℕ}
 use mathlib.Core.Path.{_∙_, _≡_, ap, refl, sym}
-use mathlib.Core.Bool.{Bool, _&&_, true}
+use mathlib.Core.Bool.{true}
 use mathlib.Core.List.{List, [], _++_, _∷_, append-assoc, map}
-use lib.Dec.{eqb, leb, ltb}
 use lib.ListN.{drop, getD, length, length-append, length-map}
 use lib.Seq.{append-snoc, drop-at, drop-cons, drop-drop, getD-at, getD-drop}
 use native.Mathlib.Omega.{arith}
@@ -13,7 +12,7 @@ use Rattle.rules.specs.Bytes.{bytesOf, lineAt, lineBytes, numOf}
 use Rattle.rules.specs.Claim.{isByte}
 use Rattle.rules.specs.Image.{Logged, keyBytes}
 use Rattle.rules.specs.Lists.{all, flat}
-use Rattle.rules.specs.Reader.{isKnownThread, keyAt}
+use Rattle.rules.specs.Reader.{keyAt}
 use Rattle.rules.specs.Tables.{numberOf, threadOf}
 use Rattle.undo.proofs.Laws.{and-true, is-same}
 use Rattle.headed.specs.Claim.{isOf}

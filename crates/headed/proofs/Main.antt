@@ -2,8 +2,8 @@
 use Prim.Native.Nat.{ℕ}
 use mathlib.Core.Path.{_∙_, _≡_, ap, refl, sym}
 use mathlib.Core.Logic.{_≢_}
-use mathlib.Core.Bool.{Bool, false, true}
-use mathlib.Core.List.{List, []}
+use mathlib.Core.Bool.{false, true}
+use mathlib.Core.List.{List}
 use lib.ListN.{length}
 use native.Mathlib.Nat.{le-refl}
 use Rattle.rules.proofs.Codec.Back.{image-read}
@@ -20,13 +20,13 @@ use Rattle.rules.specs.Claim.{boardAfter, isByteMemory}
 use Rattle.rules.specs.Contradiction.{contradicts}
 use Rattle.rules.specs.History.{acceptedIn}
 use Rattle.rules.specs.Image.{Persistent, encode, saved}
-use Rattle.rules.specs.Reader.{Reads, Refuses, Verdict, nothing, readImage, recordsRead, unlessContradicted}
+use Rattle.rules.specs.Reader.{Reads, Refuses, nothing, readImage, recordsRead, unlessContradicted}
 use Rattle.rules.specs.Tables.{Memory}
 use Rattle.undo.proofs.Laws.{never}
 use Rattle.undo.specs.Table.{any}
 use Rattle.headed.specs.Claim.{BothForms, HeadedImages}
 use Rattle.headed.specs.Image.{imageHeaded}
-use Rattle.headed.specs.Reader.{isHeader, readAs, readHeaded, recordsIn, recordsReadAs, stateRead, unread}
+use Rattle.headed.specs.Reader.{isHeader, readAs, readHeaded, recordsIn, recordsReadAs, unread}
 use Rattle.headed.proofs.Back.{headed-back, none-same, old-stops}
 use Rattle.headed.proofs.Groups.{all-grouped, nothing-lost, only-records}
 use Rattle.headed.proofs.Old.{Alike, alike, old-image, same, stopped}

@@ -1,6 +1,6 @@
 -- Before a record of kind 41 to 47 is met, the reader of both forms does what the old reader does; without these kinds it is the old reader.
 use Prim.Native.Nat.{_≤_, suc, zero, ℕ}
-use mathlib.Core.Path.{_∙_, _≡_, ap, refl, sym}
+use mathlib.Core.Path.{_≡_, ap, refl}
 use mathlib.Core.Bool.{Bool, _&&_, _||_, cond, false, false≢true, true}
 use mathlib.Core.List.{List, [], _∷_}
 use lib.Dec.{eqb, leb}
@@ -9,11 +9,11 @@ use native.Mathlib.Omega.{arith}
 use borrow.Author.Tests.{leb-true}
 use Rattle.rules.proofs.Codec.Records.{afterTurn}
 use Rattle.rules.specs.Image.{Persistent}
-use Rattle.rules.specs.Reader.{Last, Next, Reads, Refuses, Stop, Turn, Verdict, fieldsTurn, imageBody, isImageKind, isPlaced, nothing, readBy, readImage, recordsRead, turnBy, turnOf, unlessContradicted}
+use Rattle.rules.specs.Reader.{Last, Next, Refuses, Stop, Turn, Verdict, imageBody, isImageKind, isPlaced, nothing, readBy, readImage, recordsRead, turnBy, turnOf, unlessContradicted}
 use Rattle.rules.specs.Recovery.{Recovering, recoveryCall, restore}
 use Rattle.undo.proofs.Laws.{and-true, or-right, test}
 use Rattle.undo.specs.Table.{any}
-use Rattle.headed.specs.Reader.{Progress, fieldsIn, headedBody, isBeside, isHeader, isKindOf, isPlacedIn, onward, readAs, recordsIn, recordsReadAs, stateRead, turnIn, unread}
+use Rattle.headed.specs.Reader.{Progress, fieldsIn, headedBody, isHeader, isKindOf, isPlacedIn, onward, readAs, recordsIn, recordsReadAs, stateRead, turnIn, unread}
 use Rattle.headed.specs.Recovery.{recoveryCallAs, restoreAs}
 
 -- ---- the seven kinds are none of the five

@@ -1,29 +1,26 @@
 -- Bytes that the reader of both forms accepts are the old or the new image of what they read back to, and that fits.
-use Prim.Native.Nat.{_*_, _+_, _-_, _<_, _≤_, suc, zero, ℕ}
+use Prim.Native.Nat.{_*_, _+_, _-_, _<_, _≤_, suc, ℕ}
 use mathlib.Core.Path.{_∙_, _≡_, ap, refl, subst, sym}
 use mathlib.Core.Logic.{_⊎_, inl, inr}
-use mathlib.Core.Bool.{Bool, _&&_, _||_, cond, false, false≢true, not, true}
+use mathlib.Core.Bool.{Bool, _&&_, cond, false, not, true}
 use mathlib.Core.List.{List, [], _++_, _∷_, append-assoc, append-nil}
 use lib.Dec.{eqb, leb, ltb}
 use lib.ListN.{drop, length, length-append}
 use native.Mathlib.Nat.{le-refl}
 use native.Mathlib.Omega.{arith}
-use borrow.Author.Tests.{eq-eqb, eqb-true, eqb-false, le-leb, le-ltb, leb-true, ltb-false, lt-ltb, ne-eqb, not-true}
+use borrow.Author.Tests.{eqb-true, eqb-false, le-leb, le-ltb, leb-true, ltb-false, lt-ltb, ne-eqb, not-true}
 use Rattle.rules.proofs.Codec.Bytes.{all-append, all-drop, isLine}
-use Rattle.rules.proofs.Codec.Image.{read-records}
 use Rattle.rules.proofs.Codec.Only.{Far, Taken, begun, behind-lines, endKind, finished, further, none-yet, not-end, nothing-left, only-end, placed-behind, records-only}
 use Rattle.rules.proofs.Codec.Records.{Passed, along-read, isLast, last-same, next-same, not-last, not-reads, past-test, readOr, turn-passed}
 use Rattle.rules.proofs.Codec.Steps.{Begun, flat-end, withoutEnd}
-use Rattle.rules.proofs.Codec.Turns.{persistentOf}
 use Rattle.rules.proofs.Codec.Valid.{Sound, Valid, bound, count-append, fitsEntry, keyOfLogged, logged-test, rises, rises-append}
 use Rattle.rules.proofs.Recover.Entries.{Headed, entriesAt, log-adds}
 use Rattle.rules.specs.Claim.{isByte}
-use Rattle.rules.specs.Contradiction.{contradicts}
-use Rattle.rules.specs.Image.{Logged, Persistent, encode, entryRecord, headRecord, lineRecord, regionRecord, withLogged}
+use Rattle.rules.specs.Image.{Logged, Persistent, encode, headRecord, lineRecord, regionRecord, withLogged}
 use Rattle.rules.specs.Lists.{all, count, flat}
-use Rattle.rules.specs.Reader.{Last, Next, Reads, Refuses, Stop, Turn, Verdict, fieldsTurn, imageBody, isImageKind, isKnownThread, isLoggedBy, isPlaced, keyAt, lastLogged, nothing, recordsRead, turnOf}
+use Rattle.rules.specs.Reader.{Last, Next, Reads, Refuses, Stop, Turn, Verdict, fieldsTurn, isImageKind, isKnownThread, isLoggedBy, isPlaced, keyAt, lastLogged, turnOf}
 use Rattle.rules.specs.Tables.{threadOf}
-use Rattle.undo.proofs.Laws.{and-true, is-same, never, or-false, or-right, test}
+use Rattle.undo.proofs.Laws.{and-true, is-same, never, or-right, test}
 use Rattle.headed.specs.Claim.{Grouped, held, isOf, none}
 use Rattle.headed.specs.Image.{encodeHeaded, headedRecord, logRecords}
 use Rattle.headed.specs.Reader.{Progress, entryIn, fieldsIn, headedBody, headerTurn, heldBy, heldFrom, heldIn, isBehindShort, isBeside, isHeader, isKindOf, isOnBoard, isPlacedIn, onward, recordsIn, recordsReadAs, stateRead, turnIn, unread}

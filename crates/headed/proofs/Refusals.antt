@@ -11,7 +11,7 @@ use Rattle.rules.specs.Image.{Persistent}
 use Rattle.rules.specs.Lists.{all, count}
 use Rattle.rules.specs.Reader.{Last, Next, Stop, Turn, fieldsTurn, isKnownThread, isLoggedBy, keyAt, lastLogged, turnBy}
 use Rattle.rules.specs.Tables.{threadOf}
-use Rattle.headed.specs.Reader.{Progress, fieldsIn, headedBody, headerTurn, heldBy, heldIn, isBehindShort, isHeader, isKindOf, isOnBoard, isPlacedIn, onward, readAs, recordsIn, recordsReadAs, stateRead, turnIn, unread}
+use Rattle.headed.specs.Reader.{Progress, fieldsIn, headedBody, headerTurn, heldBy, heldIn, isBehindShort, isHeader, isKindOf, isOnBoard, isPlacedIn, onward, readAs, recordsReadAs, stateRead, turnIn, unread}
 
 module _ (ok : ℕ → Bool) (h : ImageRefusals ok) where
   header-stops : (s : Progress) (k : ℕ) (bs : List ℕ) → stopsBy ok (headerTurn s k bs) ≡ true

@@ -21,11 +21,11 @@ use Rattle.reading.specs.Spots.{entryOn, heldAt, holds, isInside, markOn
 use Rattle.reading.specs.declared.Spot.{Spot}
 
 module _ (ws : List ℕ) where
-  -- a byte of a body, by its place in the bytes
+  -- a byte behind the one at a place, and all that is behind it
   byte-behind : (at i : ℕ) → getD (drop (suc at) ws) i 0 ≡ getD ws (at + 1 + i) 0
   byte-behind at i = let o : suc at + i ≡ at + 1 + i = omega arith in getD-drop (suc at) ws i 0 ∙ ap (λ n. getD ws n 0) o
 
-  rest-behind : (at i : ℕ) → drop i (drop (suc at) ws) ≡ drop (at + 1 + i) ws
+  pub rest-behind : (at i : ℕ) → drop i (drop (suc at) ws) ≡ drop (at + 1 + i) ws
   rest-behind at i = let o : suc at + i ≡ at + 1 + i = omega arith in drop-drop i (suc at) ws ∙ ap (λ n. drop n ws) o
 
   pub mark-is : (s : Spot) → record { key = keyAt ws (s .at + 1); line = getD ws (s .at + 4 + s .entry) 0; at = oldAt ws s % 65536 } ≡ markOn ws s

@@ -1,24 +1,24 @@
 -- A record judged by sizes, counts, last keys and the last log record is judged as by all that was read before it.
 use Prim.Native.Nat.{_+_, _<_, _≤_, ℕ}
-use mathlib.Core.Path.{_∙_, _≡_, refl}
+use mathlib.Core.Path.{_≡_, refl}
 use mathlib.Core.Bool.{Bool, _&&_, _||_, cond, false, false≢true, not, true}
 use mathlib.Core.List.{List, [], _++_, _∷_}
 use lib.Dec.{eqb, leb, ltb}
 use lib.ListN.{drop, getD, length, take}
 use native.Mathlib.Numerals.{add-one}
 use native.Mathlib.Omega.{arith}
-use borrow.Author.Tests.{eqb-false, eqb-true, le-leb, leb-true, ltb-false, ltb-true, ne-eqb, not-true}
-use Rattle.headed.proofs.Old.{and-none, header-bounds, or-none}
+use borrow.Author.Tests.{eqb-false, eqb-true, leb-true, ltb-false, ltb-true, ne-eqb, not-true}
+use Rattle.headed.proofs.Old.{header-bounds, or-none}
 use Rattle.headed.specs.Reader.{Progress, fieldsIn, headedBody, headerTurn, heldFrom, heldBy, heldIn, isBeside, isHeader, isKindOf, isOnBoard, isPlacedIn, onward, turnIn}
 use Rattle.rules.specs.Bytes.{lineAt, numOf}
 use Rattle.rules.specs.Image.{sized, withListed, withLogged, withMedium}
 use Rattle.rules.specs.Lists.{all}
-use Rattle.rules.specs.Reader.{Last, Next, Stop, Turn, endTurn, fieldsTurn, headTurn, isImageKind, isKnownThread, isPlaced, keyAt, lastListed, lastLogged, lineTurn, listedAt, listedTurn, loggedAt, loggedTurn, turnBy}
+use Rattle.rules.specs.Reader.{Last, Next, Stop, Turn, endTurn, fieldsTurn, headTurn, isKnownThread, isPlaced, keyAt, lastListed, lastLogged, lineTurn, listedAt, listedTurn, loggedAt, loggedTurn, turnBy}
 use Rattle.rules.specs.Refusal.{inRange}
 use Rattle.rules.specs.Tables.{threadOf}
 use Rattle.rules.specs.declared.Listed.{Listed}
 use Rattle.undo.proofs.Laws.{and-true, test}
-use Rattle.reading.specs.Item.{behindShort, countFor, endItem, entriesItem, fieldsItem, headItem, itemOf, placed, regionItem, tallyOf}
+use Rattle.reading.specs.Item.{behindShort, countFor, endItem, entriesItem, fieldsItem, headItem, inOrder, itemOf, placed, regionItem, tallyOf}
 use Rattle.reading.specs.Spots.{holds, isLogKind}
 use Rattle.reading.specs.declared.Item.{Item}
 use Rattle.reading.specs.declared.Item.the-variants.{End, Entries, Head, Line, Refused, Region}
@@ -183,10 +183,7 @@ third true e = refl
 third false e = e
 
 module _ (s : Tally) (bs : List ℕ) where
-  abbrev inOrder : ℕ → Bool
-  inOrder k = cond (eqb (s .threads) 0) (eqb k 32) (cond (ltb (s .seen) (s .lines)) (eqb k 33) (cond (eqb (s .logged) 0) (leb 34 k) (leb 35 k)))
-
-  head-shown : inOrder 32 ≡ true → Shown s 32 bs (headItem bs)
+  head-shown : inOrder s 32 ≡ true → Shown s 32 bs (headItem bs)
   unfolding headItem
   head-shown q =
       let t = getD bs 0 0 in
@@ -196,12 +193,12 @@ module _ (s : Tally) (bs : List ℕ) where
       (λ f. let r = and-true (leb 1 t) (leb t 8) (and-true (leb 1 t && leb t 8) (leb 1 l && leb l 256) f .0) in rw f (head refl z (leb-true 1 t (r .0)) (leb-true t 8 (r .1))))
       (λ f. rw f refuses)
 
-  line-shown : inOrder 33 ≡ true → Shown s 33 bs Line
+  line-shown : inOrder s 33 ≡ true → Shown s 33 bs Line
   line-shown q =
       let a = past (eqb (s .threads) 0) _ q in
       line refl (eqb-false (s .threads) 0 (a .0)) (ltb-true (s .seen) (s .lines) (second (ltb (s .seen) (s .lines)) (eqb (s .logged) 0) (a .1)))
 
-  region-shown : (r : Listed) → inOrder 34 ≡ true → Shown s 34 bs (regionItem s r)
+  region-shown : (r : Listed) → inOrder s 34 ≡ true → Shown s 34 bs (regionItem s r)
   unfolding regionItem
   region-shown r q =
       let a = past (eqb (s .threads) 0) _ q in
@@ -214,7 +211,7 @@ module _ (s : Tally) (bs : List ℕ) where
       (λ f. rw f refuses)))
       (λ e. rw e refuses)
 
-  entries-shown : (k : ℕ) → isLogKind k ≡ true → inOrder k ≡ true → Shown s k bs (entriesItem s k bs)
+  entries-shown : (k : ℕ) → isLogKind k ≡ true → inOrder s k ≡ true → Shown s k bs (entriesItem s k bs)
   unfolding entriesItem
   entries-shown k h q =
       let n = log-high k h in
@@ -239,14 +236,14 @@ module _ (s : Tally) (bs : List ℕ) where
       (λ f. rw f refuses)))
       (λ e. rw e refuses)
 
-  end-shown : (k : ℕ) → eqb k 32 ≡ false → inOrder k ≡ true → Shown s k bs (endItem bs)
+  end-shown : (k : ℕ) → eqb k 32 ≡ false → inOrder s k ≡ true → Shown s k bs (endItem bs)
   unfolding endItem
   end-shown k n q =
       test (eqb (length bs) 0)
       (λ e. rw e (end (eqb-false (s .threads) 0 (past (eqb (s .threads) 0) _ (rw n at q) .0))))
       (λ e. rw e refuses)
 
-  fields-shown : (k : ℕ) → inOrder k ≡ true → Shown s k bs (fieldsItem s k bs)
+  fields-shown : (k : ℕ) → inOrder s k ≡ true → Shown s k bs (fieldsItem s k bs)
   unfolding fieldsItem
   fields-shown k q =
       test (eqb k 32) (λ e. let n = eqb-true k 32 e in rw n (head-shown (rw n at q)))
@@ -259,6 +256,6 @@ module _ (s : Tally) (bs : List ℕ) where
   item-shown headed k =
       test (isKindOf headed k)
       (λ e. rw e (test (placed s k)
-      (λ f. rw f (test (leb (headedBody k) (length bs)) (λ g. rw g (fields-shown k (and-true (inOrder k) (not (isBeside (s .kind) k)) f .0))) (λ g. rw g refuses)))
+      (λ f. rw f (test (leb (headedBody k) (length bs)) (λ g. rw g (fields-shown k (and-true (inOrder s k) (not (isBeside (s .kind) k)) f .0))) (λ g. rw g refuses)))
       (λ f. rw f refuses)))
       (λ e. rw e refuses)

@@ -8,7 +8,7 @@ use lib.ListN.{drop, getD, length, length-append, length-drop, length-replicate,
 use native.Mathlib.Omega.{arith}
 use native.Mathlib.Nat.{zero-add}
 use borrow.Author.Tests.{eqb-false, eqb-true}
-use lib.Seq.{drop-cons, drop-drop, take-at}
+use lib.Seq.{drop-cons, take-at}
 use Rattle.headed.specs.Reader.{Progress, fieldsIn, headedBody, heldIn, isKindOf, isPlacedIn, recordsIn, recordsReadAs, stateRead, turnIn, unread}
 use Rattle.lines.proofs.Paste.{sets-join, sets-paste}
 use Rattle.rules.proofs.Codec.Only.{no-entries}
@@ -16,8 +16,8 @@ use Rattle.rules.proofs.Codec.Records.{Passed, along-read, isLast, isOn, last-s
 use Rattle.rules.specs.Bytes.{lineAt}
 use Rattle.rules.specs.Image.{Persistent, withListed}
 use Rattle.rules.specs.Lists.{all, count}
-use Rattle.rules.specs.Marks.{marksOf, noMark}
-use Rattle.rules.specs.Reader.{Last, Next, Reads, Refuses, Verdict, isLoggedBy, keyAt, lastLogged, readBy}
+use Rattle.rules.specs.Marks.{noMark}
+use Rattle.rules.specs.Reader.{Last, Next, Reads, Refuses, Verdict, isLoggedBy, keyAt, readBy}
 use Rattle.rules.specs.Tables.{threadOf}
 use Rattle.rules.specs.declared.Listed.{Listed}
 use Rattle.rules.specs.declared.Mark.{Mark}
@@ -30,7 +30,7 @@ use Rattle.reading.specs.declared.Item.the-variants.{End, Entries, Head,
 use Rattle.reading.specs.declared.Spot.{Spot}
 use Rattle.reading.specs.declared.Tally.{Tally}
 use Rattle.reading.proofs.Counts.{Few, count-of, few-more, few-none, last-listed, length-held, length-more, log-room, record-count, record-last}
-use Rattle.reading.proofs.Spots.{Stand, none, record-stands, stand-inside, stand-join, stand-marks, stand-moved}
+use Rattle.reading.proofs.Spots.{Stand, none, record-stands, rest-behind, stand-inside, stand-join, stand-marks, stand-moved}
 use Rattle.reading.proofs.Tests.{item-empty, kind-low, log-body, some-held}
 use Rattle.reading.proofs.Turns.{Entered, Shown, added, end, entries, head, is-end, is-entries, is-head, is-line, is-region, isTaken, item-shown, line, refuses, region, turn-item, turnFrom}
 
@@ -211,10 +211,6 @@ after-entries s b k d bs e c =
 
 -- ---- what is read of an image
 
--- the bytes behind the record at a place
-behind : (ws : List ℕ) (at n : ℕ) → drop n (drop (suc at) ws) ≡ drop (at + 1 + n) ws
-behind ws at n = let o : suc at + n ≡ at + 1 + n = omega arith in drop-drop n (suc at) ws ∙ ap (λ m. drop m ws) o
-
 -- at most 32 regions and 256 log entries, which stand behind the regions
 pub record Laid (ws : List ℕ) (p : Persistent) : Type 0 where
   pub few : (length (p .regions) ≤ 32) × (length (p .log) ≤ 256)
@@ -240,7 +236,7 @@ module _ (headed : Bool) (ws : List ℕ) where
       let e = front at b bs (f .here) in
       let k : getD ws at 0 ≡ b = cc in
       let r : drop (suc at) ws ≡ bs = cc in
-      record { at = at + 1 + headedBody (getD ws at 0); here = rw (← behind ws at (headedBody (getD ws at 0)), k, r); kept = kept-next (f .kept) headed q (ap (turnIn headed s) e ∙ t) }
+      record { at = at + 1 + headedBody (getD ws at 0); here = rw (← rest-behind ws at (headedBody (getD ws at 0)), k, r); kept = kept-next (f .kept) headed q (ap (turnIn headed s) e ∙ t) }
 
   finished : (s q : Progress) (b : ℕ) (bs : List ℕ) → Far ws s (b ∷ bs) → turnIn headed s (b ∷ bs) ≡ Last q → Laid ws (q .state)
   finished s q b bs f t = let a = kept-last (f .kept) headed q (ap (turnIn headed s) (front (f .at) b bs (f .here)) ∙ t) in rw (← a .0) (laid (f .kept) (a .1))
@@ -328,7 +324,7 @@ module _ {headed : Bool} {src : List ℕ} {s : Tally} {rs : List Listed} {at : �
                 tally = a;
                 regions = b;
                 inside = m;
-                reads = sym (turn-next (turnIn headed) headedBody (r .state) q k rest (turned ∙ n) ∙ ap (recordsIn headed q 0) (behind src at (headedBody k)))
+                reads = sym (turn-next (turnIn headed) headedBody (r .state) q k rest (turned ∙ n) ∙ ap (recordsIn headed q 0) (rest-behind src at (headedBody k)))
                     ∙ (ap (recordsIn headed (r .state) 0) (sym (drop-cons src at 0 there)) ∙ r .reads);
               };
         }

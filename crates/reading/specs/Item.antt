@@ -35,12 +35,14 @@ tallyOf s =
     }
 
 -- 32, then L of 33, then any of 34, then any of 35 or any of 41 to 47, then 36
-abbrev pub placed : Tally → ℕ → Bool
-placed s k =
+abbrev pub inOrder : Tally → ℕ → Bool
+inOrder s k =
     cond (eqb (s .threads) 0) (eqb k 32)
     (cond (ltb (s .seen) (s .lines)) (eqb k 33)
     (cond (eqb (s .logged) 0) (leb 34 k) (leb 35 k)))
-    && not (isBeside (s .kind) k)
+
+abbrev pub placed : Tally → ℕ → Bool
+placed s k = inOrder s k && not (isBeside (s .kind) k)
 
 -- ---- the fields of each record, once its place and its length are right
 

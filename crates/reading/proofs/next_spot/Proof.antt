@@ -1,7 +1,6 @@
 use native.Mathlib.Omega.{arith}
 use borrow.Author.Tests.{le-ltb, lt-ltb}
 use Rattle.reading.specs.Spots.{nextSpot}
-use Rattle.reading.proofs.Tests.{few-held}
 use borrow.Author.Needs.{needs}
 use Rattle.reading.proofs.next_spot.Statement.{statement}
 use Rattle.reading.proofs.next_spot.Tie as tie
