@@ -3,11 +3,16 @@ use Prim.Native.Nat.{_-_, suc, zero, ℕ}
 use mathlib.Core.Path.{_∙_, _≡_, ap, refl, sym}
 use mathlib.Core.Bool.{Bool, true}
 use mathlib.Core.List.{List, [], _∷_}
-use lib.ListN.{replicate}
+use lib.Dec.{eqb}
+use lib.ListN.{length, replicate}
+use native.Mathlib.Omega.{arith}
 use Rattle.headed.proofs.Main.{saved-both, unless-stopped}
+use Rattle.headed.proofs.Refusals.{headed-refuses}
 use Rattle.headed.specs.Image.{imageHeaded}
 use Rattle.headed.specs.Reader.{readHeaded}
-use Rattle.headed.specs.Recovery.{restoreAs, restoreHeaded}
+use Rattle.headed.specs.Recovery.{recoveryCallAs, recoveryHeadedCall, restoreAs, restoreHeaded}
+use Rattle.laws.proofs.Answers.{listed, read-answers}
+use Rattle.laws.specs.Images.{Answers, isImageRefusal}
 use Rattle.rules.proofs.Codec.Back.{image-read, reads-back}
 use Rattle.rules.proofs.Codec.Records.{not-reads}
 use Rattle.rules.proofs.Cuts.{cut-is}
@@ -16,6 +21,7 @@ use Rattle.rules.proofs.Recover.Sound.{sound}
 use Rattle.rules.proofs.Sim.All.{every}
 use Rattle.rules.proofs.Sim.Looks.{reach}
 use Rattle.rules.proofs.Sim.State.{Simulated, by}
+use Rattle.rules.specs.Bytes.{numOf}
 use Rattle.rules.specs.Claim.{boardAfter, isByteMemory, passLength, restores}
 use Rattle.rules.specs.Contradiction.{contradicts}
 use Rattle.rules.specs.History.{acceptedIn}
@@ -26,6 +32,7 @@ use Rattle.rules.specs.Tables.{Memory}
 use Rattle.torn.proofs.Choices.{none-torn}
 use Rattle.torn.proofs.Torn.{tear-place, torn-recovery, torn-valid}
 use Rattle.torn.specs.Torn.{Between, Inside, TornAct, TornHolds, Whole, tornAct, tornActs, tornImage, tornRead, tornState}
+use Rattle.undo.proofs.Laws.{test}
 use Rattle.alike.specs.Alike.{HeadedHolds, HeadedRecovery, headedAct, headedActs, headedPass, tornHeaded}
 use Rattle.alike.proofs.Entries.{entries-under}
 use Rattle.alike.proofs.Forms.{Forms, forms, same-lines, same-step, same-tear}
@@ -116,10 +123,23 @@ module _ (m : Memory) (rs : List (List ℕ)) (bm : isByteMemory m ≡ true) (cut
         either = acts-same as′ (start-beside p);
       }
 
+-- ---- any bytes
+
+step-answers : (r : Recovering) → Answers (restoreHeaded r .answer)
+unfolding restoreAs
+step-answers r = read-answers (readHeaded (r .bytes)) r (headed-refuses isImageRefusal listed true (r .bytes))
+
+call-answers : (bs at : List ℕ) → Answers (recoveryHeadedCall bs at .answer)
+unfolding recoveryCallAs
+call-answers bs at =
+    test (eqb (length at) 8) (λ a. rw a (step-answers (record { bytes = bs; at = numOf at })))
+    (λ a. rw a (record { known = λ z. refl; small = omega arith; silent = λ z. refl }))
+
 pub headed-recovery : HeadedRecovery
 unfolding tornHeaded tornState imageHeaded
 headed-recovery =
     record {
       holds = λ m rs p as′ bm br cut. holds m rs bm (cut-is m rs ∙ cut) p as′ (torn-recovery m rs p as′ bm br cut);
       none = λ b. rw (none-torn b 0 (saved b .medium));
+      answers = λ bs. (λ n. step-answers (record { bytes = bs; at = n }), call-answers bs);
     }

@@ -9,7 +9,8 @@ use lib.Dec.{eqb}
 use lib.ListN.{replicate}
 use Rattle.headed.specs.Image.{encodeHeaded, imageHeaded}
 use Rattle.headed.specs.Reader.{headedBody, heldBy, isHeader, readHeaded}
-use Rattle.headed.specs.Recovery.{restoreHeaded}
+use Rattle.headed.specs.Recovery.{recoveryHeadedCall, restoreHeaded}
+use Rattle.laws.specs.Images.{Answers}
 use Rattle.rules.specs.Claim.{boardAfter, isByte, isByteMemory}
 use Rattle.rules.specs.History.{acceptedIn, committed, drawsOn, expectedBytes, hasCut, memoryFound, usesIn}
 use Rattle.rules.specs.Lists.{all}
@@ -78,3 +79,5 @@ pub record HeadedRecovery : Type 0 where
   pub holds : (m : Memory) (rs : List (List ℕ)) (p : ℕ → ℕ → Bool) (as′ : List TornAct) → isByteMemory m ≡ true → all (all isByte) rs ≡ true
       → hasCut (acceptedIn m rs) ≡ true → HeadedHolds m rs p as′
   pub none : (b : Board) → tornHeaded (λ l w. false) b ≡ imageHeaded b
+  -- on any bytes each answer is one that is listed, of a step at any place and of the call with any bytes as its place
+  pub answers : (bs : List ℕ) → ((n : ℕ) → Answers (restoreHeaded (record { bytes = bs; at = n }) .answer)) × ((at : List ℕ) → Answers (recoveryHeadedCall bs at .answer))

@@ -7,15 +7,18 @@ use lib.Dec.{eqb}
 use lib.ListN.{length}
 use native.Mathlib.Omega.{arith}
 use Rattle.laws.specs.Images.{Answers, RecoveryAnswers, isImageRefusal}
-use Rattle.rules.proofs.Codec.Refusals.{image-refuses, refusesBy}
+use Rattle.rules.proofs.Codec.Refusals.{ImageRefusals, image-refuses, refusesBy}
 use Rattle.rules.specs.Bytes.{numOf}
 use Rattle.rules.specs.Image.{Logged, Persistent}
 use Rattle.rules.specs.Reader.{Reads, Refuses, Verdict, readImage}
 use Rattle.rules.specs.Recovery.{Recovering, recoveryCall, restore, restoreBy, restoreRead}
 use Rattle.undo.proofs.Laws.{test}
 
+pub listed : ImageRefusals isImageRefusal
+listed = record { one = refl; two = refl; three = refl; four = refl; six = refl; seven = refl; eight = refl }
+
 pub refuses-well : (bs : List ℕ) → refusesBy isImageRefusal (readImage bs) ≡ true
-refuses-well bs = image-refuses isImageRefusal (record { one = refl; two = refl; three = refl; four = refl; six = refl; seven = refl; eight = refl }) bs
+refuses-well bs = image-refuses isImageRefusal listed bs
 
 -- ---- the step
 
@@ -29,7 +32,7 @@ by-answers (e ∷ es) r =
       silent = λ n. absurd (n refl);
     }
 
-read-answers : (v : Verdict Persistent) (r : Recovering) → refusesBy isImageRefusal v ≡ true → Answers (restoreRead v r .answer)
+pub read-answers : (v : Verdict Persistent) (r : Recovering) → refusesBy isImageRefusal v ≡ true → Answers (restoreRead v r .answer)
 read-answers (Refuses n) r e = record { known = λ z. e; small = omega arith; silent = λ z. refl }
 read-answers (Reads p) r e = by-answers _ r
 
