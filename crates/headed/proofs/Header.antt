@@ -107,12 +107,24 @@ header-back g more h a o =
 
 -- ---- written back
 
-module _ (n : ℕ) (bs : List ℕ) (bytes : all isByte bs ≡ true) where
+module _ (n : ℕ) (bs : List ℕ) where
   pub held-long : (i m : ℕ) → length (heldFrom n bs i m) ≡ m
   unfolding heldFrom
   held-long i zero = refl
   held-long i (suc m) = ap suc (held-long (suc i) m)
 
+  -- the entries of a record are of one region
+  pub held-same : (i m : ℕ) → all (isOf (keyAt bs 0)) (heldFrom n bs i m) ≡ true
+  unfolding heldFrom
+  held-same i zero = refl
+  held-same i (suc m) = rw (is-same (keyAt bs 0)) (held-same (suc i) m)
+
+  pub held-key : (m : ℕ) → 1 ≤ m → recordKey (heldFrom n bs 0 m) ≡ keyAt bs 0
+  unfolding heldFrom
+  held-key zero h = absurd (omega arith)
+  held-key (suc m) h = refl
+
+module _ (n : ℕ) (bs : List ℕ) (bytes : all isByte bs ≡ true) where
   lines-again : (i m : ℕ) → 3 + i + m ≤ length bs → linesIn (heldFrom n bs i m) ++ drop (3 + i + m) bs ≡ drop (3 + i) bs
   unfolding heldFrom
   lines-again i zero h = let o : 3 + i + 0 ≡ 3 + i = omega arith in rw o
@@ -131,21 +143,11 @@ module _ (n : ℕ) (bs : List ℕ) (bytes : all isByte bs ≡ true) where
       rw (o, append-assoc (lineBytes (lineAt bs (3 + n + 64 * i))) (oldsIn (heldFrom n bs (suc i) m)) (drop (3 + n + 64 * (suc i + m)) bs), ih, q)
       (line-part (3 + n + 64 * i) bs bytes (omega arith))
 
-  -- its entries are of one region, and what they logged are lines
-  pub held-same : (i m : ℕ) → all (isOf (keyAt bs 0)) (heldFrom n bs i m) ≡ true
-  unfolding heldFrom
-  held-same i zero = refl
-  held-same i (suc m) = rw (is-same (keyAt bs 0)) (held-same (suc i) m)
-
+  -- what they logged are lines
   pub held-lines : (i m : ℕ) → 3 + n + 64 * (i + m) ≤ length bs → all (λ e. isLine (e .old)) (heldFrom n bs i m) ≡ true
   unfolding heldFrom
   held-lines i zero h = refl
   held-lines i (suc m) h = rw (line-small (3 + n + 64 * i) bs bytes (omega arith)) (held-lines (suc i) m (omega arith))
-
-  pub held-key : (m : ℕ) → 1 ≤ m → recordKey (heldFrom n bs 0 m) ≡ keyAt bs 0
-  unfolding heldFrom
-  held-key zero h = absurd (omega arith)
-  held-key (suc m) h = refl
 
   pub header-again : 1 ≤ n → 3 + 65 * n ≤ length bs → headedRecord (heldIn n bs) ++ drop (3 + 65 * n) bs ≡ (40 + n) ∷ bs
   unfolding headedRecord
@@ -155,8 +157,8 @@ module _ (n : ℕ) (bs : List ℕ) (bytes : all isByte bs ≡ true) where
       let b = olds-again 0 n (omega arith) in
       let c : 3 + n + 64 * 0 ≡ 3 + 0 + n = omega arith in
       let d = lines-again 0 n (omega arith) in
-      let k : recordKey g ≡ keyAt bs 0 = held-key n p in
-      rw (held-long 0 n, k)
+      let k : recordKey g ≡ keyAt bs 0 = held-key n bs n p in
+      rw (held-long n bs 0 n, k)
       (ap (λ x. (40 + n) ∷ x)
       (append-assoc (keyBytes (keyAt bs 0)) (linesIn g ++ oldsIn g) (drop (3 + 65 * n) bs)
       ∙ (ap (λ x. keyBytes (keyAt bs 0) ++ x) (append-assoc (linesIn g) (oldsIn g) (drop (3 + 65 * n) bs) ∙ rw (a, b, c, d))

@@ -147,11 +147,11 @@ module _ (ws : List ℕ) (s q : Progress) (k : ℕ) (bs : List ℕ) (bytes : all
       let long : 3 + 65 * n ≤ length bs = rw i at (c .long) in
       let g = heldIn n bs in
       let ge : g ≡ entryIn n bs 0 ∷ heldFrom n bs 1 m = ap (heldFrom n bs 0) nm in
-      let same = held-same n bs bytes 0 n in
-      let tail-same : all (isOf (keyAt bs 0)) (heldFrom n bs 1 m) ≡ true = held-same n bs bytes 1 m in
+      let same = held-same n bs 0 n in
+      let tail-same : all (isOf (keyAt bs 0)) (heldFrom n bs 1 m) ≡ true = held-same n bs 1 m in
       let lines = held-lines n bs bytes 0 n (omega arith) in
-      let lg : length g ≡ n = held-long n bs bytes 0 n in
-      let lt : length (heldFrom n bs 1 m) ≡ m = held-long n bs bytes 1 m in
+      let lg : length g ≡ n = held-long n bs 0 n in
+      let lt : length (heldFrom n bs 1 m) ≡ m = held-long n bs 1 m in
       let after : Begun (withLogged (s .state .log ++ g) (s .state))
       = more-begun (keyAt bs 0) (s .state) g b w same (h .known) (h .lines) lines (h .climbs) (rw lg (h .few)) in
       let again : headedRecord g ++ drop (3 + 65 * n) bs ≡ k ∷ bs = header-again n bs bytes (omega arith) long ∙ ap (λ x. x ∷ bs) (omega arith) in

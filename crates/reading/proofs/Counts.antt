@@ -8,6 +8,7 @@ use lib.ListN.{getD, length, length-append}
 use native.Mathlib.Omega.{arith}
 use borrow.Author.Tests.{eq-eqb, eqb-false, eqb-true, ne-eqb}
 use lib.Seq.{append-snoc, getD-at}
+use Rattle.headed.proofs.Header.{held-long}
 use Rattle.headed.specs.Reader.{entryIn, heldFrom}
 use Rattle.rules.specs.Image.{Logged, noListed, noLogged}
 use Rattle.rules.specs.Lists.{count}
@@ -37,11 +38,6 @@ loggedBy t es = count (isLoggedBy t) es
 -- ---- the entries of one record are all of the region of its key
 
 module _ (n : ℕ) (bs : List ℕ) where
-  pub length-held : (i m : ℕ) → length (heldFrom n bs i m) ≡ m
-  unfolding heldFrom
-  length-held i zero = refl
-  length-held i (suc m) = ap suc (length-held (suc i) m)
-
   count-held : (t i m : ℕ) → loggedBy t (heldFrom n bs i m) ≡ cond (eqb (threadOf (keyAt bs 0)) t) m 0
   unfolding count heldFrom
   count-held t i zero = test (eqb (threadOf (keyAt bs 0)) t) (λ e. rw e) (λ e. rw e)
@@ -103,5 +99,5 @@ few-more es n m bs f h t s r =
       last = rw (record-last n bs es m s) t;
       late = rw (record-last n bs es m s) g;
       full = rw (record-last n bs es m s, b) r;
-      sum = rw (record-last n bs es m s, b, length-append es (heldFrom n bs 0 m), length-held n bs 0 m) (omega arith);
+      sum = rw (record-last n bs es m s, b, length-append es (heldFrom n bs 0 m), held-long n bs 0 m) (omega arith);
     }

@@ -9,6 +9,7 @@ use native.Mathlib.Omega.{arith}
 use native.Mathlib.Nat.{zero-add}
 use borrow.Author.Tests.{eqb-false, eqb-true}
 use lib.Seq.{drop-cons, take-at}
+use Rattle.headed.proofs.Header.{held-long}
 use Rattle.headed.specs.Reader.{Progress, fieldsIn, headedBody, heldIn, isKindOf, isPlacedIn, recordsIn, recordsReadAs, stateRead, turnIn, unread}
 use Rattle.lines.proofs.Paste.{sets-join, sets-paste}
 use Rattle.rules.proofs.Codec.Only.{no-entries}
@@ -29,7 +30,7 @@ use Rattle.reading.specs.declared.Item.{Item}
 use Rattle.reading.specs.declared.Item.the-variants.{End, Entries, Head, Line, Refused, Region}
 use Rattle.reading.specs.declared.Spot.{Spot}
 use Rattle.reading.specs.declared.Tally.{Tally}
-use Rattle.reading.proofs.Counts.{Few, count-of, few-more, few-none, last-listed, length-held, length-more, log-room, record-count, record-last}
+use Rattle.reading.proofs.Counts.{Few, count-of, few-more, few-none, last-listed, length-more, log-room, record-count, record-last}
 use Rattle.reading.proofs.Spots.{Stand, none, record-stands, rest-behind, stand-inside, stand-join, stand-marks, stand-moved}
 use Rattle.reading.proofs.Tests.{item-empty, kind-low, log-body, some-held}
 use Rattle.reading.proofs.Turns.{Entered, Shown, added, end, entries, head, is-end, is-entries, is-head, is-line, is-region, isTaken, item-shown, line, refuses, region, turn-item, turnFrom}
@@ -207,7 +208,7 @@ unfolding tallyOf
 after-entries s b k d bs e c =
     let m = holds d in
     let es = s .state .log in
-    rw (c .count, e .key, record-last m bs es m (some-held d), length-append es (heldIn m bs), length-held m bs 0 m, record-count m bs (threadOf (keyAt bs 0)) es m, is-same (threadOf (keyAt bs 0)))
+    rw (c .count, e .key, record-last m bs es m (some-held d), length-append es (heldIn m bs), held-long m bs 0 m, record-count m bs (threadOf (keyAt bs 0)) es m, is-same (threadOf (keyAt bs 0)))
 
 -- ---- what is read of an image
 

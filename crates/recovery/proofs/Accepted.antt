@@ -15,13 +15,14 @@ use Rattle.reading.proofs.Spots.{length-marks}
 use Rattle.reading.proofs.Walk.{read-laid, take-filled}
 use Rattle.reading.specs.Scan.{freeListed, oldsOf, readOf, scanOf}
 use Rattle.reading.specs.declared.Scan.{Scan}
-use Rattle.rules.proofs.Codec.Records.{not-reads, readOr}
+use Rattle.rules.proofs.Codec.Image.{accepted}
+use Rattle.rules.proofs.Codec.Records.{readOr}
 use Rattle.rules.proofs.Codec.Refusals.{ImageRefusals, refusesBy}
 use Rattle.rules.specs.Contradiction.{contradicts}
 use Rattle.rules.specs.Image.{Persistent}
 use Rattle.rules.specs.Marks.{marksOf, noMark}
 use Rattle.rules.specs.Reader.{Reads, Refuses, Verdict, nothing, unlessContradicted}
-use Rattle.undo.proofs.Laws.{never, test}
+use Rattle.undo.proofs.Laws.{never}
 
 -- a refusal of an image is never 0
 abbrev pub isSaid : Verdict Persistent → Bool
@@ -56,11 +57,7 @@ unless-refused bs (Reads p) z = absurd (z refl)
 -- an image that is accepted has accepted records
 pub read-records : (headed : Bool) (bs : List ℕ) (p : Persistent) → readAs headed bs ≡ Reads p → recordsReadAs headed bs ≡ Reads p
 unfolding readAs
-read-records headed bs p e = go (recordsReadAs headed bs) e
-  where
-    go : (v : Verdict Persistent) → unlessContradicted v ≡ Reads p → v ≡ Reads p
-    go (Refuses n) e = e
-    go (Reads q) e = test (contradicts q) (λ c. not-reads (rw c at e)) (λ c. rw c at e)
+read-records headed bs p e = accepted (recordsReadAs headed bs) p e .0
 
 -- ---- the tables of what was read
 
