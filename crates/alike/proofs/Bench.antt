@@ -6,11 +6,10 @@ use mathlib.Core.List.{List, [], _∷_}
 use lib.Dec.{eqb}
 use lib.ListN.{length, replicate, take}
 use native.Mathlib.Nat.{le-refl}
-use native.Mathlib.Omega.{arith}
 use borrow.Author.Tests.{le-leb}
 use Rattle.headed.specs.Image.{imageHeaded, imageHeadedCall, saveHeaded}
 use Rattle.headed.specs.Recovery.{recoveryCallAs}
-use Rattle.laws.proofs.Bench.{save-accepted, wrote-front}
+use Rattle.laws.proofs.Bench.{save-accepted, saved-if}
 use Rattle.laws.specs.Bench.{Bench, benchAct, benchActs, lentImage, nextCall}
 use Rattle.rules.specs.Bytes.{bytesOf, numOf}
 use Rattle.rules.specs.Claim.{boardAfter, entriesIn}
@@ -18,7 +17,7 @@ use Rattle.rules.specs.Image.{image, imageCall, save, saved}
 use Rattle.rules.specs.Record.{recordsOf}
 use Rattle.rules.specs.Recovery.{Restore, isFinished, recoveryCall}
 use Rattle.rules.specs.Refusal.{isSetUp}
-use Rattle.rules.specs.Run.{Wrote, wroteInto}
+use Rattle.rules.specs.Run.{wroteInto}
 use Rattle.rules.specs.Tables.{Board, Lent}
 use Rattle.torn.proofs.Bench.{torn-bench}
 use Rattle.torn.specs.Bench.{tornCall, tornCalls}
@@ -65,16 +64,10 @@ more-beside zero b = b
 more-beside (suc n) b = more-beside n (call-beside Whole b)
 
 -- an accepted image call: of a board that is cut, and its buffer begins with the new image
-record FromCutHeaded (b : Board) (w : Wrote) : Type 0 where
-  pub cut : (isSetUp (b .tables) && b .tables .cut) ≡ true
-  pub front : take (w .answer .value) (w .buffer) ≡ imageHeaded b
-
-saved-headed : (b : Board) (d : List ℕ) → saveHeaded b d .answer .refusal ≡ 0 → FromCutHeaded b (saveHeaded b d)
+saved-headed : (b : Board) (d : List ℕ) → saveHeaded b d .answer .refusal ≡ 0
+    → ((isSetUp (b .tables) && b .tables .cut) ≡ true) × (take (saveHeaded b d .answer .value) (saveHeaded b d .buffer) ≡ imageHeaded b)
 unfolding saveHeaded
-saved-headed b d e =
-    test (isSetUp (b .tables) && b .tables .cut)
-    (λ a. record { cut = a; front = rw a (wrote-front (imageHeaded b) d (rw a at e)) })
-    (λ a. let z : 6 ≡ 0 = rw a at e in absurd (omega arith))
+saved-headed b d e = saved-if (isSetUp (b .tables) && b .tables .cut) (imageHeaded b) d e
 
 -- then the old image is saved into a buffer of its length
 saved-old : (b : Board) → (isSetUp (b .tables) && b .tables .cut) ≡ true → save b (image b) .answer .refusal ≡ 0
@@ -88,11 +81,11 @@ headed-bench file memory d p as′ bf bm z =
     let rs = recordsOf file in
     let b = boardAfter m rs in
     let s = saved-headed b d z in
-    let cut = and-true (isSetUp (b .tables)) (b .tables .cut) (s .cut) .1 in
-    let old = torn-bench file memory (image b) p as′ bf bm (saved-old b (s .cut)) in
+    let cut = and-true (isSetUp (b .tables)) (b .tables .cut) (s .0) .1 in
+    let old = torn-bench file memory (image b) p as′ bf bm (saved-old b (s .0)) in
     let k = max 1 (entriesIn 0 (lentImage (imageCall file memory (image b)) .image)) in
     let n : max 1 (entriesUnder 0 (lentImage (imageHeadedCall file memory d) .image)) ≡ k
-    = rw (s .front, save-accepted b (image b) (saved-old b (s .cut)) .front) (same-pass m rs bm cut) in
+    = rw (s .1, save-accepted b (image b) (saved-old b (s .0)) .front) (same-pass m rs bm cut) in
     let t = start-beside m rs bm cut p in
     let along = calls-beside as′ (record { bytes = t .bytes; place = refl }) in
     let next = same-call along in

@@ -1,6 +1,6 @@
 -- The calls of a bench go in step with the recovery of demand 3: the eight bytes hold its place, which is never above 256.
 use Prim.Native.Nat.{_*_, _+_, _-_, _≤_, max, suc, zero, ℕ}
-use mathlib.Core.Bool.{Bool, _&&_, false, true}
+use mathlib.Core.Bool.{Bool, _&&_, cond, false, true}
 use mathlib.Core.List.{List, [], _∷_}
 use mathlib.Core.Path.{_∙_, _≡_, ap, refl, subst, sym}
 use lib.Dec.{eqb, leb, ltb}
@@ -132,19 +132,26 @@ pub record FromCut (b : Board) (w : Wrote) : Type 0 where
   pub cut : b .tables .cut ≡ true
   pub front : take (w .answer .value) (w .buffer) ≡ image b
 
-pub wrote-front : (bs d : List ℕ) → wroteInto bs (length bs) d .answer .refusal ≡ 0
+wrote-front : (bs d : List ℕ) → wroteInto bs (length bs) d .answer .refusal ≡ 0
     → take (wroteInto bs (length bs) d .answer .value) (wroteInto bs (length bs) d .buffer) ≡ bs
 unfolding wroteInto
 wrote-front bs d e =
     test (leb (length bs) (length d)) (λ a. rw a (take-append-seam bs (drop (0 + length bs) d)))
     (λ a. let z : 6 ≡ 0 = rw a at e in absurd (omega arith))
 
+-- an image of either form: saved if b, else refused by 6
+abbrev pub savedIf : Bool → List ℕ → List ℕ → Wrote
+savedIf b bs d = cond b (wroteInto bs (length bs) d) (record { answer = record { refusal = 6; value = 0 }; buffer = d })
+
+pub saved-if : (b : Bool) (bs d : List ℕ) → savedIf b bs d .answer .refusal ≡ 0 → (b ≡ true) × (take (savedIf b bs d .answer .value) (savedIf b bs d .buffer) ≡ bs)
+saved-if true bs d z = (refl, wrote-front bs d z)
+saved-if false bs d z = absurd (omega arith)
+
 pub save-accepted : (b : Board) (d : List ℕ) → save b d .answer .refusal ≡ 0 → FromCut b (save b d)
 unfolding save
 save-accepted b d e =
-    test (isSetUp (b .tables) && b .tables .cut)
-    (λ a. rw a (record { cut = and-true (isSetUp (b .tables)) (b .tables .cut) a .1; front = wrote-front (image b) d (rw a at e) }))
-    (λ a. let z : 6 ≡ 0 = rw a at e in absurd (omega arith))
+    let a = saved-if (isSetUp (b .tables) && b .tables .cut) (image b) d e in
+    record { cut = and-true (isSetUp (b .tables)) (b .tables .cut) (a .0) .1; front = a .1 }
 
 pub zero-place : bytesOf 8 0 ≡ replicate 8 0
 unfolding bytesOf
