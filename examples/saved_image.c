@@ -1,10 +1,11 @@
-/* Images for the example benches. */
+/* Images for the examples. */
 #include "saved_image.h"
 
 #include <inttypes.h>
+#include <stdio.h>
 #include <string.h>
 
-enum { KIND_DEPENDENCE = 34, KIND_LOG = 35, KIND_END = 36, KIND_HEADER = 40 };
+enum { HEAD_BYTES = 4, LINE_RECORD = 1 + BOARD_LINE_BYTES, REGION_RECORD = 17 };
 
 size_t line_at(size_t line) { return HEAD_BYTES + LINE_RECORD * line + 1; }
 
@@ -17,43 +18,38 @@ int is_headed(int *argc, char ***argv) {
 /* Number of regions in a list of them, at a place in the image that moves behind it. */
 static uint64_t count_regions(const uint8_t *image, size_t *at) {
     uint64_t count = 0;
-    for (; image[*at] == KIND_DEPENDENCE; *at += DEPENDENCE_RECORD) count++;
+    for (; image[*at] == BOARD_IMAGE_REGION; *at += REGION_RECORD) count++;
     return count;
 }
 
 /* Number of log entries from there to the end: a record of kind 35 holds one, one of kind 40 + k holds k. */
 static uint64_t count_entries(const uint8_t *image, size_t at) {
     uint64_t count = 0;
-    while (image[at] != KIND_END) {
-        size_t k = image[at] == KIND_LOG ? 1 : image[at] - KIND_HEADER;
+    while (image[at] != BOARD_IMAGE_END) {
+        size_t k = image[at] == BOARD_IMAGE_LOG ? 1 : image[at] - BOARD_IMAGE_HEADER;
         count += k;
         at += 4 + 65 * k;
     }
     return count;
 }
 
-board_answer save_form(int headed, const uint8_t *file, size_t length, uint8_t bytes[MOST_IMAGE]) {
-    static const uint8_t memory[MOST_MEMORY];
-    return (headed ? board_image_headed : board_image)(file, length, memory, memory_length(file, length), bytes, MOST_IMAGE);
+board_answer save_form(int headed, const uint8_t *file, size_t length, uint8_t bytes[BOARD_IMAGE_BYTES]) {
+    static const uint8_t memory[BOARD_MEMORY_BYTES];
+    return (headed ? board_image_headed : board_image)(file, length, memory, memory_length(file, length), bytes, BOARD_IMAGE_BYTES);
 }
 
-int save_image(const char *program, const char *name, uint8_t **file, size_t *length, saved_image *image) {
-    *file = read_file(name, length);
-    if (*file == NULL) {
-        fprintf(stderr, "%s: cannot read %s\n", program, name);
-        return 2;
-    }
-    board_answer saved = save_form(image->headed, *file, *length, image->bytes);
+int save_image(const uint8_t *file, size_t length, saved_image *image) {
+    board_answer saved = save_form(image->headed, file, length, image->bytes);
     if (saved.refusal != 0) {
         printf("no image: refused with %u\n", saved.refusal);
-        return 1;
+        return 0;
     }
     image->length = (size_t)saved.value;
     image->lines = (size_t)number_at(image->bytes + 2, 2);
     size_t at = HEAD_BYTES + LINE_RECORD * image->lines;
     image->regions = count_regions(image->bytes, &at);
     image->entries = count_entries(image->bytes, at);
-    return 0;
+    return 1;
 }
 
 void print_image(const saved_image *image) {
@@ -70,12 +66,12 @@ void print_words(const char *title, const saved_image *image) {
         }
 }
 
-board_answer step_image(saved_image *image, uint8_t place[8]) {
-    return (image->headed ? board_recovery_step_headed : board_recovery_step)(image->bytes, image->length, place, 8);
+board_answer step_image(saved_image *image, uint8_t place[BOARD_PLACE_BYTES]) {
+    return (image->headed ? board_recovery_step_headed : board_recovery_step)(image->bytes, image->length, place, BOARD_PLACE_BYTES);
 }
 
 uint8_t recover(saved_image *image, uint64_t most, uint64_t *made) {
-    uint8_t place[8] = {0};
+    uint8_t place[BOARD_PLACE_BYTES] = {0};
     for (*made = 0; *made < most;) {
         board_answer a = step_image(image, place);
         if (a.refusal != 0) return a.refusal;

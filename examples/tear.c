@@ -9,35 +9,35 @@
 
 #include "saved_image.h"
 
-enum { DATA_ACK = 6, CUT = 8, ANSWER_BYTES = 9, WORDS = 8, SETS = 1 << WORDS };
+enum { WORDS = 8, SETS = 1 << WORDS };
 
 /* The image of the cut; the same with every line in flight as its flight carries it; the saved one recovered. */
 static saved_image saved, landed, found;
-static int in_flight[MOST_LINES];
+static int in_flight[BOARD_MEMORY_BYTES / BOARD_LINE_BYTES];
 static uint64_t flights, images_torn, steps_torn;
 
 /* Where the accepted cut stands in a file that has one; the pointer to the first answer moves to the cut's. */
 static size_t find_cut(const uint8_t *file, size_t length, const uint8_t **answer) {
     size_t at = 0;
-    for (; file[at] != CUT || **answer != 0; *answer += ANSWER_BYTES) at += record_length(file + at, length - at);
+    for (; file[at] != BOARD_CUT || **answer != 0; *answer += BOARD_ANSWER_BYTES) at += (size_t)board_record(file + at, length - at).value;
     return at;
 }
 
 /* A line was in flight at the cut if its data acknowledgement, put in front of the cut, is accepted; the image of that file then has the line that the
    flight carried. The file has room for two bytes more, and there is room for the answer of one event more. */
 static void find_flights(uint8_t *file, size_t length, uint8_t *answers, size_t room) {
-    static const uint8_t memory[MOST_MEMORY];
-    static uint8_t image[MOST_IMAGE];
+    static const uint8_t memory[BOARD_MEMORY_BYTES];
+    static uint8_t image[BOARD_IMAGE_BYTES];
     size_t memory_len = memory_length(file, length);
     const uint8_t *answer = answers;
     board_events(file, length, memory, memory_len, answers, room);
     size_t cut = find_cut(file, length, &answer);
     for (size_t l = 0; l < saved.lines; l++) {
-        memcpy(file + cut, (uint8_t[]){DATA_ACK, (uint8_t)l, CUT}, 3);
+        memcpy(file + cut, (uint8_t[]){BOARD_DATA_ACK, (uint8_t)l, BOARD_CUT}, 3);
         board_events(file, cut + 3, memory, memory_len, answers, room);
         if (*answer != 0) continue;
         save_form(saved.headed, file, cut + 3, image);
-        memcpy(landed.bytes + line_at(l), image + line_at(l), LINE_BYTES);
+        memcpy(landed.bytes + line_at(l), image + line_at(l), BOARD_LINE_BYTES);
         in_flight[l] = 1;
         flights++;
     }
@@ -94,7 +94,7 @@ static int tear_flights(unsigned set) {
    the set reach the image, and power fails. */
 static int tear_steps(unsigned set) {
     static saved_image whole, torn;
-    uint8_t place[8] = {0};
+    uint8_t place[BOARD_PLACE_BYTES] = {0};
     whole = saved;
     reach(&whole, &landed, 0, saved.lines, set);
     for (uint64_t step = 1; step <= saved.entries; step++, steps_torn++) {
@@ -126,7 +126,7 @@ static int tear(void) {
 
 /* The lines in flight, then the tears; gives the exit code. */
 static int tear_file(const uint8_t *file, size_t length) {
-    size_t room = ANSWER_BYTES * (event_count(file, length) + 1);
+    size_t room = BOARD_ANSWER_BYTES * (event_count(file, length) + 1);
     uint8_t *longer = malloc(length + 2), *answers = malloc(room);
     int has_memory = longer != NULL && answers != NULL;
     if (has_memory) {
@@ -145,15 +145,14 @@ static int tear_file(const uint8_t *file, size_t length) {
 }
 
 int main(int argc, char **argv) {
-    uint8_t *file;
     size_t length;
     saved.headed = is_headed(&argc, &argv);
     if (argc != 2) {
         fprintf(stderr, "usage: tear [-n] FILE\n");
         return 2;
     }
-    int code = save_image("tear", argv[1], &file, &length, &saved);
-    if (code == 0) code = tear_file(file, length);
+    uint8_t *file = read_file(argv[1], &length);
+    int code = save_image(file, length, &saved) ? tear_file(file, length) : 1;
     free(file);
     return code;
 }

@@ -1,6 +1,6 @@
 #!/usr/bin/env bash
-# examples.sh BUILD CC: the example benches of that directory, on every sample. The readable form, the answers and the recovered words must be those of the
-# proved programs totext, tobytes and trace; over wrong boards, which the compiler makes of the plain engine, tear must tell. The last line is 'N passed,
+# examples.sh BUILD CC: the example benches of that directory, on every sample, and the programs totext, tobytes and trace. The answers and the recovered words
+# must be those of the trace program; over wrong boards, which the compiler makes of the plain engine, tear must tell. The last line is 'N passed,
 # M failed'.
 set -euo pipefail
 cd "$(dirname "$0")"
@@ -28,44 +28,11 @@ byte() {
     printf "\\x$(printf %02x "$3")" | dd of="$scratch/changed" bs=1 seek="$2" conv=notrunc status=none
 }
 
-# in_words REFUSAL VALUE: an answer as replay prints it, without the words of a refusal.
-in_words() {
-    if [ "$1" = 0 ]; then echo "accepted, value $2"; else echo "refusal $1, value $2"; fi
-}
-
 # said COMMAND: what a program prints, and its exit code.
 said() {
     local code=0
     "$@" 2>&1 || code=$?
     echo "exit $code"
-}
-
-# replayed FILE ANSWERS: what replay prints, without the words of a refusal, and its exit code.
-replayed() { said "$build/replay" "$1" "$2" | sed 's/ ([^)]*)//g'; }
-
-# replay_file FILE: right answers agree; a wrong refusal and a wrong value are found at each event; answers too few and too many.
-replay_file() {
-    local answers=$scratch/answers due count line kind refusal value n=0 cut=$scratch/fewer
-    "$build/replay" -w "$1" "$answers"
-    "$bin/totext" < "$1" > "$scratch/text"
-    "$bin/trace" < "$1" | grep -v '^M' > "$scratch/due" || true
-    count=$(wc -l < "$scratch/due")
-    check "$1" "$count answers agree"$'\n''exit 0' "$(replayed "$1" "$answers")"
-    while read -r kind refusal value && IFS= read -r line <&3; do
-        due="event $((n + 1)): $line: expected $(in_words "$refusal" "$value"); found"
-        byte "$answers" $((9 * n)) $((refusal == 18 ? 0 : 18))
-        check "$1" "$due $(in_words $((refusal == 18 ? 0 : 18)) "$value")"$'\n''exit 1' "$(replayed "$1" "$scratch/changed")"
-        byte "$answers" $((9 * n + 2)) $(((value / 256 + 1) % 256))
-        check "$1" "$due $(in_words "$refusal" $((value + 256)))"$'\n''exit 1' "$(replayed "$1" "$scratch/changed")"
-        n=$((n + 1))
-    done < "$scratch/due" 3< "$scratch/text"
-    head -c $((9 * (count - 1))) "$answers" > "$cut"
-    check "$1" "$due no answer"$'\n'"the board gave $((count - 1)) answers, $count are due"$'\n''exit 1' "$(replayed "$1" "$cut")"
-    head -c $((9 * count - 4)) "$answers" > "$cut"
-    check "$1" "$due 5 bytes of an answer's nine"$'\n'"the board gave $((count - 1)) answers, $count are due"$'\n''exit 1' "$(replayed "$1" "$cut")"
-    cat "$answers" <(printf '\0\1\0\0\0\0\0\0\0') > "$cut"
-    check "$1" 'behind the last event: expected no answer; found accepted, value 1'$'\n'"the board gave $((count + 1)) answers, $count are due"$'\n''exit 1' \
-        "$(replayed "$1" "$cut")"
 }
 
 # found EXAMPLE FILE [STEPS]: the words that an example finds in the end, as the trace program prints them, and its exit code.
@@ -83,7 +50,6 @@ form() { said "$build/$1" "${@:2}" | sed '1s/^image of [0-9]* bytes/image/'; }
 for text in ../samples/*.txt; do
     file=${text%.txt}.events
     check "$text" "$(od -An -tx1 "$file")" "$("$bin/tobytes" < "$text" | od -An -tx1)"
-    replay_file "$file"
     if grep -q '^cut' "$text"; then
         for example in bench tear; do
             check "$file, $example" "$(due "$file")" "$(found $example "$file")"
@@ -104,20 +70,16 @@ begins() { "$bin/trace" < "../samples/$1.events" | sed -n -e 's/^1 \(.*\) 0$/\1/
 check 'begins under a reserve' '0, 0, 0, 16, 0, 0, 16, 0, 0, 0, 16, 8 0 5, M 0 0 7' "$(begins reserves)"
 check 'begins in two channels' '0, 0, 16, 0, 0, 16, 0, 16, 0, 0, 0, 16, 0, 8 0 3, M 0 0 7' "$(begins channels)"
 
-# files that end early, and whose first setups are refused
-for end in 'bytes 4 0 1' 'bytes 9 0 255 1' 'bytes 10 1 2 0 3 1 2 0 0 0 0 0' 'bytes 11 1 2 0 3 1 2 0 0 0 0 0 0' 'bytes 0 2 3 0 0 0 0 0 0 0 0 0 0' \
-    'bytes 200'; do
-    printf '%s\n' 'setup 9 1 0 0 0 0 0 0 0 0 0 0' 'setup 2 3 0 0 1 0 0 0 0 0 0 0' 'setup 2 3 0 1 0 0 0 0 0 0 200 100' 'setup 2 3 0 1 0 0 0 0 0 0 0 16' \
-        'begin 0' 'begin 1' 'write 1 2 7 18446744073709551615' 'write 1 2 0 1311768467463790320' 'read 1 2 0' 'fence 0' "$end" | "$bin/tobytes" > "$scratch/damaged"
-    replay_file "$scratch/damaged"
-done
-check 'an empty file' '0 answers agree'$'\n''exit 0' "$(replayed /dev/null /dev/null)"
-
-# the starting memory is that of the first setup that can be accepted
-printf '%s\n' 'setup 2 1 0 0 1 0 0 0 0 0 0 0' 'setup 2 1 2 0 0 0 0 0 0 0 0 0' 'setup 2 1 0 0 0 0 0 0 0 0 17 0' 'setup 2 3 0 1 0 0 0 0 0 0 0 16' \
-    'begin 0' 'begin 1' | "$bin/tobytes" > "$scratch/refused"
-"$build/replay" -w "$scratch/refused" "$scratch/answers"
-check 'setups with other lines, refused' '6 6 6 0 16 0' "$(od -An -v -w9 -tu1 "$scratch/answers" | awk '{ print $1 }' | paste -sd ' ')"
+# answers that agree, that differ at an event, and too few of them
+"$build/board" run ../samples/p1.events -a "$scratch/answers" > /dev/null
+check 'answers that agree' $'11 answers agree\nexit 0' "$(said "$build/replay" ../samples/p1.events "$scratch/answers")"
+byte "$scratch/answers" 63 18
+check 'an answer that differs' \
+    $'event 8: expected refusal 0 (accepted), value 0; found refusal 18 (needs a log entry on a line still locked), value 0\nexit 1' \
+    "$(said "$build/replay" ../samples/p1.events "$scratch/changed")"
+head -c 95 "$scratch/answers" > "$scratch/fewer"
+check 'too few answers' $'10 answers agree, but the board gave 95 bytes and 99 are due\nexit 1' "$(said "$build/replay" ../samples/p1.events "$scratch/fewer")"
+check 'an empty file' $'0 answers agree\nexit 0' "$(said "$build/replay" /dev/null /dev/null)"
 
 # power lost after any number of recovery steps: the same memory is found
 check 'the whole output of the bench' "$(cat recovery.expected)" "$("$build/bench" ../samples/recovery.events)"
@@ -133,12 +95,12 @@ check 'the old image of the same state' 'image of 1379 bytes: 2 uncommitted regi
 # power lost inside a store: the lines in flight are those at the accepted cut, wherever it stands in the file
 torn=$(cat torn.expected)$'\nexit 0'
 check 'the whole output of tear' "$torn" "$(said "$build/tear" ../samples/torn.events)"
-printf '%s\n' cut 'setup 9 5 0 0 0 0 0 0 0 0 0 0' "$(cat ../samples/torn.txt)" 'data-ack 1' cut 'bytes 200' | "$bin/tobytes" > "$scratch/between"
-check 'a cut between others that are refused' "$torn" "$(said "$build/tear" "$scratch/between")"
+printf '%s\n' "$(cat ../samples/torn.txt)" 'data-ack 1' cut 'bytes 200' | "$bin/tobytes" > "$scratch/between"
+check 'events behind the cut' "$torn" "$(said "$build/tear" "$scratch/between")"
 for option in '' -n; do
     check "no file $option" 'usage: tear [-n] FILE'$'\n''exit 2' "$(said "$build/tear" $option)"
     check "no file for the bench $option" 'usage: bench [-n] FILE [STEPS]'$'\n''exit 2' "$(said "$build/bench" $option)"
-    check "a file that is not there $option" "tear: cannot read $scratch/none"$'\n''exit 2' "$(said "$build/tear" $option "$scratch/none")"
+    check "a file that is not there $option" "cannot read $scratch/none"$'\n''exit 2' "$(said "$build/tear" $option "$scratch/none")"
     check "a file without a cut $option" 'no image: refused with 6'$'\n''exit 1' "$(said "$build/tear" $option ../samples/p4.events)"
 done
 
@@ -146,8 +108,8 @@ done
 torn_on() {
     sed "$1" plain/image.c > "$scratch/image.c"
     "$cc" -std=c11 -Iplain -Dboard_answer=plain_answer -Dboard_events=plain_events -Dboard_image=plain_image -Dboard_recovery_step=plain_recovery_step \
-        -Dboard_image_headed=plain_image_headed -Dboard_recovery_step_headed=plain_recovery_step_headed \
-        -o "$scratch/tear" ../examples/tear.c ../examples/event_file.c ../examples/saved_image.c plain/plain.c "$scratch/image.c"
+        -Dboard_image_headed=plain_image_headed -Dboard_recovery_step_headed=plain_recovery_step_headed -Dboard_record=plain_record \
+        -o "$scratch/tear" ../examples/tear.c ../examples/files.c ../examples/saved_image.c plain/plain.c plain/text.c "$scratch/image.c"
     said "$scratch/tear" "${@:2}" ../samples/torn.events
 }
 check 'the plain engine' "$torn" "$(torn_on '')"
@@ -201,6 +163,16 @@ check 'a bad line' ' 00 02 02 00 00 01 00 00 00 00 00 00 03 04 01 00' "$("$bin/t
 check 'a bad line is named' 'line 3 is not in the form' "$(cat "$scratch/said")"
 for numbers in '2 2' '2 2 0 1 0 0 0 0 0 0 3' '2 2 0 1 0 0 0 0 0 0 3 4 5' '2 2 0 256 0 0 0 0 0 0 3 4' '2 2 0 1 0 0 0 0 0 0 3 256'; do
     check "setup $numbers" 'line 1 is not in the form' "$(echo "setup $numbers" | "$bin/tobytes" 2>&1)"
+done
+# input and output that fail are told once, and nothing else
+for program in trace totext tobytes; do
+    case $program in tobytes) input=../samples/p1.txt ;; *) input=../samples/p1.events ;; esac
+    check "$program of a directory" "$program: standard input cannot be read" "$("$bin/$program" 2>&1 < /)"
+    check "$program of closed input" "$program: standard input cannot be read" "$("$bin/$program" 2>&1 <&-)"
+    check "$program to a full device" "$program: standard output cannot be written" "$("$bin/$program" 2>&1 > /dev/full < "$input")"
+    check "$program to closed output" "$program: standard output cannot be written" "$("$bin/$program" 2>&1 >&- < "$input")"
+    check "$program of nothing" '' "$("$bin/$program" 2>&1 < /dev/null)"
+    check "$program as it should be" '' "$("$bin/$program" 2>&1 > /dev/null < "$input")"
 done
 echo "examples: $passed passed, $failed failed"
 [ "$failed" = 0 ]

@@ -1,6 +1,6 @@
 /* short [FILES]: every call with buffers of every short length, from 0 to a little beyond what is needed, each a heap block of exactly that length, so that
    valgrind sees any access outside. Answers and bytes must be those of the plain engine; an output that is too short, a place not of eight bytes, or parties
-   and reserves not of ten, must give 6 with nothing written. The last line is 'N passed, M failed'. */
+   and reserves not of ten, must give 6 with nothing written, and a fault of a text its number. The last line is 'N passed, M failed'. */
 #include <stdio.h>
 #include <stdlib.h>
 #include <string.h>
@@ -8,6 +8,8 @@
 #include "../include/board.h"
 #include "plain/common.h"
 #include "plain/random.h"
+#include "plain/tables.h"
+#include "plain/text.h"
 
 enum { EVENTS = 48, BEYOND = 10, FILL = 0xA5 };
 
@@ -115,6 +117,70 @@ static void try_image(board_call *proved, plain_call *plain) {
     try_steps(board_recovery_step_headed, plain_recovery_step_headed);
 }
 
+/* What a call that may be refused leaves in a buffer of some length: all of it where it is refused, and what stands behind its bytes where it is not. */
+static void check_rest(board_answer a, const uint8_t *given, size_t length, const char *what) {
+    size_t written = a.refusal == 0 ? (size_t)a.value : 0;
+    for (size_t i = written; i < length; i++)
+        if (given[i] != FILL) check(0, what, length);
+}
+
+/* The tables, with buffers of every length around theirs, and files of every length. */
+static void try_tables(size_t f, size_t out) {
+    uint8_t *lent = block(file, file_len, f), *lent_memory = block(memory, memory_len, memory_len), *given = block(NULL, 0, out);
+    board_answer a = board_tables(lent, f, lent_memory, memory_len, given, out);
+    check(out < TABLES_BYTES ? is_six(a) : a.refusal == 0 && a.value == TABLES_BYTES, "tables", out);
+    check_rest(a, given, out, "behind the tables");
+    free(lent);
+    free(lent_memory);
+    free(given);
+}
+
+/* A text of the first bytes of the file, in a buffer of a length around the one that is asked for; and the record at the front. */
+static void try_text(size_t f, size_t out) {
+    uint8_t *lent = block(file, file_len, f), *given = block(NULL, 0, out), *due = block(NULL, 0, out);
+    board_answer a = board_text(lent, f, given, out);
+    check(agree(a, plain_text(lent, f, due, out)) && memcmp(given, due, out) == 0, "text", f);
+    check_rest(a, given, out, "behind the text");
+    check(agree(board_record(lent, f), plain_record(lent, f)), "record", f);
+    free(lent);
+    free(given);
+    free(due);
+}
+
+/* The first bytes of the file's text, read into a buffer of a length around the one that is asked for. */
+static void try_bytes(const uint8_t *text, size_t n, size_t out) {
+    size_t made, at;
+    uint8_t *lent = block(text, n, n), *given = block(NULL, 0, out), *due = block(NULL, 0, 4 * n + 1);
+    uint8_t fault = plain_read_text(lent, n, due, &made, &at);
+    board_answer a = board_bytes(lent, n, given, out);
+    if (out / 4 < n) check(is_six(a), "bytes into a short buffer", out);
+    else check(a.refusal == fault && (fault != 0 || (a.value == made && memcmp(given, due, made) == 0)), "bytes", n);
+    check_rest(a, given, out, "behind the bytes");
+    check(board_fault_at(lent, n).value == at, "place of a fault", n);
+    free(lent);
+    free(given);
+    free(due);
+}
+
+/* The calls that tell of a run, on inputs and outputs of every length. */
+static void try_telling(void) {
+    uint8_t *text = block(NULL, 0, 32 * file_len);
+    size_t length = (size_t)plain_text(file, file_len, text, 32 * file_len).value;
+    for (size_t n = TABLES_BYTES - BEYOND; n <= TABLES_BYTES + BEYOND; n++) try_tables(file_len, n);
+    for (size_t n = 0; n <= file_len; n++) try_tables(n, TABLES_BYTES);
+    for (size_t n = 0; n <= file_len; n++)
+        for (size_t out = n > 0 ? 32 * n - 1 : 0; out <= 32 * n + 1; out++) try_text(n, out);
+    for (size_t n = 0; n <= length; n++)
+        for (size_t out = n > 0 ? 4 * n - 1 : 0; out <= 4 * n + 1; out++) try_bytes(text, n, out);
+    for (size_t n = 0; n <= image_len; n++) {
+        static plain_contents c;
+        uint8_t *lent = block(image, image_len, n);
+        check(board_recovery_entry(lent, n, n % 4).refusal == plain_read_image(lent, n, 1, &c), "log entry of a step", n);
+        free(lent);
+    }
+    free(text);
+}
+
 /* All calls on the file, which has so many events, over any memory of its lines. */
 static void try_calls(uint64_t seed, size_t events, size_t lines) {
     random_source source = {seed};
@@ -125,6 +191,7 @@ static void try_calls(uint64_t seed, size_t events, size_t lines) {
     try_lengths(board_events, plain_events, "events", answers_len);
     try_image(board_image, plain_image);
     try_image(board_image_headed, plain_image_headed);
+    try_telling();
 }
 
 /* A file of a few threads and lines. */

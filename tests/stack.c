@@ -13,7 +13,8 @@ enum { STACK_BYTES = 8 << 20, PAINT = 0xC7, EVENTS = 20000 };
 
 static const uint8_t memory[PLAIN_LINES * PLAIN_LINE_BYTES], shares[PLAIN_SHARES] = {0, 1, 0, 1, 0, 1, 0, 1, 8, 8};
 static uint8_t file[(EVENTS + 1) * PLAIN_RECORD_BYTES], answers[EVENTS * PLAIN_ANSWER_BYTES], image[2][PLAIN_IMAGE_BYTES]; /* the old and the new one */
-static size_t file_len, image_len[2];
+static uint8_t tables[BOARD_TABLES_BYTES], text[BOARD_TEXT_BYTES(sizeof file)], bytes[BOARD_FILE_BYTES(sizeof text)];
+static size_t file_len, image_len[2], text_len;
 static volatile uint64_t answered; /* so that no call is left out */
 
 static void no_call(void) {}
@@ -34,6 +35,13 @@ static void headed_recovery_calls(void) {
         while (board_recovery_step_headed(image[headed], image_len[headed], place, sizeof place).value == 1) answered++;
     }
 }
+
+static void entry_call(void) { answered += board_recovery_entry(image[1], image_len[1], 3).value; }
+static void record_call(void) { answered += board_record(file, file_len).value; }
+static void tables_call(void) { answered += board_tables(file, file_len, memory, sizeof memory, tables, sizeof tables).value; }
+static void text_call(void) { text_len = (size_t)board_text(file, file_len, text, sizeof text).value; }
+static void bytes_call(void) { answered += board_bytes(text, text_len, bytes, sizeof bytes).value; }
+static void fault_call(void) { answered += board_fault_at(text, text_len).value; }
 
 typedef struct { void (*call)(void); const uint8_t *stack; size_t used; } measure;
 
@@ -64,10 +72,11 @@ static size_t used_by(void (*call)(void)) {
 
 static size_t larger(size_t a, size_t b) { return a > b ? a : b; }
 
-/* In the order in which they are measured: a recovery needs the images. */
+/* In the order in which they are measured: a recovery needs the images, a reader of texts the text. */
 static const struct { const char *name; void (*call)(void); } calls[] = {
     {"board_start", start_call}, {"board_events", events_call}, {"board_image", image_call}, {"board_image_headed", headed_call},
-    {"board_recovery_step", recovery_calls}, {"board_recovery_step_headed", headed_recovery_calls},
+    {"board_recovery_step", recovery_calls}, {"board_recovery_step_headed", headed_recovery_calls}, {"board_recovery_entry", entry_call},
+    {"board_record", record_call}, {"board_tables", tables_call}, {"board_text", text_call}, {"board_bytes", bytes_call}, {"board_fault_at", fault_call},
 };
 
 int main(void) {

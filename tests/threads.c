@@ -9,7 +9,7 @@
 #include "../include/board.h"
 #include "plain/random.h"
 
-enum { WORKERS = 8, FILES = 32, EVENTS = 300, NUMBERS = 4 };
+enum { WORKERS = 8, FILES = 32, EVENTS = 300, NUMBERS = 4, TOLD = 12, TEXT_FILE = 200 };
 
 /* What the calls are lent. */
 typedef struct {
@@ -24,11 +24,18 @@ typedef struct {
     uint8_t saved[PLAIN_IMAGE_BYTES], recovered[PLAIN_IMAGE_BYTES], place[8];
 } form_result;
 
-/* What they gave: refusals and values, the answers, both forms. No byte of it is left unset. */
+/* What those gave that tell of a run: the tables, the text, and the bytes of a text. */
+typedef struct {
+    uint64_t number[TOLD];
+    uint8_t tables[BOARD_TABLES_BYTES], text[BOARD_TEXT_BYTES(TEXT_FILE)], bytes[BOARD_FILE_BYTES(BOARD_TEXT_BYTES(TEXT_FILE))];
+} told_result;
+
+/* What they gave: refusals and values, the answers, both forms, what was told. No byte of it is left unset. */
 typedef struct {
     uint64_t number[NUMBERS];
     uint8_t answers[(EVENTS + 1) * PLAIN_ANSWER_BYTES];
     form_result form[2];
+    told_result told;
 } result;
 
 typedef struct {
@@ -75,6 +82,18 @@ static void run_form(const input *in, image_call *save, step_call *step, form_re
     put_answer(r->number + 2, a);
 }
 
+/* The calls that tell of a run; the readable form of the file's front. */
+static void run_told(const input *in, const form_result *form, told_result *r) {
+    size_t front = in->file_len < TEXT_FILE ? in->file_len : TEXT_FILE;
+    board_answer text = board_text(in->file, front, r->text, sizeof r->text);
+    put_answer(r->number, text);
+    put_answer(r->number + 2, board_bytes(r->text, (size_t)text.value, r->bytes, sizeof r->bytes));
+    put_answer(r->number + 4, board_fault_at(r->text, (size_t)text.value / 2));
+    put_answer(r->number + 6, board_record(in->file, in->file_len));
+    put_answer(r->number + 8, board_tables(in->file, in->file_len, in->memory, in->memory_len, r->tables, sizeof r->tables));
+    put_answer(r->number + 10, board_recovery_entry(form->saved, (size_t)form->number[1], 1));
+}
+
 /* All calls on one file. */
 static void run_calls(const input *in, result *r) {
     memset(r, 0, sizeof *r);
@@ -82,6 +101,7 @@ static void run_calls(const input *in, result *r) {
     put_answer(r->number + 2, board_events(in->file, in->file_len, in->memory, in->memory_len, r->answers, sizeof r->answers));
     run_form(in, board_image, board_recovery_step, &r->form[0]);
     run_form(in, board_image_headed, board_recovery_step_headed, &r->form[1]);
+    run_told(in, &r->form[1], &r->told);
 }
 
 static void *work(void *argument) {

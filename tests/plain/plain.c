@@ -5,6 +5,8 @@
 
 #include "common.h"
 
+int plain_wrong;
+
 /* By kind; 0 for a number that is no kind's. */
 static const size_t record_length[] = {PLAIN_RECORD_BYTES, 2, 2, 4, PLAIN_WRITE_RECORD, 2, 2, 2, 1, 0, PLAIN_BYTES_RECORD};
 
@@ -171,7 +173,7 @@ static uint8_t access_refusal(const plain_engine *e, const event *ev) {
     int needs_log = ev->kind == EVENT_WRITE && !same(owner, region);
     if (owner.thread != region.thread && is_open(e, owner)) return 17;
     if (ev->kind == EVENT_WRITE && is_being_read(e, ev->line, ev->thread)) return 25;
-    if (needs_log && e->locked[ev->line]) return 18;
+    if (needs_log && e->locked[ev->line] && plain_wrong != WRONG_LOCK) return 18;
     if (!same(owner, region) && find_listed(e, owner) >= 0) {
         const plain_listed *entry = &e->listed[find_listed(e, region)];
         if (!holds(entry, owner) && entry->held == PLAIN_HELD) return 19;
@@ -202,7 +204,7 @@ static void fly(plain_engine *e, plain_region r) {
     for (int i = 0; i < PLAIN_SLOTS; i++) {
         plain_slot *s = &m->slot[i];
         if (s->state != SLOT_WAITING || e->locked[s->line]) continue;
-        if (s->count < PLAIN_COUNT && !m->ended) continue;
+        if (s->count < PLAIN_COUNT - (plain_wrong == WRONG_COUNT) && !m->ended) continue;
         s->state = SLOT_IN_FLIGHT;
         e->flight[s->line] = r;
         e->carried[s->line] = e->current[s->line];
@@ -242,10 +244,20 @@ static uint64_t commit_all(plain_engine *e) {
     }
 }
 
+/* The wrong way to be done: slots that wait leave their lines unlocked, and flights are forgotten. */
+static void give_up_slots(plain_engine *e, plain_modified *m) {
+    for (int i = 0; i < PLAIN_SLOTS; i++) {
+        if (m->slot[i].state == SLOT_WAITING) e->locked[m->slot[i].line] = 0;
+        if (m->slot[i].state == SLOT_IN_FLIGHT) e->flight[m->slot[i].line].number = 0;
+        m->slot[i].state = SLOT_EMPTY;
+    }
+}
+
 /* After a slot of the region was emptied or the region ended: done if it may be, then the commits. */
 static uint64_t settle(plain_engine *e, plain_region r) {
     plain_modified *m = modified_of(e, r);
     if (!m->ended) return 0;
+    if (plain_wrong == WRONG_COMMIT) give_up_slots(e, m);
     for (int i = 0; i < PLAIN_SLOTS; i++)
         if (m->slot[i].state != SLOT_EMPTY) return 0;
     m->number = 0;
@@ -285,7 +297,7 @@ static void join_owner(plain_engine *e, plain_region r, plain_region owner) {
 }
 
 static uint64_t apply_read(plain_engine *e, const event *ev) {
-    join_owner(e, newest(e, ev->thread), e->owner[ev->line]);
+    if (plain_wrong != WRONG_READ) join_owner(e, newest(e, ev->thread), e->owner[ev->line]);
     e->reader[ev->line][ev->thread] = newest(e, ev->thread).number;
     return e->current[ev->line].word[ev->word];
 }

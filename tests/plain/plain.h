@@ -89,6 +89,17 @@ typedef struct {
     plain_line carried[PLAIN_LINES];
 } plain_engine;
 
+/* Ways for the engine to be wrong, to try what should find them; 0 is right. */
+enum {
+    WRONG_COMMIT = 1, /* a region that ended counts as done with its slots not empty, which are given up */
+    WRONG_LOCK,       /* a write that needs a log entry is not refused on a locked line */
+    WRONG_COUNT,      /* a slot flies at count 3 */
+    WRONG_READ,       /* a read brings no dependence */
+    WRONG_SAVE,       /* an image has the log entries that are in flight too */
+    WRONG_WALK        /* recovery undoes oldest first */
+};
+extern int plain_wrong;
+
 /* An engine before setup, over zero memory or over lent memory, which setup copies. */
 void plain_init(plain_engine *engine);
 void plain_init_lent(plain_engine *engine, const uint8_t *memory, size_t memory_len);

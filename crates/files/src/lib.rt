@@ -1,4 +1,4 @@
-// The run of an event file over lent starting memory: its answers, and the image that its cut left.
+// The run of an event file over lent starting memory: its answers, the image that its cut left, and the tables after it.
 use measures::LINE_WORDS;
 use measures::Lines;
 use measures::Locks;
@@ -22,6 +22,7 @@ ghost use Rattle.rules.specs.Run.{eventsCall, runFile};
 ghost use Rattle.rules.specs.Image.{imageCall};
 ghost use Rattle.rules.specs.Tables.{Lent};
 ghost use Rattle.headed.specs.Image.{imageHeadedCall};
+ghost use Rattle.listing.specs.Layout.{tablesCall};
 ghost use Rattle.rows.specs.Whole.{boardLeft, boardWas};
 ghost use Rattle.saving.specs.Image.{saveAs};
 ghost use Rattle.files.specs.Parts.{Puts, Runs, sizeOf, wrote};
@@ -29,7 +30,7 @@ ghost use Rattle.files.specs.Parts.{Puts, Runs, sizeOf, wrote};
 // ---- records
 
 // The bytes of the record at the front; one that ends its file takes the rest of it.
-fn record_size(bytes: &[u8]) -> usize
+pub fn record_size(bytes: &[u8]) -> usize
     ensures { λ r. ⌜ r ≡ sizeOf (was bytes) ⌝ }
 {
     let n = events::record_length(bytes);
@@ -204,4 +205,38 @@ pub fn run_image_headed(file: &[u8], memory: &[u8], image: &mut [u8]) -> Answer
     ensures { λ r. ⌜ wrote r (left image) ≡ imageHeadedCall (was file) (was memory) (was image) ⌝ }
 {
     image_as(true, file, memory, image)
+}
+
+// The tables after an event file over lent starting memory, in the layout of crate listing: 6 if the buffer is shorter than their bytes.
+pub fn run_tables(file: &[u8], memory: &[u8], tables: &mut [u8]) -> Answer
+    ensures { λ r. ⌜ wrote r (left tables) ≡ tablesCall (was file) (was memory) (was tables) ⌝ }
+{
+    let head = starting::fresh_head(false, memory.len() as u64);
+    let mut threads = [[0u64; THREAD_NUMBERS]; MOST_THREADS];
+    let mut regions = [[0u32; REGION_NUMBERS]; MOST_REGIONS];
+    let mut owner = [0u32; MOST_LINES];
+    let mut lock = [false; MOST_LINES];
+    let mut cur = [[0u64; LINE_WORDS]; MOST_LINES];
+    let mut med = [[0u64; LINE_WORDS]; MOST_LINES];
+    let mut old = [[0u64; LINE_WORDS]; MOST_LOGGED];
+    let mut car = [[0u64; LINE_WORDS]; MOST_LINES];
+    starting::load(memory, &mut cur);
+    starting::load(memory, &mut med);
+    let n = record_count(file);
+    let mut none = [0u8; 1];
+    let after = run_records(
+        head,
+        &mut threads,
+        &mut regions,
+        &mut owner,
+        &mut lock,
+        &mut cur,
+        &mut med,
+        &mut old,
+        &mut car,
+        file,
+        n,
+        &mut none,
+    );
+    listing::put_tables(after, &threads, &regions, &owner, &lock, tables)
 }

@@ -1,5 +1,5 @@
 -- Bytes put into a room, one behind the other.
-use Prim.Native.Nat.{_+_, _<_, _≤_, suc, ℕ}
+use Prim.Native.Nat.{_%_, _+_, _-_, _/_, _<_, _≤_, suc, ℕ}
 use mathlib.Core.Path.{_∙_, _≡_, ap, refl, sym}
 use mathlib.Core.Bool.{cond, false, true}
 use mathlib.Core.List.{List, [], _++_, _∷_, append-assoc, append-nil}
@@ -12,6 +12,7 @@ use lib.Seq.{drop-cons, set-append-seam, take-all, take-append-seam, take-nil}
 use native.Mathlib.Nat.{add-suc, add-zero, suc-add, zero-add}
 use Rattle.output.specs.Room.{Room, filled, put, puts, room}
 use Rattle.output.specs.declared.Cursor.{Cursor}
+use Rattle.rules.specs.Bytes.{bytesOf}
 use Rattle.undo.proofs.Laws.{test}
 
 pub put-in : (d : List ℕ) (c : Cursor) (b : ℕ) → c .at < length d → puts (room d c) (b ∷ []) ≡ room (set d (c .at) b) (record { at = c .at + 1; short = c .short })
@@ -103,3 +104,12 @@ filled-front d d′ bs c e h =
 
 pub put-front : (d d′ bs : List ℕ) (c : Cursor) → room d′ c ≡ puts (room d (record { at = 0; short = false })) bs → length bs ≤ length d → take (c .at) d′ ≡ bs
 put-front d d′ bs c e h = filled-front d d′ bs c (e ∙ puts-filled d bs) h
+
+-- one more byte of a number of w bytes
+pub le-next : (r : Room) (w k x : ℕ) → k < w → puts r (bytesOf (w - k) x) ≡ puts (puts r (x % 256 ∷ [])) (bytesOf (w - (k + 1)) (x / 256))
+unfolding bytesOf puts
+le-next r w k x h = let e : w - k ≡ suc (w - suc k) = omega arith in rw (e, add-one k)
+
+pub le-end : (r : Room) (w k x : ℕ) → w ≤ k → puts r (bytesOf (w - k) x) ≡ r
+unfolding bytesOf puts
+le-end r w k x h = let e : w - k ≡ 0 = omega arith in rw e

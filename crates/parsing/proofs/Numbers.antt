@@ -1,6 +1,7 @@
 -- Numbers read from their digits, and put as bytes.
 use Prim.Native.Nat.{_%_, _*_, _+_, _-_, _/_, _<_, _≤_, suc, ℕ}
 use mathlib.Core.Path.{_≡_, refl}
+use mathlib.Core.Bool.{Bool, false, true}
 use mathlib.Core.List.{List, [], _∷_}
 use lib.Dec.{eqb}
 use lib.ListN.{drop, drop-of-length-le, getD, length}
@@ -9,6 +10,7 @@ use native.Mathlib.Numerals.{add-one}
 use borrow.Author.Tests.{le-leb, le-ltb, lt-leb, lt-ltb, ne-eqb}
 use lib.Seq.{drop-cons}
 use Rattle.rules.specs.Bytes.{bytesOf}
+use Rattle.rules.specs.Lists.{all}
 use Rattle.parsing.specs.Read.{mostOf, numberFrom, numberIn, withDigit}
 use Rattle.output.specs.Room.{Room, puts}
 use Rattle.parsing.specs.declared.Number.{Number}
@@ -49,15 +51,19 @@ pub digit-end : (m : ℕ) (n : Number) (s : List ℕ) (i : ℕ) → length s ≤
 unfolding numberFrom
 digit-end m n s i h = rw (drop-of-length-le s h)
 
--- one more byte of a number of w bytes
-pub le-next : (r : Room) (w k x : ℕ) → k < w → puts r (bytesOf (w - k) x) ≡ puts (puts r (x % 256 ∷ [])) (bytesOf (w - (k + 1)) (x / 256))
-unfolding bytesOf puts
-le-next r w k x h = let e : w - k ≡ suc (w - suc k) = omega arith in rw (e, add-one k)
-
-pub le-end : (r : Room) (w k x : ℕ) → w ≤ k → puts r (bytesOf (w - k) x) ≡ r
-unfolding bytesOf puts
-le-end r w k x h = let e : w - k ≡ 0 = omega arith in rw e
-
 pub number-some : (w : ℕ) (s : List ℕ) → (w ≡ 0 → ⊥) → numberIn w s ≡ numberFrom (mostOf w) (Is 0) s
 unfolding numberIn
 number-some w s h = rw (ne-eqb w 0 h)
+
+-- ---- a word of digits, byte by byte
+
+module _ (p : ℕ → Bool) (i : ℕ) (xs : List ℕ) where
+  pub all-end : length xs ≤ i → all p (drop i xs) ≡ true
+  all-end h = rw (drop-of-length-le xs h)
+
+  module _ (d : ℕ) (h : i < length xs) where
+    pub all-not : p (getD xs i d) ≡ false → all p (drop i xs) ≡ false
+    all-not e = rw (drop-cons xs i d h, e)
+
+    pub all-on : p (getD xs i d) ≡ true → all p (drop (i + 1) xs) ≡ all p (drop i xs)
+    all-on e = rw (add-one i, drop-cons xs i d h, e)

@@ -80,14 +80,14 @@ reads-behind g h bs d m x c q r e p l = record { written = rw (e, puts-join, ←
 pub glued-line : (c : ℕ) (l : List ℕ) (ls : List (List ℕ)) (m : List (List ℕ)) → m ≡ l ∷ ls → glued c m ≡ (c ∷ l) ∷ ls
 glued-line c l ls m e = rw e
 
-pub lines-at : (c : ℕ) (cs : List ℕ) → linesOf (c ∷ cs) ≡ take (place (stops 2) (c ∷ cs)) (c ∷ cs) ∷ linesOf (drop (suc (place (stops 2) (c ∷ cs))) (c ∷ cs))
+lines-at : (c : ℕ) (cs : List ℕ) → linesOf (c ∷ cs) ≡ take (place (stops 2) (c ∷ cs)) (c ∷ cs) ∷ linesOf (drop (suc (place (stops 2) (c ∷ cs))) (c ∷ cs))
 unfolding linesOf place stops
 lines-at c [] = test (eqb c 10) (λ e. rw e) (λ e. rw e)
 lines-at c (d ∷ ds) = let ih = lines-at d ds in test (eqb c 10) (λ e. rw e) (λ e. rw e (glued-line c _ _ _ ih))
 
-pub text-line : (text : List ℕ) (at end : ℕ) → at < length text → end ≡ at + place (stops 2) (drop at text) → bytesOfText (drop at text) ≡ lineThen (wordsRead (wordsIn (take (end - at) (drop at text)))) (bytesOfText (drop (end + 1) text))
-unfolding bytesOfText linesRead
-text-line text at end h e =
+-- the line at a place, and those behind it
+pub lines-next : (text : List ℕ) (at end : ℕ) → at < length text → end ≡ at + place (stops 2) (drop at text) → linesOf (drop at text) ≡ take (end - at) (drop at text) ∷ linesOf (drop (end + 1) text)
+lines-next text at end h e =
     let l = drop at text in
     let n = place (stops 2) l in
     let m : end - at ≡ n = omega arith in
@@ -95,16 +95,14 @@ text-line text at end h e =
     let s : linesOf l ≡ take n l ∷ linesOf (drop (suc n) l) = rw (drop-cons text at 0 h) (lines-at (getD text at 0) (drop (suc at) text)) in
     rw (m, u, ← drop-drop (suc n) at text, s)
 
+pub text-line : (text : List ℕ) (at end : ℕ) → at < length text → end ≡ at + place (stops 2) (drop at text) → bytesOfText (drop at text) ≡ lineThen (wordsRead (wordsIn (take (end - at) (drop at text)))) (bytesOfText (drop (end + 1) text))
+unfolding bytesOfText linesRead
+text-line text at end h e = rw (lines-next text at end h e)
+
 -- the same of the lines in the form
 pub good-line : (text : List ℕ) (at end : ℕ) → at < length text → end ≡ at + place (stops 2) (drop at text) → goodBytes (drop at text) ≡ goodThen (wordsRead (wordsIn (take (end - at) (drop at text)))) (goodBytes (drop (end + 1) text))
 unfolding goodBytes goodOf
-good-line text at end h e =
-    let l = drop at text in
-    let n = place (stops 2) l in
-    let m : end - at ≡ n = omega arith in
-    let u : end + 1 ≡ at + suc n = omega arith in
-    let s : linesOf l ≡ take n l ∷ linesOf (drop (suc n) l) = rw (drop-cons text at 0 h) (lines-at (getD text at 0) (drop (suc at) text)) in
-    rw (m, u, ← drop-drop (suc n) at text, s)
+good-line text at end h e = rw (lines-next text at end h e)
 
 pub good-none : (text : List ℕ) (at : ℕ) → length text ≤ at → goodBytes (drop at text) ≡ []
 unfolding goodBytes linesOf goodOf

@@ -12,7 +12,7 @@ use Rattle.events.specs.Row.{isWidth}
 use Rattle.rules.proofs.Codec.Bytes.{length-bytes}
 use Rattle.output.specs.Room.{Room, filled, room}
 use Rattle.parsing.proofs.Lines.{good-front}
-use Rattle.parsing.specs.Read.{Got, Text, behind, bytesLine, bytesOfText, field, fieldsFrom, glued, goodBytes, got, inWord, kindBytes, kindOf, kindThen, lineThen, linesOf, linesRead, noWord, numberIn, readAs, widthAt, wordsIn, wordsRead}
+use Rattle.parsing.specs.Read.{Got, Text, behind, bytesLine, bytesOfText, field, fieldsFrom, glued, goodBytes, got, inWord, isSpace, kindBytes, kindOf, kindThen, lineThen, linesOf, linesRead, noWord, numberIn, readAs, widthAt, wordsIn, wordsRead}
 use Rattle.parsing.specs.Results.{TextReadAs}
 use Rattle.parsing.specs.declared.Number.{Number}
 use Rattle.parsing.specs.declared.Number.the-variants.{Is, Not}
@@ -34,7 +34,7 @@ few [] = (omega arith, λ e. omega arith)
 few (c ∷ cs) =
     let ih = few cs in
     test (eqb c 35) (λ a. rw a (omega arith, λ e. omega arith))
-    (λ a. test (eqb c 32) (λ b. rw (a, b) (omega (arith, ih .0), λ e. omega (arith, ih .0)))
+    (λ a. test (isSpace c) (λ b. rw (a, b) (omega (arith, ih .0), λ e. omega (arith, ih .0)))
     (λ b. test (inWord cs) (λ w. rw (a, b, w) (glued-few c (wordsIn cs) (length cs) (ih .0), λ e. absurd (true≢false e)))
     (λ w. rw (a, b, w) (omega (arith, ih .1 w), λ e. absurd (true≢false e)))))
 

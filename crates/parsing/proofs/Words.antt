@@ -12,7 +12,8 @@ use lib.Seq.{drop-cons, drop-drop, getD-drop}
 use Rattle.lookup.proofs.Bounds.{place-passes}
 use Rattle.rules.proofs.Lists.{place-le}
 use Rattle.rules.specs.Lists.{place}
-use Rattle.parsing.specs.Read.{glued, inWord, isBreak, same, stops, wordsIn}
+use Rattle.parsing.specs.Fault.{wordEnd, wordStart}
+use Rattle.parsing.specs.Read.{glued, inWord, isBreak, isSpace, same, stops, wordsIn}
 use Rattle.parsing.specs.Results.{NextWord}
 use Rattle.undo.proofs.Laws.{or-false, test}
 
@@ -40,18 +41,21 @@ same-end a b i h k = rw (drop-of-length-le a h, drop-of-length-le b k)
 -- ---- words of a line
 
 -- spaces are passed
-pub space-passed : (cs : List ℕ) → wordsIn (32 ∷ cs) ≡ wordsIn cs
+no-comment : (c : ℕ) → isSpace c ≡ true → eqb c 35 ≡ false
+no-comment c s = test (eqb c 35) (λ e. absurd (false≢true (rw (eqb-true c 35 e) at s))) (λ e. e)
+
+pub space-passed : (c : ℕ) (cs : List ℕ) → isSpace c ≡ true → wordsIn (c ∷ cs) ≡ wordsIn cs
 unfolding wordsIn
-space-passed cs = refl
+space-passed c cs s = rw (no-comment c s, s)
 
 words-skip : (l : List ℕ) → wordsIn l ≡ wordsIn (drop (place (stops 0) l) l)
 unfolding place stops
 words-skip [] = refl
-words-skip (c ∷ cs) = test (eqb c 32) (λ e. rw (eqb-true c 32 e) (space-passed cs ∙ words-skip cs)) (λ e. rw e)
+words-skip (c ∷ cs) = test (isSpace c) (λ e. space-passed c cs e ∙ rw e (words-skip cs)) (λ e. rw e)
 
 pub word-start : (c : ℕ) (cs : List ℕ) → isBreak c ≡ false → wordsIn (c ∷ cs) ≡ cond (inWord cs) (glued c (wordsIn cs)) ((c ∷ []) ∷ wordsIn cs)
 unfolding wordsIn
-word-start c cs n = let b = or-false (eqb c 32) (eqb c 35) n in rw (b .1, b .0)
+word-start c cs n = let b = or-false (isSpace c) (eqb c 35) n in rw (b .1, b .0)
 
 -- a word, up to the byte that ends it
 words-word : (c : ℕ) (cs : List ℕ) → isBreak c ≡ false → wordsIn (c ∷ cs) ≡ (c ∷ take (place (stops 1) cs) cs) ∷ wordsIn (drop (place (stops 1) cs) cs)
@@ -84,8 +88,19 @@ module _ (line : List ℕ) (at s : ℕ) (f : s ≡ at + place (stops 0) (drop at
   starts-in : at ≤ length line → s ≤ length line
   starts-in h = omega (arith, place-le (stops 0) (drop at line), length-drop at line)
 
+  start-at : s ≡ at + wordStart 0 (drop at line)
+  unfolding wordStart
+  start-at = f
+
+  end-at : (e : ℕ) → e ≡ s + place (stops 1) (drop s line) → e ≡ at + wordEnd (drop at line)
+  unfolding wordEnd
+  end-at e g =
+      let p = place (stops 0) (drop at line) in
+      let h : e ≡ (at + p) + place (stops 1) (drop p (drop at line)) = rw (drop-drop p at line, ← f) g in
+      omega arith
+
   no-more : at ≤ length line → wordsIn (drop s line) ≡ [] → NextWord line at (record { start = s; end = s })
-  no-more h e = record { behind = omega arith; before = omega arith; inside = starts-in h; none = λ z. words-from ∙ e; some = λ z. absurd (omega arith) }
+  no-more h e = record { behind = omega arith; before = omega arith; inside = starts-in h; none = λ z. words-from ∙ e; some = λ z. absurd (omega arith); starts = start-at; ends = λ z. absurd (omega arith) }
 
   pub at-end : at ≤ length line → length line ≤ s → NextWord line at (record { start = s; end = s })
   at-end h l = no-more h (rw (drop-of-length-le line l) words-empty)
@@ -93,12 +108,12 @@ module _ (line : List ℕ) (at s : ℕ) (f : s ≡ at + place (stops 0) (drop at
   pub at-comment : at ≤ length line → s < length line → getD line s 0 ≡ 35 → NextWord line at (record { start = s; end = s })
   at-comment h l e = no-more h (rw (drop-cons line s 0 l, e) (words-comment _))
 
-  not-space : s < length line → eqb (getD line s 0) 32 ≡ false
+  not-space : s < length line → isSpace (getD line s 0) ≡ false
   unfolding stops
   not-space l =
       let n : place (stops 0) (drop at line) < length (drop at line) = omega (arith, length-drop at line) in
       let p = rw (getD-drop at line (place (stops 0) (drop at line)) 0, ← f) at (place-passes (stops 0) (drop at line) 0 n) in
-      test (eqb (getD line s 0) 32) (λ e. absurd (false≢true (rw e at p))) (λ e. e)
+      test (isSpace (getD line s 0)) (λ e. absurd (false≢true (rw e at p))) (λ e. e)
 
   no-break : s < length line → (getD line s 0 ≡ 35 → ⊥) → isBreak (getD line s 0) ≡ false
   no-break l n = rw (not-space l, ne-eqb (getD line s 0) 35 n)
@@ -113,4 +128,4 @@ module _ (line : List ℕ) (at s : ℕ) (f : s ≡ at + place (stops 0) (drop at
       let m : e - s ≡ suc k = omega arith in
       let t : take (e - s) (drop s line) ≡ c ∷ take k cs = rw (m, drop-cons line s 0 l) in
       let r : drop e line ≡ drop k cs = rw (u, ← drop-drop (suc k) s line, drop-cons line s 0 l) in
-      record { behind = omega arith; before = omega arith; inside = omega (arith, place-le (stops 1) (drop s line), length-drop s line); none = λ z. absurd (omega arith); some = λ z. w ∙ rw (t, r) }
+      record { behind = omega arith; before = omega arith; inside = omega (arith, place-le (stops 1) (drop s line), length-drop s line); none = λ z. absurd (omega arith); some = λ z. w ∙ rw (t, r); starts = start-at; ends = λ z. end-at e g }

@@ -1,3 +1,4 @@
 pub mod Read
+pub mod Fault
 pub mod Results
 pub mod Claim

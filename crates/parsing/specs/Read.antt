@@ -20,9 +20,13 @@ unfoldable pub linesOf : List ℕ → List (List ℕ)
 linesOf [] = []
 linesOf (c ∷ cs) = cond (eqb c 10) ([] ∷ linesOf cs) (glued c (linesOf cs))
 
+-- a byte that stands between words: a space, a tab or a carriage return
+abbrev pub isSpace : ℕ → Bool
+isSpace c = eqb c 32 || (eqb c 9 || eqb c 13)
+
 -- a byte that ends a word: a space, or '#'
 abbrev pub isBreak : ℕ → Bool
-isBreak c = eqb c 32 || eqb c 35
+isBreak c = isSpace c || eqb c 35
 
 -- a word goes on
 abbrev pub inWord : List ℕ → Bool
@@ -34,11 +38,11 @@ unfoldable pub wordsIn : List ℕ → List (List ℕ)
 wordsIn [] = []
 wordsIn (c ∷ cs) =
     cond (eqb c 35) []
-    (cond (eqb c 32) (wordsIn cs) (cond (inWord cs) (glued c (wordsIn cs)) ((c ∷ []) ∷ wordsIn cs)))
+    (cond (isSpace c) (wordsIn cs) (cond (inWord cs) (glued c (wordsIn cs)) ((c ∷ []) ∷ wordsIn cs)))
 
 -- where a search of a line or a text stops: 0 at a byte that is no space, 1 at the end of a word, any other at a newline
 unfoldable pub stops : ℕ → ℕ → Bool
-stops what c = cond (eqb what 0) (not (eqb c 32)) (cond (eqb what 1) (isBreak c) (eqb c 10))
+stops what c = cond (eqb what 0) (not (isSpace c)) (cond (eqb what 1) (isBreak c) (eqb c 10))
 
 unfoldable pub same : List ℕ → List ℕ → Bool
 same [] [] = true

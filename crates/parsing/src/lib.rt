@@ -1,20 +1,42 @@
-// Event files out of their readable form: lines of a word and numbers, spaces between them, '#' in front of a comment.
+// Event files out of their readable form: lines of a word and numbers, spaces, tabs or carriage returns between them, '#' in front of a comment.
 use output::Cursor;
 ghost use Prim.Native.Nat.{_+_, _%_, _≤_};
 ghost use mathlib.Core.Path.{_≡_};
 ghost use lib.ListN.{length, drop};
 ghost use Rattle.rules.specs.Bytes.{bytesOf};
 ghost use Rattle.rules.specs.Kinds.{kindAt};
-ghost use Rattle.rules.specs.Lists.{place};
+ghost use Rattle.rules.specs.Lists.{all, place};
 ghost use Rattle.output.specs.Room.{room, puts};
-ghost use Rattle.parsing.specs.Results.{NextWord, ReadsAs, TextReadAs};
-ghost use Rattle.parsing.specs.Read.{stops, same, isName, kindOf, otherLine, mostOf, withDigit, numberIn, widthAt, complete};
-ghost use Rattle.parsing.specs.Read.{wordsIn, fieldsFrom, kindBytes, wordsRead, bytesOfText, goodBytes, lastLine};
+ghost use Rattle.parsing.specs.Results.{Finds, NextWord, ReadsAs, TextReadAs};
+ghost use Rattle.parsing.specs.Read.{isSpace, stops, same, isName, kindOf, otherLine, mostOf, withDigit, numberIn, widthAt, complete};
+ghost use Rattle.parsing.specs.Read.{wordsIn, fieldsFrom, kindBytes, wordsRead, bytesOfText, goodBytes, lastLine, isDigit};
+ghost use Rattle.parsing.specs.Fault.{wordFault, fieldFault, wordsFault, faultOf};
 
 // Lines that are no event: bytes as they stand, and a first word that means nothing. No kind has these numbers.
 const BYTES_LINE: u8 = 254;
 
 const NO_WORD: u8 = 255;
+
+// The kinds of fault of a text; 0 is none. The first word of a line is no kind's and not `bytes`.
+pub const UNKNOWN_WORD: u8 = 1;
+
+// A word where a number is due has a byte that is no digit.
+pub const NOT_NUMBER: u8 = 2;
+
+// A number is above the most of its field.
+pub const OUT_OF_RANGE: u8 = 3;
+
+// A line ends before all its numbers.
+pub const MISSING_NUMBER: u8 = 4;
+
+// A word stands behind the last number of a line.
+pub const EXTRA_NUMBER: u8 = 5;
+
+// The first fault of a text, and its place.
+pub struct Fault {
+    pub kind: u8,
+    pub at: usize,
+}
 
 // What a word means as a number.
 pub enum Number {
@@ -43,15 +65,29 @@ pub struct TextRead {
     pub ok: bool,
 }
 
+// Whether a byte stands between words.
+fn is_space(b: u8) -> bool
+    ensures { λ r. ⌜ r ≡ isSpace b ⌝ }
+{
+    if b == 32 {
+        return true;
+    }
+    if b == 9 {
+        return true;
+    }
+    b == 13
+}
+
 // Whether a search stops at a byte.
 fn stop(what: u8, b: u8) -> bool
     ensures { λ r. ⌜ r ≡ stops what b ⌝ }
 {
+    let space = is_space(b);
     if what == 0 {
-        return b != 32;
+        return !space;
     }
     if what == 1 {
-        if b == 32 {
+        if space {
             return true;
         }
         return b == 35;
@@ -216,28 +252,6 @@ fn number_in(word: &[u8], w: usize) -> Number
     Number::Is(v)
 }
 
-// The low byte of a number.
-fn low(x: u64) -> u8
-    ensures { λ r. ⌜ r ≡ x % 256 ⌝ }
-{
-    (x % 256) as u8
-}
-
-// A number in w bytes, the low one first.
-fn put_le(out: &mut [u8], c: Cursor, x: u64, w: usize) -> Cursor
-    ensures { λ r. ⌜ room (now (out .exit)) r ≡ puts (room (now (out .entry)) c) (bytesOf w x) ⌝ }
-{
-    let mut q = c;
-    let mut y = x;
-    let mut k: usize = 0;
-    while k < w {
-        q = output::put_byte(out, q, low(y));
-        y = y / 256;
-        k += 1;
-    }
-    q
-}
-
 // The fields of a line from `from` on.
 fn read_fields(line: &[u8], from: usize, kind: u8, out: &mut [u8], c: Cursor) -> LineRead
     requires { ⌜ from ≤ length (now line) ⌝ }
@@ -264,7 +278,7 @@ fn read_fields(line: &[u8], from: usize, kind: u8, out: &mut [u8], c: Cursor) ->
                 ok: false,
             };
         };
-        q = put_le(out, q, v, w);
+        q = output::put_le(out, q, v, w);
         at = end;
         f += 1;
     }
@@ -335,6 +349,124 @@ pub fn read_text(text: &[u8], out: &mut [u8]) -> TextRead
         good: q.at,
         lines,
         ok: true,
+    }
+}
+
+// Whether a byte is a digit.
+fn is_digit(b: u8) -> bool
+    ensures { λ r. ⌜ r ≡ isDigit b ⌝ }
+{
+    if b < 48 {
+        return false;
+    }
+    b < 58
+}
+
+// Whether all bytes of a word are digits.
+fn all_digits(word: &[u8]) -> bool
+    ensures { λ r. ⌜ r ≡ all isDigit (now (word .entry)) ⌝ }
+{
+    let mut i: usize = 0;
+    while i < word.len() {
+        if !is_digit(word[i]) {
+            return false;
+        }
+        i += 1;
+    }
+    true
+}
+
+// The fault of a word where a number of w bytes is due.
+fn word_fault(word: &[u8], w: usize) -> u8
+    ensures { λ r. ⌜ r ≡ wordFault w (now (word .entry)) ⌝ }
+{
+    let n = number_in(word, w);
+    let Number::Not = n else {
+        return 0;
+    };
+    if w == 0 {
+        return EXTRA_NUMBER;
+    }
+    if all_digits(word) {
+        return OUT_OF_RANGE;
+    }
+    NOT_NUMBER
+}
+
+// The first fault in the fields of a line from `from` on.
+fn field_fault(line: &[u8], from: usize, kind: u8) -> Fault
+    requires { ⌜ from ≤ length (now line) ⌝ }
+    ensures { λ r. ⌜ Finds (fieldFault kind 0 (wordsIn (drop from (now (line .entry))))) (now (line .entry)) from r ⌝ }
+{
+    let mut at = from;
+    let mut f: usize = 0;
+    loop {
+        let word = next_word(line, at);
+        let start = word.start;
+        let end = word.end;
+        if start == end {
+            let fault = if is_complete(kind, f) {
+                0
+            } else {
+                MISSING_NUMBER
+            };
+            return Fault {
+                kind: fault,
+                at: start,
+            };
+        }
+        let w = width_at(kind, f);
+        let fault = word_fault(&line[start..end], w);
+        if fault != 0 {
+            return Fault {
+                kind: fault,
+                at: start,
+            };
+        }
+        at = end;
+        f += 1;
+    }
+}
+
+// The first fault of a line.
+fn line_fault(line: &[u8]) -> Fault
+    ensures { λ r. ⌜ Finds (wordsFault (wordsIn (now (line .entry)))) (now (line .entry)) 0 r ⌝ }
+{
+    let word = next_word(line, 0);
+    let start = word.start;
+    let end = word.end;
+    if start == end {
+        return Fault { kind: 0, at: 0 };
+    }
+    let kind = kind_of(&line[start..end]);
+    if kind == NO_WORD {
+        return Fault {
+            kind: UNKNOWN_WORD,
+            at: start,
+        };
+    }
+    field_fault(line, end, kind)
+}
+
+// The first fault of a text; the place is the end of the text where it has none.
+pub fn first_fault(text: &[u8]) -> Fault
+    ensures { λ r. ⌜ r ≡ faultOf (now (text .entry)) ⌝ }
+{
+    let mut at: usize = 0;
+    while at < text.len() {
+        let end = find(text, at, 2);
+        let f = line_fault(&text[at..end]);
+        if f.kind != 0 {
+            return Fault {
+                kind: f.kind,
+                at: at + f.at,
+            };
+        }
+        at = end + 1;
+    }
+    Fault {
+        kind: 0,
+        at: text.len(),
     }
 }
 

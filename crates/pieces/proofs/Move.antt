@@ -1,7 +1,6 @@
 -- One byte more goes to the front, and what stands there in the end.
 use Prim.Native.Nat.{_+_, _-_, _<_, _≤_, suc, zero, ℕ}
 use mathlib.Core.Path.{_∙_, _≡_, refl, sym}
-use mathlib.Core.Bool.{Bool, false, true}
 use mathlib.Core.List.{List, [], _∷_, append-assoc}
 use lib.Dec.{leb}
 use lib.ListN.{drop, getD, length, length-drop, length-take, set, take}
@@ -10,6 +9,7 @@ use native.Mathlib.Numerals.{add-one}
 use borrow.Author.Tests.{le-leb, leb-false, leb-true, lt-leb}
 use lib.Seq.{drop-cons, getD-append-add, getD-drop, length-take-le, set-at, take-all, take-at, take-nil, take-suc, take-take}
 use native.Mathlib.Nat.{add-comm}
+use Rattle.undo.proofs.Laws.{test}
 use Rattle.pieces.specs.Shift.{Refilled, moved, shifted}
 
 pub shifted-none : (d : List ℕ) (at : ℕ) → shifted d at 0 ≡ d
@@ -61,14 +61,10 @@ shifted-front d at n h =
     let l : length (take (n - at) (drop at d)) ≡ n - at = simp (length-take, length-drop) (omega arith) in
     rw (moved-all d at n h, take-at (take (n - at) (drop at d)) (drop (n - at) d) (n - at) l, drop-take at n d)
 
-either : {A : Type 0} (b : Bool) → (b ≡ true → A) → (b ≡ false → A) → A
-either true f g = f refl
-either false f g = g refl
-
 -- what counts of a refilled buffer begins with what was held
 pub refilled-front : (d d′ : List ℕ) (have r : ℕ) → Refilled d d′ have r → length d′ ≡ length d → take have (take r d′) ≡ take have d
 refilled-front d d′ have r f e =
-    either (leb have (length d))
+    test (leb have (length d))
     (λ h. take-take have r d′ (f .grows (leb-true have (length d) h)) ∙ f .stays)
     (λ h. let k : length d ≤ have = omega (arith, leb-false have (length d) h) in
     rw (take-all r d′ (omega (arith, f .full k))) (f .stays))

@@ -1,2 +1,3 @@
 pub mod Chain
 pub mod Shift
+pub mod Message

@@ -1,7 +1,7 @@
 -- What is left of a piece goes to the front of its buffer, and what is read comes behind it.
 use Prim.Native.Nat.{_-_, _≤_, ℕ}
 use mathlib.Core.Path.{_≡_}
-use mathlib.Core.Bool.{cond}
+use mathlib.Core.Bool.{Bool, cond, true}
 use mathlib.Core.List.{List, _++_}
 use lib.Dec.{leb}
 use lib.ListN.{drop, length, take}
@@ -21,3 +21,8 @@ pub record Refilled (d d′ : List ℕ) (have r : ℕ) : Type 0 where
   pub counts : r ≤ length d′
   pub grows : have ≤ length d → have ≤ r
   pub full : length d ≤ have → r ≡ length d
+
+-- bytes are read behind those that are held; none where the input has ended
+pub record Filled (d d′ : List ℕ) (held : ℕ) (last : Bool) (r : ℕ) : Type 0 where
+  pub refilled : Refilled d d′ held r
+  pub none : last ≡ true → r ≤ held

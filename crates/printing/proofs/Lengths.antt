@@ -1,18 +1,20 @@
 -- How long a text is.
 use Prim.Native.Nat.{_*_, _+_, _-_, _≤_, suc, zero, ℕ}
-use mathlib.Core.Path.{_≡_, ap, refl}
-use mathlib.Core.Bool.{false≢true, true}
-use mathlib.Core.List.{List, [], _++_, _∷_}
+use mathlib.Core.Path.{_∙_, _≡_, ap, refl, sym}
+use mathlib.Core.Bool.{false, false≢true, true}
+use mathlib.Core.List.{List, [], _++_, _∷_, append-nil}
 use lib.ListN.{drop, length, length-append}
 use native.Mathlib.Omega.{arith}
 use native.Mathlib.Nat.{mul-suc}
-use Rattle.events.proofs.Records.{stands, whole-pos, wholes}
+use Rattle.events.proofs.Records.{stands, whole-pos}
 use Rattle.events.proofs.Table.{body-total, fitting}
 use Rattle.events.specs.Row.{isWidth}
+use Rattle.events.specs.Whole.{wholeLength}
 use Rattle.output.proofs.Digits.{decimal-short}
-use Rattle.printing.proofs.Records.{whole-line}
-use Rattle.printing.specs.Text.{lineText, numberText, numbersOf, recordText, wholeText}
-use Rattle.rules.specs.Kinds.{total, widthsOf, wordOf}
+use Rattle.printing.proofs.Pieces.{text-split}
+use Rattle.printing.proofs.Records.{bytes-line, whole-line}
+use Rattle.printing.specs.Text.{lineText, numberText, numbersOf, recordText, textOf, wholeText}
+use Rattle.rules.specs.Kinds.{bytesWord, total, widthsOf, wordOf}
 use Rattle.rules.specs.Lists.{all, flat}
 use Rattle.rules.specs.Record.{bodyLength, isWhole, readRecord, recordsFrom}
 use Rattle.undo.proofs.Laws.{and-true, test}
@@ -56,20 +58,30 @@ record-short b bs w =
     rw (whole-line (b ∷ bs) p)
     (omega (arith, line-short (wordOf b) ns, numbers-count (widthsOf b) bs, fitting b .letters, few (widthsOf b) (fitting b .wide), body-total b))
 
-short : (k : ℕ) (bs : List ℕ) → k ≤ length bs → length (flat recordText (wholes (recordsFrom k bs))) ≤ 32 * (length bs - k)
+-- and so are bytes that are none
+bytes-short : (b : ℕ) (bs : List ℕ) → isWhole (readRecord (b ∷ bs)) ≡ false → length (recordText (b ∷ bs)) ≤ 32 * length (b ∷ bs)
+bytes-short b bs w = rw (bytes-line (b ∷ bs) w) (omega (arith, line-short bytesWord (b ∷ bs)))
+
+short : (k : ℕ) (bs : List ℕ) → k ≤ length bs → length (flat recordText (recordsFrom k bs)) ≤ 32 * (length bs - k)
 unfolding recordsFrom flat
 short k [] h = omega arith
 short (suc k) (b ∷ bs) h = let e : suc (length bs) - suc k ≡ length bs - k = omega arith in rw e (short k bs (omega arith))
 short zero (b ∷ bs) h =
     test (isWhole (readRecord (b ∷ bs)))
     (λ w. let s = stands (b ∷ bs) (whole-pos (b ∷ bs) w) in
-    let rest = flat recordText (wholes (recordsFrom (bodyLength b) bs)) in
+    let rest = flat recordText (recordsFrom (bodyLength b) bs) in
     let l : bodyLength b ≤ length bs = omega (arith, s .room-for) in
     let ih = short (bodyLength b) bs l in
     rw w (omega (arith, length-append (recordText (b ∷ bs)) rest, record-short b bs w, ih, l)))
-    (λ w. rw w (omega arith))
+    (λ w. rw (w, append-nil) (omega (arith, bytes-short b bs w)))
+
+pub text-short : (a : List ℕ) → length (textOf a) ≤ 32 * length a
+unfolding textOf
+text-short a = omega (arith, short 0 a (omega arith))
 
 -- the whole records of a piece
 pub whole-short : (a : List ℕ) → length (wholeText a) ≤ 32 * length a
-unfolding wholeText
-whole-short a = omega (arith, short 0 a (omega arith))
+whole-short a =
+    let rest = textOf (drop (wholeLength a) a ++ []) in
+    let e : length (textOf a) ≡ length (wholeText a) + length rest = ap (λ (z : List ℕ). length (textOf z)) (sym (append-nil a)) ∙ (ap length (text-split a []) ∙ length-append (wholeText a) rest) in
+    omega (arith, text-short a)

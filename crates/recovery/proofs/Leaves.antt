@@ -177,7 +177,7 @@ module _ (headed : Bool) (bs : List ℕ) (bytes : all isByte bs ≡ true) (r : R
       old-room d = rw (found-mark d, place-small) (old-is .1)
 
       pub next-more : (d : Mark) (g : Found) → g ≡ foundAt (r .scan) (at + 1)
-          → record { refusal = 0; there = true; line = getD (r .scan .log) i d .line; old = lineAt bs (getD (r .scan .log) i d .at); more = moreOf g } ≡ nextOf (readAs headed bs) at
+          → record { refusal = 0; there = true; key = getD (r .scan .log) i d .key; line = getD (r .scan .log) i d .line; old = lineAt bs (getD (r .scan .log) i d .at); more = moreOf g } ≡ nextOf (readAs headed bs) at
       next-more d g q =
           rw (
             state-reads,

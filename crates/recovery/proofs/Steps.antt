@@ -1,5 +1,5 @@
 -- The recovery step by what it finds: nothing to restore, or an entry.
-use Prim.Native.Nat.{_+_, _<_, _≤_, ℕ}
+use Prim.Native.Nat.{_*_, _+_, _<_, _≤_, ℕ}
 use mathlib.Core.Path.{_≡_, ap, refl, sym}
 use mathlib.Core.Bool.{Bool, false, false≢true, true}
 use mathlib.Core.List.{List, [], _∷_}
@@ -11,7 +11,7 @@ use Rattle.reading.proofs.Walk.{read-laid}
 use Rattle.recovery.proofs.Accepted.{read-records}
 use Rattle.recovery.proofs.Places.{accepted-image, line-inside}
 use Rattle.recovery.proofs.Leaves.{walk-few}
-use Rattle.recovery.specs.Places.{nextOf}
+use Rattle.recovery.specs.Places.{entryRead, nextOf}
 use Rattle.rules.proofs.Recover.Steps.{fits-left}
 use Rattle.rules.specs.Bytes.{lineBytes, paste}
 use Rattle.rules.specs.Claim.{isByte}
@@ -34,6 +34,15 @@ finds (Reads p) at = go (drop at (walkEntries p)) refl
     go : (es : List Logged) → drop at (walkEntries p) ≡ es → Finds (Reads p) at
     go [] k = past p refl k
     go (x ∷ es) k = entry p x es refl k
+
+-- the entry's numbers are those of what a step finds
+pub entry-told : (v : Verdict Persistent) (at : ℕ) → answered (nextOf v at .refusal) (256 * nextOf v at .key + nextOf v at .line) ≡ entryRead v at
+entry-told v at = go (finds v at)
+  where
+    go : Finds v at → answered (nextOf v at .refusal) (256 * nextOf v at .key + nextOf v at .line) ≡ entryRead v at
+    go (refused n q) = rw q
+    go (past p q k) = rw (q, k)
+    go (entry p x xs q k) = rw (q, k)
 
 module _ (headed : Bool) (bs : List ℕ) (at : ℕ) where
   abbrev there : Recovering

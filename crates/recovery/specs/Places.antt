@@ -1,10 +1,11 @@
 -- The parts of a recovery step as the programs have them.
 use Rattle.walking.specs.Indices.{entryAt}
-use Prim.Native.Nat.{ℕ}
+use Prim.Native.Nat.{_*_, _+_, ℕ}
 use mathlib.Core.Bool.{cond, false, true}
 use mathlib.Core.List.{List, [], _∷_}
 use lib.Dec.{eqb}
 use lib.ListN.{drop, length, take}
+use Rattle.headed.specs.Reader.{readAs}
 use Rattle.reading.specs.declared.Scan.{Scan}
 use Rattle.recovery.specs.declared.Next.{Next}
 use Rattle.recovery.specs.declared.Place.{Place}
@@ -40,15 +41,27 @@ foundAt s at = entryAt (walkedKeys s) (take (s .logged) (s .log)) at
 
 -- what a step finds: the first of the entries that are left, and whether others are behind it
 abbrev pub noEntry : ℕ → Next
-noEntry n = record { refusal = n; there = false; line = 0; old = noLine; more = 0 }
+noEntry n = record { refusal = n; there = false; key = 0; line = 0; old = noLine; more = 0 }
 
 abbrev pub nextBy : List Logged → Next
 nextBy [] = noEntry 0
-nextBy (e ∷ es) = record { refusal = 0; there = true; line = e .line; old = e .old; more = cond (eqb (length es) 0) 0 1 }
+nextBy (e ∷ es) = record { refusal = 0; there = true; key = e .key; line = e .line; old = e .old; more = cond (eqb (length es) 0) 0 1 }
 
 abbrev pub nextOf : Verdict Persistent → ℕ → Next
 nextOf (Refuses n) at = noEntry n
 nextOf (Reads p) at = nextBy (drop at (walkEntries p))
+
+-- the entry that a step at a place would restore, in an image of either form: its region's key and its line in one number; 0 where none is left
+abbrev pub entryValue : List Logged → ℕ
+entryValue [] = 0
+entryValue (e ∷ es) = 256 * e .key + e .line
+
+abbrev pub entryRead : Verdict Persistent → ℕ → Answer
+entryRead (Refuses n) at = answered n 0
+entryRead (Reads p) at = answered 0 (entryValue (drop at (walkEntries p)))
+
+unfoldable pub entryCall : List ℕ → ℕ → Answer
+entryCall bs at = entryRead (readAs true bs) at
 
 -- 'more' while there is an entry
 abbrev pub moreOf : Found → ℕ

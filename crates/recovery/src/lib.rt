@@ -6,7 +6,7 @@ ghost use Rattle.headed.specs.Reader.{readAs};
 ghost use Rattle.headed.specs.Recovery.{recoveryCallAs, restoreAs};
 ghost use Rattle.reading.specs.Scan.{readOf};
 ghost use Rattle.walking.specs.Indices.{entryAt, orderOf};
-ghost use Rattle.recovery.specs.Places.{walkedKeys, moreOf, lentAt, leftBy, nextOf, noEntry, restoredOf, stayed, calledWith};
+ghost use Rattle.recovery.specs.Places.{walkedKeys, moreOf, lentAt, leftBy, nextOf, noEntry, restoredOf, stayed, calledWith, entryCall};
 use measures::LINE_WORDS;
 use measures::Line;
 use reading::Read;
@@ -64,11 +64,12 @@ fn more(found: Found) -> u64
     }
 }
 
-// What a step at a place finds: the refusal of the image, 0 for none; the log entry that it restores, if one is there, by its line and what goes back to it; and
-// 1 while entries remain after it.
+// What a step at a place finds: the refusal of the image, 0 for none; the log entry that it restores, if one is there, by its region's key, its line and what goes
+// back to it; and 1 while entries remain after it.
 pub struct Next {
     pub refusal: u8,
     pub there: bool,
+    pub key: u32,
     pub line: u8,
     pub old: Line,
     pub more: u64,
@@ -80,6 +81,7 @@ fn no_entry(refusal: u8) -> Next
     Next {
         refusal: refusal,
         there: false,
+        key: 0,
         line: 0,
         old: [0; LINE_WORDS],
         more: 0,
@@ -108,9 +110,21 @@ pub fn next_entry(image: &[u8], at: u64, headed: bool) -> Next
     Next {
         refusal: 0,
         there: true,
+        key: mark.key,
         line: mark.line,
         old: old,
         more: left,
+    }
+}
+
+// The log entry that a recovery step at a place would restore, in an image of either form: its region's key and its line in one number, 0 where none is left.
+pub fn entry_call(image: &[u8], at: u64) -> Answer
+    ensures { λ r. ⌜ r ≡ entryCall (now (image .entry)) at ⌝ }
+{
+    let next = next_entry(image, at, true);
+    Answer {
+        refusal: next.refusal,
+        value: 256 * (next.key as u64) + (next.line as u64),
     }
 }
 

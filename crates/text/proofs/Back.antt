@@ -78,7 +78,7 @@ plain-line c e = not-true (eqb c 10) (and-true (not (isBreak c)) (not (eqb c 10)
 
 plain-digit : (d : ℕ) → plain (48 + d) ≡ true
 unfolding plain
-plain-digit d = rw (ne-eqb (48 + d) 32 (λ e. omega arith), ne-eqb (48 + d) 35 (λ e. omega arith), ne-eqb (48 + d) 10 (λ e. omega arith))
+plain-digit d = rw (ne-eqb (48 + d) 32 (λ e. omega arith), ne-eqb (48 + d) 9 (λ e. omega arith), ne-eqb (48 + d) 13 (λ e. omega arith), ne-eqb (48 + d) 35 (λ e. omega arith), ne-eqb (48 + d) 10 (λ e. omega arith))
 
 all-append : (p : ℕ → Bool) (xs ys : List ℕ) → all p xs ≡ true → all p ys ≡ true → all p (xs ++ ys) ≡ true
 all-append p [] ys e f = f
@@ -139,7 +139,7 @@ numbers-nil = refl
 numbers-words : (ns : List ℕ) → wordsIn (flat numberText ns) ≡ map decimal ns
 numbers-words [] = rw numbers-nil words-empty
 numbers-words (n ∷ ns) =
-    rw (numbers-cons n ns, space-passed (decimal n ++ flat numberText ns), words-of (decimal n) (flat numberText ns) (decimal-some n) (decimal-plain n) (numbers-break ns), numbers-words ns)
+    rw (numbers-cons n ns, space-passed 32 (decimal n ++ flat numberText ns) refl, words-of (decimal n) (flat numberText ns) (decimal-some n) (decimal-plain n) (numbers-break ns), numbers-words ns)
 
 pub line-words : (w ns : List ℕ) → 0 < length w → all plain w ≡ true → wordsIn (w ++ flat numberText ns) ≡ w ∷ map decimal ns
 line-words w ns z p = words-of w (flat numberText ns) z p (numbers-break ns) ∙ rw (numbers-words ns)

@@ -1,3 +1,4 @@
 pub mod Back
 pub mod BackLines
 pub mod Main
+pub mod Calls

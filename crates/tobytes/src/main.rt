@@ -61,7 +61,7 @@ fn complain(line: u64) -> bool {
 fn send(text: &[u8], out: &[u8], n: usize) -> bool
     requires { ⌜ take n (now out) ≡ goodBytes (now text) ⌝ }
 {
-    pieces::flush(out, n)
+    pieces::flush(out, n, b"tobytes")
 }
 
 // Reads lines and writes their bytes, where `before` lines are read already.
@@ -93,7 +93,7 @@ fn piece(text: &mut [u8], have: usize, out: &mut [u8], before: u64) -> Left
     requires { ⌜ 4 * length (now text) ≤ length (now out) ⌝ }
     ensures { λ r. ⌜ Pieced (now (text .entry)) (now (text .exit)) have before r ⌝ }
 {
-    let n = pieces::refill(text, have);
+    let n = pieces::refill(text, have, b"tobytes");
     let last = n <= have;
     let end = line_end(&text[..n], last);
     let l = lines(&text[..end], out, before);

@@ -3,7 +3,7 @@ use Prim.Native.Nat.{_≤_, ℕ}
 use mathlib.Core.Path.{_≡_}
 use mathlib.Core.Bool.{Bool, _&&_, false, true}
 use mathlib.Core.List.{List, _++_}
-use lib.Dec.{ltb}
+use lib.Dec.{leb, ltb}
 use lib.ListN.{drop, getD, length, take}
 use Rattle.events.specs.Whole.{recordLength, wholeLength}
 use Rattle.pieces.specs.Chain.{Chained}
@@ -23,6 +23,7 @@ pub record Pieced (d d′ : List ℕ) (have : ℕ) (r : Left) : Type 0 where
   pub begins : take have piece ≡ take have d
   pub left : take (r .held) d′ ≡ drop (wholeLength piece) piece
   pub more : r .more ≡ mayCome (ltb have (length piece)) (drop (wholeLength piece) piece)
+  pub ends : r .last ≡ leb (length piece) have
 
 -- a piece follows
 unfoldable pub goesOn : Left → Bool
@@ -46,7 +47,7 @@ pub record Turned (a b : Between) (new out : List ℕ) : Type 0 where
   pub goes : out ≡ wholeText (pieced .piece)
 
 abbrev pub start : Left
-start = record { held = 0; more = true; sent = true }
+start = record { held = 0; more = true; sent = true; last = false }
 
 -- all pieces. Whatever comes behind, f: the text of the file is the one that was handed over, and then that of what is still held, which begins with no whole
 -- record. Where that is as long as the longest record, no record can come of it: its kind is unknown

@@ -8,6 +8,7 @@ ghost use lib.ListN.{length, take};
 ghost use Rattle.rules.specs.Lists.{flat};
 ghost use Rattle.rules.specs.Kinds.{bytesWord};
 ghost use Rattle.events.specs.Whole.{recordLength, wholeLength};
+ghost use Rattle.pieces.specs.Shift.{Refilled};
 ghost use Rattle.printing.specs.Text.{numberText, wholeText};
 ghost use Rattle.totext.specs.Results.{Pieced, Ran, Rested, goesOn, mayCome};
 
@@ -22,32 +23,34 @@ struct Sent {
     sent: bool,
 }
 
-// What a piece leaves: how many bytes at the front of the buffer are no whole record, whether a whole record may still come, and whether its lines went out.
+// What a piece leaves: how many bytes at the front of the buffer are no whole record, whether a whole record may still come, whether its lines went out,
+// and whether nothing more came.
 struct Left {
     held: usize,
     more: bool,
     sent: bool,
+    last: bool,
 }
 
 // Writes the lines of the whole records of a piece.
 fn send_lines(piece: &[u8], out: &[u8], n: usize) -> bool
     requires { ⌜ take n (now out) ≡ wholeText (now piece) ⌝ }
 {
-    pieces::flush(out, n)
+    pieces::flush(out, n, b"totext")
 }
 
 // Writes bytes that are no whole record.
 fn send_numbers(piece: &[u8], out: &[u8], n: usize) -> bool
     requires { ⌜ take n (now out) ≡ flat numberText (now piece) ⌝ }
 {
-    pieces::flush(out, n)
+    pieces::flush(out, n, b"totext")
 }
 
 // Writes the word of a line of bytes.
 fn send_word(word: &[u8]) -> bool
     requires { ⌜ now word ≡ bytesWord ⌝ }
 {
-    pieces::flush(word, word.len())
+    pieces::flush(word, word.len(), b"totext")
 }
 
 // Writes the whole records of a piece.
@@ -87,13 +90,14 @@ fn piece(file: &mut [u8], have: usize, out: &mut [u8]) -> Left
     requires { ⌜ 32 * length (now file) ≤ length (now out) ⌝ }
     ensures { λ r. ⌜ Pieced (now (file .entry)) (now (file .exit)) have r ⌝ }
 {
-    let n = pieces::refill(file, have);
+    let n = pieces::refill(file, have, b"totext");
     let s = records(&file[..n], out);
     let held = pieces::shift(file, s.passed, n);
     Left {
         held,
         more: may_come(&file[..held], have < n),
         sent: s.sent,
+        last: n <= have,
     }
 }
 
@@ -116,6 +120,7 @@ fn run(file: &mut [u8], out: &mut [u8]) -> Left
         held: 0,
         more: true,
         sent: true,
+        last: false,
     };
     let mut turns = u64::MAX;
     while turns > 0 {
@@ -147,8 +152,15 @@ fn numbers(file: &[u8], n: usize, out: &mut [u8]) -> bool
     send_numbers(&file[..n], out, end)
 }
 
+// Reads on behind the first `have` bytes of a buffer, unless the input has ended.
+fn read_on(file: &mut [u8], have: usize, last: bool) -> usize
+    ensures { λ r. ⌜ Refilled (now (file .entry)) (now (file .exit)) have r ⌝ }
+{
+    pieces::fill(file, have, last, b"totext")
+}
+
 // Writes the bytes that are held, and all that is still to be read, as numbers. Answers whether all went out.
-fn rest_numbers(file: &mut [u8], held: usize, out: &mut [u8]) -> bool
+fn rest_numbers(file: &mut [u8], held: usize, last: bool, out: &mut [u8]) -> bool
     requires { ⌜ 32 * length (now file) ≤ length (now out) ⌝ }
     ensures { λ r. ⌜ (r ≡ true → Rested (now (file .entry)) (now (file .exit)) held) ⌝ }
 {
@@ -161,24 +173,24 @@ fn rest_numbers(file: &mut [u8], held: usize, out: &mut [u8]) -> bool
         if !numbers(file, n, out) {
             return false;
         }
-        n = pieces::refill(file, 0);
+        n = read_on(file, 0, last);
         turns -= 1;
     }
     true
 }
 
 // Writes what is left of the file as a line of bytes. Answers whether all went out.
-fn rest(file: &mut [u8], held: usize, out: &mut [u8]) -> bool
+fn rest(file: &mut [u8], held: usize, last: bool, out: &mut [u8]) -> bool
     requires { ⌜ (recordLength (take held (now file)) ≡ 0) × (32 * length (now file) ≤ length (now out)) ⌝ }
     ensures { λ r. ⌜ (r ≡ true → Rested (now (file .entry)) (now (file .exit)) held) ⌝ }
 {
     if !send_word(b"bytes") {
         return false;
     }
-    if !rest_numbers(file, held, out) {
+    if !rest_numbers(file, held, last, out) {
         return false;
     }
-    pieces::flush(b"\n", 1)
+    pieces::flush(b"\n", 1, b"totext")
 }
 
 fn main() {
@@ -186,6 +198,6 @@ fn main() {
     let mut out = [0u8; TEXT];
     let s = run(&mut file, &mut out);
     if s.sent && 0 < s.held {
-        rest(&mut file, s.held, &mut out);
+        rest(&mut file, s.held, s.last, &mut out);
     }
 }

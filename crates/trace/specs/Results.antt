@@ -6,18 +6,12 @@ use mathlib.Core.List.{List, [], _++_}
 use lib.Dec.{leb}
 use lib.ListN.{drop, length, take}
 use Rattle.pieces.specs.Chain.{Chained}
-use Rattle.pieces.specs.Shift.{Refilled}
 use Rattle.rules.specs.Record.{recordsOf}
 use Rattle.rules.specs.Tables.{Board, Zero, fresh}
 use Rattle.trace.specs.declared.State.{State}
 use Rattle.tracing.specs.Pieces.{Ran, dueIn, fitting}
 use Rattle.tracing.specs.Text.{traceText}
 use Rattle.tracing.specs.declared.TracedPiece.{TracedPiece}
-
--- bytes are read behind those that are held; none where the input has ended
-pub record Filled (d d′ : List ℕ) (held : ℕ) (last : Bool) (r : ℕ) : Type 0 where
-  pub refilled : Refilled d d′ held r
-  pub none : last ≡ true → r ≤ held
 
 -- a piece follows: the text went out, and more may come or records found no room
 unfoldable pub goesOn : Bool → Bool → Bool → Bool

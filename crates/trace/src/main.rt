@@ -17,7 +17,7 @@ use rows::Head;
 ghost use mathlib.Core.Path.{_≡_};
 ghost use Rattle.measures.specs.Loan.{left, was};
 ghost use Rattle.rows.specs.Whole.{boardLeft, boardWas};
-ghost use Rattle.trace.specs.Results.{Filled, Traces, Turned, between, goesOn};
+ghost use Rattle.trace.specs.Results.{Traces, Turned, between, goesOn};
 
 // A piece of the file: longer than the longest record, so that a full buffer without a whole record begins with an unknown kind, which ends the file.
 const PIECE: usize = 65536;
@@ -32,19 +32,6 @@ struct State {
     held: usize,
     last: bool,
     more: bool,
-}
-
-// Reads on behind the bytes that are held, unless the input has ended. Answers how many bytes the buffer then holds.
-fn fill(buffer: &mut [u8], held: usize, last: bool) -> usize
-    ensures { λ r. ⌜ Filled (now (buffer .entry)) (now (buffer .exit)) held last r ⌝ }
-{
-    if !last {
-        return pieces::refill(buffer, held);
-    }
-    if held < buffer.len() {
-        return held;
-    }
-    buffer.len()
 }
 
 // Whether a piece follows: after the last one only if records found no room.
@@ -78,7 +65,7 @@ fn turn(
         (between (boardLeft (r .head) threads regions owner lock cur med old car) (left buffer) (left out) r) ⌝ }
 {
     let h = s.head;
-    let n = fill(buffer, s.held, s.last);
+    let n = pieces::fill(buffer, s.held, s.last, b"trace");
     let last = n <= s.held;
     let r = tracing::trace_piece(
         h,
@@ -96,7 +83,7 @@ fn turn(
         0,
     );
     let g = r.head;
-    let sent = pieces::flush(out, r.at);
+    let sent = pieces::flush(out, r.at, b"trace");
     State {
         head: g,
         held: pieces::shift(buffer, r.passed, n),

@@ -10,7 +10,7 @@ returns : tie.Need-returns
 returns c = λ e. absurd (false≢true e)
 
 slice-aggregate-send : tie.Need-slice-aggregate-send
-slice-aggregate-send c = let s = c .before .before .before in sym (length-take-le (s .args .n) (s .args .buf .now) (omega arith))
+slice-aggregate-send c = let s = c .before .before .before .before in sym (length-take-le (s .args .n) (s .args .buf .now) (omega arith))
 
 send-requires : tie.Need-send-requires
 send-requires c κs = search needs

@@ -28,7 +28,7 @@ same-length : tie.Need-same-length
 same-length c = search needs
 
 returns-2 : tie.Need-returns-2
-returns-2 c = let s = c .before .before .before .before .before .before in let d = s .args .buf .now in let a = s .args .have in record { stays = take-at (take a d) _ a (length-take-le a d (omega arith)); counts = search needs; grows = λ h. search needs; full = λ h. search needs }
+returns-2 c = let s = c .before .before .before .before .before .before .before in let d = s .args .buf .now in let a = s .args .have in record { stays = take-at (take a d) _ a (length-take-le a d (omega arith)); counts = search needs; grows = λ h. search needs; full = λ h. search needs }
 
 pub refill-spec : {M : Type 1} → statement M
 refill-spec =

@@ -10,6 +10,9 @@ use borrow.Author.Needs.{needs}
 use Rattle.tobytes.proofs.piece.Statement.{statement}
 use Rattle.tobytes.proofs.piece.Tie as tie
 
+slice-aggregate-refill : tie.Need-slice-aggregate-refill
+slice-aggregate-refill c = search needs
+
 refill-requires : tie.Need-refill-requires
 refill-requires c κs = search needs
 
@@ -29,7 +32,7 @@ slice-aggregate-lines : tie.Need-slice-aggregate-lines
 slice-aggregate-lines c = let r = c .before .before .before .before .before .refill in let e = c .before .line-end in sym (length-take-le (e .result) (r .last .0) (omega (arith, e .ensures .1, length-take-le (r .result) (r .last .0) (r .ensures .counts), r .ensures .counts)))
 
 lines-requires : tie.Need-lines-requires
-lines-requires c κs = let q = c .before .before in let f = q .before .before .before .before in let r = f .refill in let s = f .before .before .before .before in let l = length-take-le (r .result) (r .last .0) (r .ensures .counts) in let m : q .line-end .result ≤ length (r .last .0) = omega (arith, q .line-end .ensures .1, l, r .ensures .counts) in omega (arith, length-take-le (q .line-end .result) (r .last .0) m, m, r .kept .0, s .pre)
+lines-requires c κs = let q = c .before .before in let f = q .before .before .before .before in let r = f .refill in let s = f .before .before .before .before .before in let l = length-take-le (r .result) (r .last .0) (r .ensures .counts) in let m : q .line-end .result ≤ length (r .last .0) = omega (arith, q .line-end .ensures .1, l, r .ensures .counts) in omega (arith, length-take-le (q .line-end .result) (r .last .0) m, m, r .kept .0, s .pre)
 
 shift-requires : tie.Need-shift-requires
 shift-requires c κs = search needs
@@ -41,12 +44,13 @@ same-length-2 : tie.Need-same-length-2
 same-length-2 c = search needs
 
 returns : tie.Need-returns
-returns c = let w = c .before .before in let a = c .before .before .before .before .before .before .lines in let b = c .before .before .before .before .before .before .before .before .before .line-end in let f = c .before .before .before .before .before .before .before .before .before .before .before .before .before .refill in let s = c .before .before .before .before .before .before .before .before .before .before .before .before .before .before .before .before .before in let d = f .last .0 in let n = f .result in let h = w .shift .ensures in let l = length-take-le n d (f .ensures .counts) in let k : b .result ≡ lineEnd (leb (length (take n d)) (s .args .have)) (take n d) = rw l (b .ensures .0) in let m : b .result ≤ n = omega (arith, b .ensures .1, l) in record { piece = take n d; begins = refilled-front (s .args .text .now) d (s .args .have) n (f .ensures) (f .kept .0); left = rw (h .1, h .0, ← k) (shifted-front d (b .result) n (f .ensures .counts)); reads = rw (← k, take-take (b .result) n d m) (a .ensures .reads); form = rw (← k, take-take (b .result) n d m) (a .ensures .form); ends = rw l }
+returns c = let w = c .before .before in let a = c .before .before .before .before .before .before .lines in let b = c .before .before .before .before .before .before .before .before .before .line-end in let f = c .before .before .before .before .before .before .before .before .before .before .before .before .before .refill in let s = c .before .before .before .before .before .before .before .before .before .before .before .before .before .before .before .before .before .before in let d = f .last .0 in let n = f .result in let h = w .shift .ensures in let l = length-take-le n d (f .ensures .counts) in let k : b .result ≡ lineEnd (leb (length (take n d)) (s .args .have)) (take n d) = rw l (b .ensures .0) in let m : b .result ≤ n = omega (arith, b .ensures .1, l) in record { piece = take n d; begins = refilled-front (s .args .text .now) d (s .args .have) n (f .ensures) (f .kept .0); left = rw (h .1, h .0, ← k) (shifted-front d (b .result) n (f .ensures .counts)); reads = rw (← k, take-take (b .result) n d m) (a .ensures .reads); form = rw (← k, take-take (b .result) n d m) (a .ensures .form); ends = rw l }
 
 pub piece-spec : {M : Type 1} → statement M
 piece-spec =
     tie.close
     (tie.spec
+    slice-aggregate-refill
     refill-requires
     slice-reshare-prefix-line-end
     slice-aggregate-line-end

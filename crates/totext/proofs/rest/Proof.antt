@@ -28,6 +28,9 @@ returns-2 c = λ e. absurd (false≢true e)
 slice-aggregate-flush : tie.Need-slice-aggregate-flush
 slice-aggregate-flush c = search needs
 
+slice-aggregate-flush-2 : tie.Need-slice-aggregate-flush-2
+slice-aggregate-flush-2 c = search needs
+
 flush-requires : tie.Need-flush-requires
 flush-requires c κs = search needs
 
@@ -38,7 +41,7 @@ same-length-4 : tie.Need-same-length-4
 same-length-4 c = search needs
 
 returns-3 : tie.Need-returns-3
-returns-3 c = let q = c .before .before in let r = q .before .before .before .before .before in λ e. r .rest-numbers .ensures (not-false (r .rest-numbers .result) (q .if2 .left))
+returns-3 c = let q = c .before .before .before in let r = q .before .before .before .before .before in λ e. r .rest-numbers .ensures (not-false (r .rest-numbers .result) (q .if2 .left))
 
 pub rest-spec : {M : Type 1} → statement M
 rest-spec =
@@ -52,6 +55,7 @@ rest-spec =
     same-length-2
     returns-2
     slice-aggregate-flush
+    slice-aggregate-flush-2
     flush-requires
     same-length-3
     same-length-4

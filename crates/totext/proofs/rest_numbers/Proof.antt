@@ -10,10 +10,10 @@ use Rattle.totext.proofs.rest_numbers.Statement.{statement}
 use Rattle.totext.proofs.rest_numbers.Tie as tie
 
 abbrev Inv-loop : tie.InvT-loop
-Inv-loop file₀ held out₀ n₀ turns₀ file out n turns = (length file ≡ length file₀) × ((length out ≡ length out₀) × Resting file₀ file held n turns)
+Inv-loop file₀ held last out₀ n₀ turns₀ file out n turns = (length file ≡ length file₀) × ((length out ≡ length out₀) × Resting file₀ file held n turns)
 
 abbrev μ-loop : tie.MeasureT-loop
-μ-loop file₀ held out₀ n₀ turns₀ file out n turns = turns
+μ-loop file₀ held last out₀ n₀ turns₀ file out n turns = turns
 
 loop-holds : tie.Need-loop-holds Inv-loop μ-loop
 loop-holds c = (refl, (refl, at-start))
@@ -39,8 +39,8 @@ same-length-4 c = search needs
 returns-2 : tie.Need-returns-2 Inv-loop μ-loop
 returns-2 c = λ e. absurd (false≢true e)
 
-refill-requires : tie.Need-refill-requires Inv-loop μ-loop
-refill-requires c κs = search needs
+read-on-requires : tie.Need-read-on-requires Inv-loop μ-loop
+read-on-requires c κs = search needs
 
 sub-turns : tie.Need-sub-turns Inv-loop μ-loop
 sub-turns c = search needs
@@ -49,7 +49,7 @@ loop-less : tie.Need-loop-less Inv-loop μ-loop
 loop-less c = search needs
 
 loop-again : tie.Need-loop-again Inv-loop μ-loop
-loop-again c = let r = c .before .before in let n = r .before .before .before .before .before in let i = n .before .before .before .before in let l = i .before .loop in let s = i .before .before .before .before in (r .refill .kept .0 ∙ l .inv .0, (n .numbers .kept .1 .1 .0 ∙ l .inv .1 .0, rests-on (s .args .file .now) (l .file) (r .refill .last .0) (s .args .held) (l .n) (r .refill .result) (l .turns) (l .inv .1 .1) (i .loop-test .taken) (omega (arith, n .before .before .before .if1 .left)) (r .refill .ensures)))
+loop-again c = let r = c .before .before in let n = r .before .before .before .before .before in let i = n .before .before .before .before in let l = i .before .loop in let s = i .before .before .before .before in (r .read-on .kept .0 ∙ l .inv .0, (n .numbers .kept .1 .1 .0 ∙ l .inv .1 .0, rests-on (s .args .file .now) (l .file) (r .read-on .last .0) (s .args .held) (l .n) (r .read-on .result) (l .turns) (l .inv .1 .1) (i .loop-test .taken) (omega (arith, n .before .before .before .if1 .left)) (r .read-on .ensures)))
 
 same-length-5 : tie.Need-same-length-5 Inv-loop μ-loop
 same-length-5 c = search needs
@@ -74,7 +74,7 @@ rest-numbers-spec =
     same-length-3
     same-length-4
     returns-2
-    refill-requires
+    read-on-requires
     sub-turns
     loop-less
     loop-again

@@ -1,0 +1,5 @@
+pub mod Bytes
+pub mod Lengths
+pub mod Call
+pub mod Cases
+pub mod One
