@@ -7,33 +7,7 @@ cd "$(dirname "$0")"
 build=$1
 cc=$2
 bin=../target/bin
-scratch=$(mktemp -d)
-trap 'rm -rf "$scratch"' EXIT
-passed=0
-failed=0
-
-# check WHAT EXPECTED FOUND: two texts must be the same.
-check() {
-    if [ "$2" = "$3" ]; then
-        passed=$((passed + 1))
-    else
-        failed=$((failed + 1))
-        printf 'FAILED %s\n expected: %s\n found: %s\n' "$1" "$2" "$3"
-    fi
-}
-
-# byte OF AT VALUE: a copy of the answers with one byte changed, in $scratch/changed.
-byte() {
-    cp "$1" "$scratch/changed"
-    printf "\\x$(printf %02x "$3")" | dd of="$scratch/changed" bs=1 seek="$2" conv=notrunc status=none
-}
-
-# said COMMAND: what a program prints, and its exit code.
-said() {
-    local code=0
-    "$@" 2>&1 || code=$?
-    echo "exit $code"
-}
+. ./checks.sh
 
 # found EXAMPLE FILE [STEPS]: the words that an example finds in the end, as the trace program prints them, and its exit code.
 found() { said "$build/$1" "${@:2}" | sed -e '1,/^words found:/d' -e 's/^  line \([0-9]*\) word \([0-9]*\): /M \1 \2 /'; }
@@ -174,5 +148,4 @@ for program in trace totext tobytes; do
     check "$program of nothing" '' "$("$bin/$program" 2>&1 < /dev/null)"
     check "$program as it should be" '' "$("$bin/$program" 2>&1 > /dev/null < "$input")"
 done
-echo "examples: $passed passed, $failed failed"
-[ "$failed" = 0 ]
+report examples

@@ -5,13 +5,10 @@
 set -euo pipefail
 root=$(cd "$(dirname "$0")/.." && pwd)
 page=$(realpath "$1")
-scratch=$(mktemp -d)
-trap 'rm -rf "$scratch"' EXIT
+. "$root/tests/checks.sh"
 for name in Makefile crates include samples target tool examples tests; do ln -s "$root/$name" "$scratch/$name"; done
 cd "$scratch"
 export PATH=$scratch/target/board:$PATH
-passed=0
-failed=0
 
 # files: writes the fenced blocks that are files.
 files() {
@@ -23,13 +20,13 @@ files() {
 }
 
 # matches EXPECTED FOUND: whether a text is the one expected, where a line '...' stands for any lines.
-matches() { awk -v expected="$1" -v found="$2" '
+matches() { expected=$1 found=$2 awk '
     function fits(i, j) {
         if (i > n) return j > m
         if (e[i] == "...") { for (; j <= m + 1; j++) if (fits(i + 1, j)) return 1; return 0 }
         return j <= m && e[i] == f[j] && fits(i + 1, j + 1)
     }
-    BEGIN { n = split(expected, e, "\n"); m = split(found, f, "\n"); exit !fits(1, 1) }'; }
+    BEGIN { n = split(ENVIRON["expected"], e, "\n"); m = split(ENVIRON["found"], f, "\n"); exit !fits(1, 1) }'; }
 
 # try COMMAND EXPECTED: one command of the page.
 try() {
@@ -67,5 +64,4 @@ while IFS= read -r line || [ -n "$line" ]; do
     esac
 done < "$page"
 [ -z "$command" ] || try "$command" "$expected"
-echo "${page##*/}: $passed passed, $failed failed"
-[ "$failed" = 0 ] && [ "$passed" -gt 0 ]
+report "${page##*/}"

@@ -5,27 +5,7 @@ set -euo pipefail
 board=$(realpath "$1")
 cd "$(dirname "$0")/.."
 bin=target/bin
-scratch=$(mktemp -d)
-trap 'rm -rf "$scratch"' EXIT
-passed=0
-failed=0
-
-# check WHAT EXPECTED FOUND: two texts must be the same.
-check() {
-    if [ "$2" = "$3" ]; then
-        passed=$((passed + 1))
-    else
-        failed=$((failed + 1))
-        printf 'FAILED %s\n expected: %s\n found: %s\n' "$1" "$2" "$3"
-    fi
-}
-
-# said WORDS: what a command prints on both outputs, and its exit code.
-said() {
-    local code=0
-    "$board" "$@" 2>&1 || code=$?
-    echo "exit $code"
-}
+. tests/checks.sh
 
 # bytes_of TEXT: an event file of a readable form, in $scratch/events.
 bytes_of() { printf '%s\n' "$@" | "$board" bytes - -o "$scratch/events"; }
@@ -34,22 +14,22 @@ bytes_of() { printf '%s\n' "$@" | "$board" bytes - -o "$scratch/events"; }
 check 'the version' "$(sed -n 's/^#define BOARD_VERSION "\(.*\)"/\1/p' include/board.h)" "$("$board" --version)"
 commands=$("$board" --help | sed -n 's/^  \([a-z]*\) .*/\1/p')
 check 'the commands' 'run text bytes image show recover diff check explain try timeline' "$(echo $commands)"
-check 'no command' $'board: which command? board --help lists them\nexit 2' "$(said)"
-check 'a command that is none' $'board: unknown command walk; board --help lists them\nexit 2' "$(said walk)"
+check 'no command' $'board: which command? board --help lists them\nexit 2' "$(said "$board")"
+check 'a command that is none' $'board: unknown command walk; board --help lists them\nexit 2' "$(said "$board" walk)"
 for command in $commands; do
     usage=$("$board" "$command" --help | head -n 1)
     check "$command --help" "board $command" "${usage%% [A-Z]*}"
-    check "$command without words" "board: a word is missing"$'\n'"usage: $usage"$'\nexit 2' "$(said "$command")"
-    check "$command with an option that is none" "board: unknown option --none"$'\n'"usage: $usage"$'\nexit 2' "$(said "$command" --none)"
-    check "$command with a word too many" "board: one word too many: 5"$'\n'"usage: $usage"$'\nexit 2' "$(said "$command" 1 2 3 4 5 | sed 's/: [2345]$/: 5/')"
+    check "$command without words" "board: a word is missing"$'\n'"usage: $usage"$'\nexit 2' "$(said "$board" "$command")"
+    check "$command with an option that is none" "board: unknown option --none"$'\n'"usage: $usage"$'\nexit 2' "$(said "$board" "$command" --none)"
+    check "$command with a word too many" "board: one word too many: 5"$'\n'"usage: $usage"$'\nexit 2' "$(said "$board" "$command" 1 2 3 4 5 | sed 's/: [2345]$/: 5/')"
     check "$command, its help lost" 2 "$(code=0; "$board" "$command" --help > /dev/full 2> /dev/null || code=$?; echo $code)"
 done
 for command in run text bytes show explain 'image -o x' 'recover -o x' 'timeline -o x' "diff $scratch/none" "check $scratch/none"; do
-    check "$command on a file that is not there" "board: $scratch/none: No such file or directory"$'\nexit 2' "$(said $command "$scratch/none")"
+    check "$command on a file that is not there" "board: $scratch/none: No such file or directory"$'\nexit 2' "$(said "$board" $command "$scratch/none")"
 done
 for command in run text bytes show explain; do
-    check "$command on a directory" $'board: /: Is a directory\nexit 2' "$(said $command /)"
-    check "$command on closed input" $'board: standard input: Bad file descriptor\nexit 2' "$(said $command - <&-)"
+    check "$command on a directory" $'board: /: Is a directory\nexit 2' "$(said "$board" $command /)"
+    check "$command on closed input" $'board: standard input: Bad file descriptor\nexit 2' "$(said "$board" $command - <&-)"
 done
 for output in run text explain; do
     for lost in /dev/full '&-'; do
@@ -71,14 +51,14 @@ bytes_of 'setup 1 1 0 0 0 0 0 0 0 0 0 0' 'begin 0' 'read 0 0 1' 'fence 0' 'bytes
 head -c 64 /dev/zero | tr '\0' '\1' > "$scratch/memory"
 check 'over lent memory' '    3  read 0 0 1                      accepted, the word is 72340172838076673' "$("$board" run "$scratch/events" -m "$scratch/memory" | sed -n 3p)"
 check 'the end of a damaged file' '    5  bytes 4 0                       refused with 1: record cut short, or no end record' "$("$board" run "$scratch/events" | tail -n 1)"
-check 'memory of another length' "board: $scratch/events: 29 bytes, but the setup asks for 64"$'\nexit 2' "$(said run "$scratch/events" -m "$scratch/events" | sed 's/: [0-9]* bytes/: 29 bytes/')"
-check 'an empty file' 'exit 0' "$(said run /dev/null)"
+check 'memory of another length' "board: $scratch/events: 29 bytes, but the setup asks for 64"$'\nexit 2' "$(said "$board" run "$scratch/events" -m "$scratch/events" | sed 's/: [0-9]* bytes/: 29 bytes/')"
+check 'an empty file' 'exit 0' "$(said "$board" run /dev/null)"
 
 # fault TEXT PLACE WHAT: a text that is not in the form is told with line, column and word, and nothing is written.
 fault() {
     printf "$1" > "$scratch/text"
     rm -f "$scratch/out"
-    check "$1" "board: $scratch/text:$2: $3"$'\nexit 2' "$(said bytes "$scratch/text" -o "$scratch/out")"
+    check "$1" "board: $scratch/text:$2: $3"$'\nexit 2' "$(said "$board" bytes "$scratch/text" -o "$scratch/out")"
     check "$1 writes nothing" no "$([ -e "$scratch/out" ] && echo yes || echo no)"
 }
 fault 'begin 0\nbegn 0\n' 2:1 "unknown word 'begn'"
@@ -93,14 +73,8 @@ fault 'begin\t-1' 1:7 "not a number '-1'"
 
 # ---- check
 
-# byte FILE AT VALUE: a copy with one byte changed, in $scratch/changed.
-byte() {
-    cp "$1" "$scratch/changed"
-    printf "\\x$(printf %02x "$3")" | dd of="$scratch/changed" bs=1 seek="$2" conv=notrunc status=none
-}
-
 # front WORDS: the first line that a check prints, up to what was expected, and its exit code.
-front() { said check "$@" | sed -n -e '1s/: expected .*//p' -e '$p' | paste -sd ' '; }
+front() { said "$board" check "$@" | sed -n -e '1s/: expected .*//p' -e '$p' | paste -sd ' '; }
 
 # check_file FILE: right answers agree; a wrong refusal and a wrong value are found at each event; answers too few and too many.
 check_file() {
@@ -109,7 +83,7 @@ check_file() {
     "$bin/totext" < "$1" > "$scratch/text"
     "$bin/trace" < "$1" | grep -v '^M' > "$scratch/due" || true
     count=$(wc -l < "$scratch/due")
-    check "$1" "$count answers agree"$'\nexit 0' "$(said check "$1" "$answers")"
+    check "$1" "$count answers agree"$'\nexit 0' "$(said "$board" check "$1" "$answers")"
     while read -r _ refusal value && IFS= read -r line <&3; do
         byte "$answers" $((9 * n)) $((refusal == 18 ? 0 : 18))
         check "$1" "event $((n + 1)): $line exit 1" "$(front "$1" "$scratch/changed")"
@@ -119,7 +93,7 @@ check_file() {
     done < "$scratch/due" 3< "$scratch/text"
     head -c $((9 * (count - 1))) "$answers" > "$scratch/fewer"
     check "$1" "event $count: $line exit 1" "$(front "$1" "$scratch/fewer")"
-    check "$1" "$((count - 1)) answers were found, $count are due" "$(said check "$1" "$scratch/fewer" | sed -n 2p)"
+    check "$1" "$((count - 1)) answers were found, $count are due" "$(said "$board" check "$1" "$scratch/fewer" | sed -n 2p)"
     cat "$answers" <(printf '\0\1\0\0\0\0\0\0\0') > "$scratch/more"
     check "$1" 'behind the last event exit 1' "$(front "$1" "$scratch/more")"
 }
@@ -129,7 +103,7 @@ for end in 'bytes 4 0 1' 'bytes 9 0 255 1' 'bytes 10 1 2 0 3 1 2 0 0 0 0 0' 'byt
         'begin 0' 'begin 1' 'write 1 2 7 18446744073709551615' 'write 1 2 0 1311768467463790320' 'read 1 2 0' 'fence 0' "$end"
     check_file "$scratch/events"
 done
-check 'an empty file' $'0 answers agree\nexit 0' "$(said check /dev/null /dev/null)"
+check 'an empty file' $'0 answers agree\nexit 0' "$(said "$board" check /dev/null /dev/null)"
 
 # over zeros each setup has the memory that it asks for, as in the trace program
 bytes_of 'setup 2 1 0 0 1 0 0 0 0 0 0 0' 'setup 2 1 2 0 0 0 0 0 0 0 0 0' 'setup 2 1 0 0 0 0 0 0 0 0 17 0' 'setup 2 3 0 1 0 0 0 0 0 0 0 16' 'begin 0' 'begin 1'
@@ -155,28 +129,28 @@ for file in samples/*.events; do
         steps=$(sed -n 's/^finished at step //p' "$scratch/steps")
         check "$file $form, power lost" "finished at step $((steps > 1 ? 2 * steps - 1 : 1))" \
             "$("$board" recover "$scratch/image" -o "$scratch/again" --lose-power-at $((steps > 1 ? steps - 1 : 7)) | tail -n 1)"
-        check "$file $form, power lost, recovered" $'the images are the same\nexit 0' "$(said diff "$scratch/recovered" "$scratch/again")"
+        check "$file $form, power lost, recovered" $'the images are the same\nexit 0' "$(said "$board" diff "$scratch/recovered" "$scratch/again")"
         "$board" run "$file" -a "$scratch/answers" > /dev/null
         check "$file $form, its answers and image" "$(wc -l < "${file%.events}.txt" > /dev/null; "$bin/trace" < "$file" | grep -vc '^M') answers agree, and the image"$'\nexit 0' \
-            "$(said check "$file" "$scratch/answers" "$scratch/image")"
+            "$(said "$board" check "$file" "$scratch/answers" "$scratch/image")"
         byte "$scratch/image" 5 77
-        check "$file $form, another image" 'record 2 (line 0): word 0 is exit 1' "$(said diff "$scratch/image" "$scratch/changed" | sed 's/ is [0-9]* in .*/ is/' | paste -sd ' ')"
+        check "$file $form, another image" 'record 2 (line 0): word 0 is exit 1' "$(said "$board" diff "$scratch/image" "$scratch/changed" | sed 's/ is [0-9]* in .*/ is/' | paste -sd ' ')"
         check "$file $form, a board's other image" 'answers agree; the image differs: record 2 (line 0): word 0 is exit 1' \
-            "$(said check "$file" "$scratch/answers" "$scratch/changed" | sed -e 's/^[0-9]* //' -e 's/ is [0-9]* in .*/ is/' | paste -sd ' ')"
+            "$(said "$board" check "$file" "$scratch/answers" "$scratch/changed" | sed -e 's/^[0-9]* //' -e 's/ is [0-9]* in .*/ is/' | paste -sd ' ')"
     done
 done
 "$board" image samples/recovery.events -o "$scratch/image" > /dev/null
 check 'an image in words' "$(cat tests/show.expected)" "$("$board" show "$scratch/image")"
 check 'three steps' 'stopped after step 3, entries remain' "$("$board" recover "$scratch/image" -o "$scratch/again" --steps 3 | tail -n 1)"
 { head -c 946 "$scratch/image"; tail -c +1016 "$scratch/image"; } > "$scratch/shorter"
-check 'a record less' $'record 19 (log entry of region 1.1): line of entry 1 is 2\nexit 1' "$(said diff "$scratch/image" "$scratch/shorter" | sed 's/ in .*//')"
+check 'a record less' $'record 19 (log entry of region 1.1): line of entry 1 is 2\nexit 1' "$(said "$board" diff "$scratch/image" "$scratch/shorter" | sed 's/ in .*//')"
 "$board" run samples/p4.events -a "$scratch/answers" > /dev/null
 check 'no cut for an image' 2 "$(code=0; "$board" check samples/p4.events "$scratch/answers" "$scratch/image" > /dev/null 2>&1 || code=$?; echo $code)"
 
 # refused AT VALUE BYTE REFUSAL: an image with one byte changed is refused, by show and by recover, which writes nothing, at the byte where its record starts.
 refused() {
     byte "$scratch/image" "$1" "$2"
-    check "byte $1 is $2" "byte $3 refused with $4 exit 2" "$(said show "$scratch/changed" | sed 's/^board: [^:]*: \(byte [0-9]*\).*\(refused with [0-9]*\):.*/\1 \2/' | paste -sd ' ')"
+    check "byte $1 is $2" "byte $3 refused with $4 exit 2" "$(said "$board" show "$scratch/changed" | sed 's/^board: [^:]*: \(byte [0-9]*\).*\(refused with [0-9]*\):.*/\1 \2/' | paste -sd ' ')"
     rm -f "$scratch/again"
     check "byte $1 is $2, not recovered" "2 no" "$(code=0; "$board" recover "$scratch/changed" -o "$scratch/again" 2> /dev/null || code=$?; echo $code $([ -e "$scratch/again" ] && echo yes || echo no))"
 }
@@ -235,9 +209,9 @@ why 'T is 2, and the party of thread 2 is 1' 'setup 2 9 0 0 1 0 0 0 0 0 0 0'
 why 'line 0 has been read by open region 0.1' "$setup" 'begin 0' 'read 0 0 0' 'begin 1' 'write 1 0 0 1'
 why 'no bit of the mask is set' "$setup" 'begin 0' 'write-bytes 0 0 0 0 1'
 check 'the tables in words' "$(cat tests/explain.expected)" "$("$board" explain samples/p1.events 8)"
-check 'before the first event' $'before the first event: no setup yet\nexit 0' "$(said explain samples/p1.events 0)"
+check 'before the first event' $'before the first event: no setup yet\nexit 0' "$(said "$board" explain samples/p1.events 0)"
 check 'an event that is not there' 2 "$(code=0; "$board" explain samples/p1.events 12 2> /dev/null || code=$?; echo $code)"
-check 'an event that is no number' $'board: event: not a number: x\nexit 2' "$(said explain samples/p1.events x)"
+check 'an event that is no number' $'board: event: not a number: x\nexit 2' "$(said "$board" explain samples/p1.events x)"
 
 # ---- timeline
 "$board" timeline samples/p1.events -o "$scratch/picture"
@@ -248,5 +222,4 @@ for file in samples/*.events /dev/null; do
 done
 check 'a picture that is lost' 2 "$(code=0; "$board" timeline samples/p1.events -o /dev/full 2> /dev/null || code=$?; echo $code)"
 
-echo "tool: $passed passed, $failed failed"
-[ "$failed" = 0 ]
+report tool

@@ -6,7 +6,7 @@
 
 #include "tables.h"
 
-enum { RECORD_BYTES = 14, MOST_EVENTS = 210, MOST_BYTES = RECORD_BYTES * (MOST_EVENTS + 8), CHANNEL_ENTRIES = REGIONS / CHANNELS };
+enum { RECORD_BYTES = 14, MOST_EVENTS = 300, MOST_BYTES = RECORD_BYTES * (MOST_EVENTS + 8), CHANNEL_ENTRIES = REGIONS / CHANNELS };
 
 /* A file in the making: its records, the tables after them, and how often each kind comes. */
 typedef struct {
@@ -141,6 +141,44 @@ static void add_event(maker *m) {
     take_record(m, length);
 }
 
+/* One more event of this kind, with thread and line as far as it has them; a write stores 1. */
+static void add_one(maker *m, uint8_t kind, uint8_t thread, uint8_t line) {
+    uint8_t *end = m->made.file.bytes + m->made.file.length;
+    int acknowledges = kind == BOARD_LOG_ACK || kind == BOARD_DATA_ACK;
+    memset(end, 0, RECORD_BYTES);
+    end[0] = kind;
+    end[1] = acknowledges ? line : thread;
+    end[2] = line;
+    end[4] = kind == BOARD_WRITE;
+    take_record(m, (size_t)board_record(end, RECORD_BYTES).value);
+}
+
+/* A log that fills up, which chance seldom does: four regions of thread 0 with eight lines each, of which the second is done but for a dependence; a fifth one
+   wants the 33rd entry. */
+static void fill_log(maker *m) {
+    for (uint8_t line = 0; line < LOG_ENTRIES; line++) {
+        if (line % SLOTS == 0) add_one(m, BOARD_BEGIN, 0, 0);
+        add_one(m, BOARD_WRITE, 0, line);
+        add_one(m, BOARD_LOG_ACK, 0, line);
+        if (line % SLOTS == SLOTS - 1) add_one(m, BOARD_END, 0, 0);
+    }
+    for (uint8_t line = SLOTS; line < 2 * SLOTS; line++) add_one(m, BOARD_DATA_ACK, 0, line);
+    add_one(m, BOARD_BEGIN, 0, 0);
+    add_one(m, BOARD_WRITE, 0, LOG_ENTRIES);
+}
+
+/* Dependences that fill up: a region of thread 0 reads the lines of one more region than it can depend on. */
+static void fill_dependences(maker *m) {
+    for (uint8_t line = 0; line <= DEPENDENCES; line++) {
+        uint8_t owner = (uint8_t)(1 + line % (m->now.threads - 1));
+        add_one(m, BOARD_BEGIN, owner, 0);
+        add_one(m, BOARD_WRITE, owner, line);
+        add_one(m, BOARD_END, owner, 0);
+    }
+    add_one(m, BOARD_BEGIN, 0, 0);
+    for (uint8_t line = 0; line <= DEPENDENCES; line++) add_one(m, BOARD_READ, 0, line);
+}
+
 /* Where a record starts, or the file ends. */
 static size_t random_boundary(maker *m, contents file) {
     size_t at = 0;
@@ -187,6 +225,8 @@ contents random_file(uint64_t seed, uint64_t number) {
     m->common_lines = (uint8_t)(chance(m, 6) ? 0 : 1 + below(m, least(lines, 10)));
     put_setup(m, m->made.file.bytes, (uint8_t)threads, (unsigned)lines);
     take_record(m, RECORD_BYTES);
+    if (lines > LOG_ENTRIES && chance(m, 16)) fill_log(m);
+    else if (threads > 2 && lines > DEPENDENCES && chance(m, 16)) fill_dependences(m);
     for (uint64_t left = 2 + below(m, 200 >> below(m, 5)); left > 0; left--) add_event(m);
     if (!chance(m, 8)) m->made.file.bytes[m->made.file.length++] = BOARD_CUT;
     for (uint64_t times = number % 4 == 3 ? 1 + below(m, 3) : 0; times > 0 && m->made.file.length > 0; times--) damage(m, &m->made.file);

@@ -12,7 +12,7 @@
 #include "random.h"
 #include "shrink.h"
 
-enum { LIMIT = 10000, SHORT_LIMIT = 1000, BAR = 40 };
+enum { LIMIT = 10000, SHORT_LIMIT = 1000, BAR = 40, MORE_FILES = 50, MOST_SHRUNK = 8 };
 
 /* A model, what it is to give behind the answers, how long it may take, and what its last run that made a difference did. */
 typedef struct {
@@ -146,20 +146,34 @@ static void save_text(const char *name, const char *difference, contents file) {
     free(readable);
 }
 
-/* Shrinks a file that makes a difference, saves it and tells of it. */
-static void report(trial *t, uint64_t number, contents file, const char *name) {
+/* The smallest file so far that makes a difference: which one it was shrunk from, its events, and the difference in words. */
+typedef struct { contents file; uint64_t number; size_t events; char *words; } smallest;
+
+/* Shrinks a file that makes a difference, and keeps it if no smaller one is known. */
+static void keep_smaller(trial *t, uint64_t number, contents file, smallest *least) {
     if (t->hung && SHORT_LIMIT + 10 * t->slowest < t->limit) t->limit = SHORT_LIMIT + 10 * t->slowest;
     contents small = shrink(file, differs, t);
-    run events = run_events(small, NULL);
+    size_t *at = need((small.length + 1) * sizeof *at), events = split(small, at);
+    int is_smaller = least->words == NULL || events < least->events;
+    free(at);
+    free(is_smaller ? least->file.bytes : small.bytes);
+    if (!is_smaller) return;
+    free(least->words);
+    *least = (smallest){small, number, events, t->words};
+    t->words = NULL;
+}
+
+/* Saves the file and tells of it. */
+static void report(const smallest *least, const char *name) {
+    run events = run_events(least->file, NULL);
     char *beside = text_name(name);
-    write_file(name, small.bytes, small.length);
-    save_text(beside, t->words, small);
-    printf("file %" PRIu64 " makes a difference; shrunk to %zu %s:\n%s\n", number, events.count, events.count == 1 ? "event" : "events", t->words);
+    write_file(name, least->file.bytes, least->file.length);
+    save_text(beside, least->words, least->file);
+    printf("file %" PRIu64 " makes a difference; shrunk to %zu %s:\n%s\n", least->number, events.count, events.count == 1 ? "event" : "events", least->words);
     for (size_t i = 0; i < events.count; i++) print_row(stdout, &events, i);
     printf("\nsaved as %s, and in the readable form as %s\n", name, beside);
     free(beside);
     free_run(&events);
-    free(small.bytes);
 }
 
 /* ---- the command */
@@ -170,6 +184,22 @@ static void show_progress(uint64_t done, uint64_t count, int last) {
     fprintf(stderr, "\r[%-*.*s] %" PRIu64 " of %" PRIu64 "%s", BAR, (int)((double)done / (double)count * BAR), bar, done, count, last ? "\n" : "");
 }
 
+/* Tries files until one makes a difference, and then as many again and some more, of which the smallest counts: another one may shrink further. */
+static smallest try_files(trial *t, uint64_t seed, uint64_t count) {
+    smallest least = {.words = NULL};
+    size_t shrunk = 0;
+    for (uint64_t number = 0, until = count; number < until; number++) {
+        contents file = random_file(seed, number);
+        int different = differs(t, file);
+        if (different && least.words == NULL && count - number > number + MORE_FILES) until = 2 * number + MORE_FILES;
+        if (different) keep_smaller(t, number + 1, file, &least);
+        if (different && (++shrunk == MOST_SHRUNK || t->hung)) until = number + 1;
+        show_progress(number + 1, until, number + 1 >= until);
+        free(file.bytes);
+    }
+    return least;
+}
+
 int try_command(const char *usage, int argc, char **argv) {
     const char *seed_word = "1", *count_word = "1000", *name = "difference.events";
     size_t seeds = 0, counts = 0, names = 0;
@@ -178,16 +208,13 @@ int try_command(const char *usage, int argc, char **argv) {
                               {"--recovered", NULL, 0, &t.recovered}, {"-o", &name, 1, &names}, {0}};
     take_words(usage, argc, argv, options, &t.command, 1, 1);
     if (strcmp(name, "-") == 0) fail("-o: a file, not standard output\nusage: board %s", usage);
-    uint64_t seed = number_of("--seed", seed_word, UINT64_MAX), count = number_of("--count", count_word, UINT64_MAX), number = 0;
-    int different = 0;
-    for (; number < count && !different; number++) {
-        contents file = random_file(seed, number);
-        different = differs(&t, file);
-        show_progress(number + 1, count, different || number + 1 == count);
-        if (different) report(&t, number + 1, file, name);
-        free(file.bytes);
-    }
-    if (!different) printf("%" PRIu64 " files agree\n", count);
+    uint64_t seed = number_of("--seed", seed_word, UINT64_MAX), count = number_of("--count", count_word, UINT64_MAX);
+    smallest least = try_files(&t, seed, count);
+    int different = least.words != NULL;
+    if (different) report(&least, name);
+    else printf("%" PRIu64 " files agree\n", count);
+    free(least.file.bytes);
+    free(least.words);
     free(t.words);
     return different ? DIFFERENT : SAME;
 }

@@ -1,11 +1,10 @@
--- Bytes put into a room: of a number, of the elements of a list.
-use Prim.Native.Nat.{_+_, _%_, _-_, _/_, _<_, _≤_, suc, ℕ}
+-- Bytes put into a room: of the elements of a list, of parts one behind the other.
+use Prim.Native.Nat.{_+_, _<_, _≤_, ℕ}
 use mathlib.Core.Path.{_∙_, _≡_, ap, sym}
 use mathlib.Core.Bool.{Bool, false}
 use mathlib.Core.List.{List, [], _++_, _∷_, append-nil, map}
 use lib.ListN.{drop, drop-of-length-le, getD, length}
 use lib.Seq.{drop-cons}
-use native.Mathlib.Omega.{arith}
 use native.Mathlib.Numerals.{add-one}
 use Rattle.listing.specs.Layout.{flag}
 use Rattle.output.proofs.Rooms.{puts-join, puts-none}

@@ -1,5 +1,5 @@
--- Numbers read from their digits, and put as bytes.
-use Prim.Native.Nat.{_%_, _*_, _+_, _-_, _/_, _<_, _≤_, suc, ℕ}
+-- Numbers read from their digits.
+use Prim.Native.Nat.{_*_, _+_, _-_, _<_, _≤_, ℕ}
 use mathlib.Core.Path.{_≡_, refl}
 use mathlib.Core.Bool.{Bool, false, true}
 use mathlib.Core.List.{List, [], _∷_}
@@ -9,10 +9,8 @@ use native.Mathlib.Omega.{arith}
 use native.Mathlib.Numerals.{add-one}
 use borrow.Author.Tests.{le-leb, le-ltb, lt-leb, lt-ltb, ne-eqb}
 use lib.Seq.{drop-cons}
-use Rattle.rules.specs.Bytes.{bytesOf}
 use Rattle.rules.specs.Lists.{all}
 use Rattle.parsing.specs.Read.{mostOf, numberFrom, numberIn, withDigit}
-use Rattle.output.specs.Room.{Room, puts}
 use Rattle.parsing.specs.declared.Number.{Number}
 use Rattle.parsing.specs.declared.Number.the-variants.{Is, Not}
 use Rattle.undo.proofs.Laws.{test}

@@ -1,9 +1,8 @@
 // Event files out of their readable form: lines of a word and numbers, spaces, tabs or carriage returns between them, '#' in front of a comment.
 use output::Cursor;
-ghost use Prim.Native.Nat.{_+_, _%_, _≤_};
+ghost use Prim.Native.Nat.{_+_, _≤_};
 ghost use mathlib.Core.Path.{_≡_};
 ghost use lib.ListN.{length, drop};
-ghost use Rattle.rules.specs.Bytes.{bytesOf};
 ghost use Rattle.rules.specs.Kinds.{kindAt};
 ghost use Rattle.rules.specs.Lists.{all, place};
 ghost use Rattle.output.specs.Room.{room, puts};
