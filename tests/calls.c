@@ -5,6 +5,7 @@
 #include <string.h>
 
 #include "../include/board.h"
+#include "check.h"
 #include "plain/common.h"
 #include "plain/random.h"
 #include "plain/tables.h"
@@ -13,17 +14,6 @@
 enum { EVENTS = 120, FILE_BYTES = (EVENTS + 1) * PLAIN_RECORD_BYTES, TEXT_BYTES = BOARD_TEXT_BYTES(FILE_BYTES), READ_BYTES = BOARD_FILE_BYTES(TEXT_BYTES) };
 
 _Static_assert(TABLES_BYTES == BOARD_TABLES_BYTES && PLAIN_IMAGE_BYTES == BOARD_IMAGE_BYTES, "the lengths that the header tells");
-
-static unsigned long long passed, failed;
-
-static void check(int holds, const char *what, unsigned long long seed) {
-    if (holds) {
-        passed++;
-    } else {
-        failed++;
-        printf("FAILED %s, seed %llu\n", what, seed);
-    }
-}
 
 static uint8_t file[FILE_BYTES], memory[PLAIN_LINES * PLAIN_LINE_BYTES], text[2][TEXT_BYTES], bytes[2][READ_BYTES];
 
@@ -109,9 +99,11 @@ static void compare_file(unsigned long long seed) {
 
 /* Every line of one word, and of a word and a number, around the ends of what a number may be. */
 static void compare_lines(void) {
-    static const char *const words[] = {"setup", "begin", "end", "read", "write", "log-ack", "data-ack", "fence", "cut", "write-bytes", "bytes", "setu", "cuts", "x", ""};
-    static const char *const numbers[] = {"", "0", "255", "256", "65535", "65536", "18446744073709551615", "18446744073709551616", "-1", "1x", "0x1", "007", "#", "1 2 3",
-                                          "1 2 3 4", "1 2 3 4 5", "1 2 3 4 5 6", "1 2 3 4 5 6 7 8 9 10 11 12", "1 2 3 4 5 6 7 8 9 10 11 12 13", "\t1\r", "1\n\n#x\r\n bad"};
+    static const char *const words[] = {"setup", "begin", "end", "read", "write", "log-ack", "data-ack", "fence", "cut", "write-bytes", "bytes", "setu", "x", ""};
+    static const char *const numbers[] = {
+        "", "0", "255", "256", "65535", "65536", "18446744073709551615", "18446744073709551616", "-1", "1x", "0x1", "007", "#", "1 2 3", "1 2 3 4", "1 2 3 4 5",
+        "1 2 3 4 5 6", "1 2 3 4 5 6 7 8 9 10 11 12", "1 2 3 4 5 6 7 8 9 10 11 12 13", "\t1\r", "1\n\n#x\r\n bad",
+    };
     char line[128];
     for (size_t w = 0; w < sizeof words / sizeof words[0]; w++)
         for (size_t n = 0; n < sizeof numbers / sizeof numbers[0]; n++) {

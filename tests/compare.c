@@ -7,21 +7,11 @@
 #include <string.h>
 
 #include "../include/board.h"
+#include "check.h"
 #include "plain/common.h"
 #include "plain/damage.h"
 
 enum { EVENTS = 400, FILE_BYTES = (EVENTS + 1) * PLAIN_RECORD_BYTES, SPARE = 16 };
-
-static unsigned long long passed, failed;
-
-static void check(int holds, const char *what, unsigned long long seed) {
-    if (holds) {
-        passed++;
-    } else {
-        failed++;
-        printf("FAILED %s, seed %llu\n", what, seed);
-    }
-}
 
 static int agree(board_answer a, plain_answer b) { return a.refusal == b.refusal && a.value == b.value; }
 

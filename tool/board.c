@@ -15,11 +15,13 @@ typedef struct {
 
 static const command commands[] = {
     {"run", "run FILE [-m MEMORY] [-a ANSWERS]", "each event with its answer in words",
-     "Runs an event file over zero memory, or over the memory in a file: 64 bytes for each line. With -a the answers go to a file too, nine bytes each.\n", run_command},
+     "Runs an event file over zero memory, or over the memory in a file: 64 bytes for each line. With -a the answers go to a file too,\n"
+     "nine bytes each.\n", run_command},
     {"text", "text FILE [-o TEXT]", "an event file in the readable form",
      "One event a line, its word and its numbers. Bytes that are no event are a line `bytes`.\n", text_command},
     {"bytes", "bytes TEXT [-o FILE]", "the event file of a readable form",
-     "Spaces or tabs stand between the numbers, '#' in front of a comment. A fault is named with its line and column, and nothing is written.\n", bytes_command},
+     "Spaces or tabs stand between the numbers, '#' in front of a comment. A fault is named with its line and column, and nothing is\n"
+     "written.\n", bytes_command},
     {"image", "image FILE -o IMAGE [-m MEMORY] [-n]", "the image that the cut of an event file leaves",
      "With -n the new form, whose log entries stand under headers.\n", image_command},
     {"show", "show IMAGE", "what stands in an image, and what recovery will restore",
@@ -29,15 +31,16 @@ static const command commands[] = {
     {"diff", "diff IMAGE IMAGE", "the first difference of two images, in words",
      "Exit code 0 if they are the same, 1 if they differ.\n", diff_command},
     {"check", "check FILE ANSWERS [IMAGE] [-m MEMORY]", "a board's answers and image against the reference",
-     "ANSWERS has nine bytes for each event: the refusal, then the value, the low byte first. Exit code 0 if all agree, 1 at the first difference, which is told\n"
-     "with the events before it that matter.\n", check_command},
+     "ANSWERS has nine bytes for each event: the refusal, then the value, the low byte first. Exit code 0 if all agree, 1 at the first\n"
+     "difference, which is told with the events before it that matter.\n", check_command},
     {"explain", "explain FILE [N] [-m MEMORY]", "the tables after event N, and why an event was refused",
      "Events count from 1; without N it is the last one. N 0 is before the first.\n", explain_command},
     {"try", "try COMMAND [--seed S] [--count N] [--image] [--recovered] [-o FILE]", "random event files against a model",
-     "COMMAND gets an event file on standard input and gives nine bytes for each answer on standard output; with --image behind them the image, if a cut was\n"
-     "accepted, and with --recovered the image that recovery leaves. The first file that makes a difference is shrunk and saved\n"
-     "as FILE (difference.events), with its readable form beside it. The command runs by sh -c, once for each file, and has ten seconds; an end with another code than\n"
-     "0 is a difference too. Exit code 0 if all files agree, 1 if one makes a difference.\n", try_command},
+     "COMMAND gets an event file on standard input and gives nine bytes for each answer on standard output; with --image behind them\n"
+     "the image, if a cut was accepted, and with --recovered the image that recovery leaves. It runs by sh -c, once for each file, over\n"
+     "zero memory, and has ten seconds; an end with another code than 0 is a difference too. The first few files that make a difference\n"
+     "are shrunk, and the smallest is saved as FILE (difference.events), with its readable form beside it. Exit code 0 if all files\n"
+     "agree, 1 if one makes a difference.\n", try_command},
     {"timeline", "timeline FILE -o PICTURE.svg [-m MEMORY]", "regions, slots and log entries over time, as a picture",
      "One column for each event, of which there may be 500.\n", timeline_command},
 };

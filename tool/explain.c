@@ -108,7 +108,8 @@ static void explain_acknowledgement(const tables *before, int kind, uint8_t line
     for (size_t i = 0; kind == BOARD_DATA_ACK && i < before->regions; i++) {
         const region *r = &before->region[i];
         const slot *s = find_slot(r, line);
-        if (s != NULL) printf("; region %u.%u waits with count %u%s", r->name.thread, r->name.number, s->count, before->locked[line] ? ", the line is locked" : "");
+        if (s == NULL) continue;
+        printf("; region %u.%u waits with count %u%s", r->name.thread, r->name.number, s->count, before->locked[line] ? ", the line is locked" : "");
     }
 }
 
