@@ -15,7 +15,6 @@ use rules::Answer;
 use rules::Region;
 use rules::Slot;
 use rules::SlotState;
-ghost use Prim.Native.Nat.{_%_};
 ghost use mathlib.Core.Path.{_≡_};
 ghost use mathlib.Core.Bool.{false, true};
 ghost use mathlib.Core.List.{[], map};
