@@ -58,7 +58,8 @@ static void compare_text(size_t length, random_source *source, unsigned long lon
     compare_read(text[0], (size_t)a.value, seed);
     check(board_bytes(text[0], (size_t)a.value, bytes[0], sizeof bytes[0]).value == length && memcmp(bytes[0], file, length) == 0, "text read back", seed);
     for (int i = 0; i < 20 && a.value > 0; i++) {
-        text[0][random_below(source, a.value)] = some[random_below(source, sizeof some)];
+        size_t changed = (size_t)random_below(source, a.value);
+        text[0][changed] = some[random_below(source, sizeof some)];
         compare_read(text[0], (size_t)random_below(source, a.value + 1), seed);
     }
 }
@@ -67,7 +68,7 @@ static void compare_text(size_t length, random_source *source, unsigned long lon
 static void compare_walk(size_t length, size_t memory_len, random_source *source, unsigned long long seed) {
     static uint8_t image[PLAIN_IMAGE_BYTES];
     static plain_contents c;
-    uint32_t order[PLAIN_LOGGED];
+    uint32_t order[PLAIN_LOGGED] = {0};
     int headed = random_chance(source, 2);
     plain_answer saved = (headed ? plain_image_headed : plain_image)(file, length, memory, memory_len, image, sizeof image);
     if (saved.refusal != 0) return;
@@ -80,7 +81,8 @@ static void compare_walk(size_t length, size_t memory_len, random_source *source
         uint64_t due = step < c.logs ? log->line + 256 * (uint64_t)log->region.number + 16777216 * (uint64_t)log->region.thread : 0;
         check(a.refusal == 0 && a.value == due, "log entry of a step", seed);
     }
-    image[random_below(source, image_len)] = (uint8_t)random_below(source, 50);
+    size_t changed = (size_t)random_below(source, image_len);
+    image[changed] = (uint8_t)random_below(source, 50);
     size_t shorter = (size_t)random_below(source, image_len + 1);
     check(board_recovery_entry(image, shorter, 0).refusal == plain_read_image(image, shorter, 1, &c), "refusal of an image", seed);
 }
@@ -89,7 +91,9 @@ static void compare_file(unsigned long long seed) {
     random_source source = {seed * 2654435761u + 1};
     uint8_t threads = (uint8_t)(1 + random_below(&source, PLAIN_THREADS));
     uint16_t lines = (uint16_t)(1 + random_below(&source, random_chance(&source, 2) ? 9 : PLAIN_LINES));
-    size_t length = random_file(seed, (random_mode)random_below(&source, 3), threads, lines, 2 + random_below(&source, EVENTS - 2), file);
+    random_mode mode = (random_mode)random_below(&source, 3);
+    uint64_t count = 2 + random_below(&source, EVENTS - 2);
+    size_t length = random_file(seed, mode, threads, lines, count, file);
     size_t memory_len = (size_t)lines * PLAIN_LINE_BYTES;
     for (size_t i = 0; i < memory_len; i++) memory[i] = (uint8_t)random_next(&source);
     compare_tables(length, memory_len, seed);

@@ -40,7 +40,11 @@ contents read_file(const char *name) {
         file.bytes = larger;
         file.length += fread(file.bytes + file.length, 1, room - file.length, in);
     } while (file.length == room);
-    if (ferror(in)) fail("%s: %s", input_name(name), strerror(errno));
+    if (ferror(in)) {
+        int cause = errno;
+        free(file.bytes);
+        fail("%s: %s", input_name(name), strerror(cause));
+    }
     if (!is_standard(name)) fclose(in);
     return file;
 }

@@ -17,7 +17,7 @@ typedef struct {
     tables now;
 } maker;
 
-/* ---- numbers */
+/* ---- numbers: one draw in a statement, where the order counts, so that a seed gives the same files whatever the compiler */
 
 static uint64_t draw(maker *m) {
     uint64_t x = m->source += UINT64_C(0x9e3779b97f4a7c15);
@@ -112,8 +112,10 @@ static void put_setup(maker *m, uint8_t *out, uint8_t threads, unsigned lines) {
 
 /* A setup that may be wrong in a number. */
 static void put_any_setup(maker *m, uint8_t *out) {
-    put_setup(m, out, (uint8_t)(1 + below(m, THREADS)), (unsigned)(1 + below(m, LINES)));
-    if (chance(m, 2)) out[1 + below(m, RECORD_BYTES - 1)] = chance(m, 2) ? any_byte(m) : (uint8_t)below(m, 20);
+    uint8_t threads = (uint8_t)(1 + below(m, THREADS));
+    put_setup(m, out, threads, (unsigned)(1 + below(m, LINES)));
+    size_t wrong = 1 + below(m, RECORD_BYTES - 1);
+    if (chance(m, 2)) out[wrong] = chance(m, 2) ? any_byte(m) : (uint8_t)below(m, 20);
 }
 
 /* ---- files */
@@ -196,10 +198,11 @@ static void insert(contents *file, size_t at, const uint8_t *bytes, size_t lengt
 /* A byte changed, a record of any content, a second setup, one in front, the end cut off, or bytes of any kind behind it. */
 static void damage(maker *m, contents *file) {
     uint8_t record[RECORD_BYTES];
+    size_t place = below(m, file->length);
     for (size_t i = 0; i < sizeof record; i++) record[i] = any_byte(m);
     if (chance(m, 2)) record[0] = (uint8_t)below(m, BOARD_WRITE_BYTES + 1);
     switch (below(m, 6)) {
-    case 0: file->bytes[below(m, file->length)] ^= (uint8_t)(1 << below(m, 8)); break;
+    case 0: file->bytes[place] ^= (uint8_t)(1 << below(m, 8)); break;
     case 1: insert(file, random_boundary(m, *file), record, (size_t)board_record(record, sizeof record).value); break;
     case 2:
         put_any_setup(m, record);

@@ -139,7 +139,7 @@ static words missing_predecessor(const lists *in, size_t i) {
     return depends_on(&in->region[i], last) ? none : say("it does not depend on %s", name_words(last).text);
 }
 
-static words circle(const lists *in, size_t i) { return in->reached[i] >> i & 1 ? say("its dependences lead back to it") : none; }
+static words circle(const lists *in, size_t i) { return i < REGIONS && (in->reached[i] >> i & 1) ? say("its dependences lead back to it") : none; }
 
 static words done_alone(const lists *in, size_t i) {
     return state_of(&in->region[i]) == 1 && dependence_of(&in->region[i], 0).number == 0 ? say("it is done and has no dependences") : none;
