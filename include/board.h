@@ -98,8 +98,9 @@ board_answer board_record(const uint8_t *file, size_t file_len);
      head, 18 bytes     T (1), L (2), the party of the threads 0 to 7 (8), the reserves (2), 1 after a cut (1), number of regions that have ended (4)
      8 threads, 259 each   depth (1), number of its last region (2), a bit for each line that its open region has read (32; line l is bit l % 8 of byte l / 8),
                         32 log entries of 7: region (4), line (1), number of entries that the region wrote before it (1), 1 if persistent, 0 in flight (1)
-     32 regions, 55 each   region (4), channel (1), 1 if ended (1), 1 if done (1), as which it ended, the first is 1 (4), four dependences (regions, 4 each), its
-                        last four different lines, the newest first (1 each), 8 slots of 3: line, state (0 empty, 1 waiting, 2 in flight), count
+     32 regions, 55 each   region (4), channel (1), 1 if ended (1), 1 if done (1), as which it ended, the first is 1, 0 while it is open (4), four dependences
+                        (regions, 4 each), its last four different lines, the newest first (1 each), 8 slots of 3: line, state (0 empty, 1 waiting, 2 in
+                        flight), count
      256 owners         the last region that wrote the line, committed or not (4 each)
      256 locks          1 if the line is locked (1 each)
    A region in four bytes is its number (2), its thread (1) and 0; four zeros are none, and a free place of its list. Numbers are little-endian. */

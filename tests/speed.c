@@ -1,7 +1,7 @@
 /* speed [EVENTS]: nanoseconds per event of the proved engine beside the plain one, on a mixed and a deep run at T 8, L 256, whose writes are of words, on
    a mixed one where half of them are of bytes, on one of many begins with half of each channel kept for each party, and on one of writes; then
    microseconds for the largest image (32 regions, 256 log entries): the image call, one judgement, a whole recovery; then the same for the new form, and how
-   often the old form's time that is. Each time is the best of five runs over the same input; both must give the same bytes. */
+   often the old form's time that is; then nanoseconds per event for the readable form, written and read back. Each time is the best of five runs over the same input; both must give the same bytes. */
 #define _POSIX_C_SOURCE 199309L
 #include <stdio.h>
 #include <stdlib.h>
@@ -11,6 +11,7 @@
 #include "../include/board.h"
 #include "plain/common.h"
 #include "plain/random.h"
+#include "plain/text.h"
 
 enum { RUNS = 5 };
 
@@ -123,6 +124,45 @@ static int image_speed(void) {
     return 1;
 }
 
+/* The readable form of a file into a text, and back into bytes; gives their number, and the best time of each in nanoseconds. */
+static size_t text_times(int proved, const uint8_t *file, size_t length, uint8_t *text, uint8_t *bytes, double best[2]) {
+    size_t made = 0, at;
+    for (int run = 0; run < RUNS; run++) {
+        double start = now(), between;
+        if (proved) {
+            size_t text_len = (size_t)board_text(file, length, text, BOARD_TEXT_BYTES(length)).value;
+            between = now();
+            made = (size_t)board_bytes(text, text_len, bytes, BOARD_FILE_BYTES(text_len)).value;
+        } else {
+            size_t text_len = (size_t)plain_text(file, length, text, BOARD_TEXT_BYTES(length)).value;
+            between = now();
+            plain_read_text(text, text_len, bytes, &made, &at);
+        }
+        double times[2] = {between - start, now() - between};
+        for (int i = 0; i < 2; i++)
+            if (run == 0 || times[i] < best[i]) best[i] = times[i];
+    }
+    return made;
+}
+
+/* Both engines on the readable form of a mixed file; 0 if what is read back is not the file. */
+static int text_speed(void) {
+    enum { COUNT = 50000 };
+    static uint8_t file[(COUNT + 1) * PLAIN_RECORD_BYTES];
+    size_t length = random_file(1, RANDOM_MIXED, PLAIN_THREADS, PLAIN_LINES, COUNT, file);
+    uint8_t *text = malloc(BOARD_TEXT_BYTES(length)), *bytes = malloc(BOARD_FILE_BYTES(BOARD_TEXT_BYTES(length)));
+    double times[2][2];
+    int same = text != NULL && bytes != NULL;
+    for (int proved = 0; proved < 2 && same; proved++)
+        same = text_times(proved, file, length, text, bytes, times[proved]) == length && memcmp(bytes, file, length) == 0;
+    for (int i = 0; i < 2 && same; i++)
+        printf("text %s: proved %.1f ns, plain %.1f ns per event, %.2f times\n", i == 0 ? "written" : "read", times[1][i] / COUNT, times[0][i] / COUNT,
+               times[1][i] / times[0][i]);
+    free(text);
+    free(bytes);
+    return same;
+}
+
 int main(int argc, char **argv) {
     static const struct { const char *name; random_mode mode; } runs[] = {
         {"mixed", RANDOM_MIXED_WORDS}, {"deep", RANDOM_DEEP_WORDS}, {"bytes", RANDOM_MIXED_BYTES}, {"reserves", RANDOM_RESERVES},
@@ -137,5 +177,5 @@ int main(int argc, char **argv) {
     if (!compared("writes", file, writes_file(count, file), count, answers)) return 1;
     free(file);
     free(answers);
-    return image_speed() ? 0 : 1;
+    return image_speed() && text_speed() ? 0 : 1;
 }
