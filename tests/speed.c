@@ -1,7 +1,8 @@
 /* speed [EVENTS]: nanoseconds per event of the proved engine beside the plain one, on a mixed and a deep run at T 8, L 256, whose writes are of words, on
    a mixed one where half of them are of bytes, on one of many begins with half of each channel kept for each party, and on one of writes; then
    microseconds for the largest image (32 regions, 256 log entries): the image call, one judgement, a whole recovery; then the same for the new form, and how
-   often the old form's time that is; then nanoseconds per event for the readable form, written and read back. Each time is the best of five runs over the same input; both must give the same bytes. */
+   often the old form's time that is; then nanoseconds per event for the readable form, written and read back. Each time is the best of five runs over the same
+   input; both must give the same bytes. */
 #define _POSIX_C_SOURCE 199309L
 #include <stdio.h>
 #include <stdlib.h>

@@ -2,3 +2,4 @@ pub mod Places
 pub mod Accepted
 pub mod Leaves
 pub mod Steps
+pub mod Tells

@@ -7,6 +7,7 @@ ghost use Rattle.headed.specs.Recovery.{recoveryCallAs, restoreAs};
 ghost use Rattle.reading.specs.Scan.{readOf};
 ghost use Rattle.walking.specs.Indices.{entryAt, orderOf};
 ghost use Rattle.recovery.specs.Places.{walkedKeys, moreOf, lentAt, leftBy, nextOf, noEntry, restoredOf, stayed, calledWith, entryCall};
+ghost use Rattle.recovery.specs.Tells.{EntriesTold};
 use measures::LINE_WORDS;
 use measures::Line;
 use reading::Read;
@@ -127,6 +128,11 @@ pub fn entry_call(image: &[u8], at: u64) -> Answer
         value: 256 * (next.key as u64) + (next.line as u64),
     }
 }
+
+// What the call above tells of the step at its place, on any bytes.
+pub fn entries_are_told()
+    ensures { λ r. ⌜ EntriesTold ⌝ }
+{}
 
 // A refusal, 0 for none, with nothing restored: the place stays.
 fn stay(refusal: u8, at: u64) -> Walked
