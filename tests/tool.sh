@@ -131,7 +131,7 @@ for file in samples/*.events; do
             "$("$board" recover "$scratch/image" -o "$scratch/again" --lose-power-at $((steps > 1 ? steps - 1 : 7)) | tail -n 1)"
         check "$file $form, power lost, recovered" $'the images are the same\nexit 0' "$(said "$board" diff "$scratch/recovered" "$scratch/again")"
         "$board" run "$file" -a "$scratch/answers" > /dev/null
-        check "$file $form, its answers and image" "$(wc -l < "${file%.events}.txt" > /dev/null; "$bin/trace" < "$file" | grep -vc '^M') answers agree, and the image"$'\nexit 0' \
+        check "$file $form, its answers and image" "$("$bin/trace" < "$file" | grep -vc '^M') answers agree, and the image"$'\nexit 0' \
             "$(said "$board" check "$file" "$scratch/answers" "$scratch/image")"
         byte "$scratch/image" 5 77
         check "$file $form, another image" 'record 2 (line 0): word 0 is exit 1' "$(said "$board" diff "$scratch/image" "$scratch/changed" | sed 's/ is [0-9]* in .*/ is/' | paste -sd ' ')"
