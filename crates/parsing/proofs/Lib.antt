@@ -5,3 +5,4 @@ pub mod Reading
 pub mod Lines
 pub mod Sizes
 pub mod Faults
+pub mod Cases
