@@ -3,7 +3,7 @@ CC = gcc
 CFLAGS = -std=gnu11 -O2 -Wall -Wextra -Werror $(SANITIZE)
 PREFIX = /usr/local
 BUILD = target/board
-ENGINE = target/staticlib/libboard.a
+ENGINE = crates/board/out/libboard.a
 TOOL = $(filter-out tool/words.c,$(wildcard tool/*.c))
 VERSION = $(shell sed -n 's/^.define BOARD_VERSION "\(.*\)"/\1/p' include/board.h)
 
@@ -20,7 +20,7 @@ install: board
 	sed -e 's,@PREFIX@,$(PREFIX),' -e 's,@VERSION@,$(VERSION),' include/board.pc.in > $(DESTDIR)$(PREFIX)/lib/pkgconfig/board.pc
 
 $(ENGINE): $(wildcard crates/*/src/*.rt)
-	rt staticlib board
+	cd crates/board && rt lib
 	touch $@
 
 $(BUILD)/words.o: tool/words.c include/board.h
