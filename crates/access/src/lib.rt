@@ -1,3 +1,5 @@
+#![tactic(auto)]
+
 // What an accepted read does and what a write does behind its tests before 20, in place. Each function has the rule of document 01 for its contract, for
 // every number and every content of the rows.
 ghost use Rattle.std.specs.Prelude.{◌≡◌};

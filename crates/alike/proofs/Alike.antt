@@ -64,12 +64,12 @@ module _ {r q : Recovering} (b : Beside r q) where
 pub acts-beside : {r q : Recovering} (as' : List TornAct) → Beside r q → Beside (torn_acts r as') (headed_acts q as')
 unfolding torn_acts headed_acts
 acts-beside [] b = b
-acts-beside (c ∷ as') b = acts-beside as' (act-beside b c)
+acts-beside {r = r} {q = q} (c ∷ as') b = acts-beside {r = torn_act r c} as' (act-beside b c)
 
 pub steps-beside : {r q : Recovering} (n : ℕ) → Beside r q → Beside (restores n r) (headed_acts q (replicate n Whole))
 unfolding restores headed_acts headed_act
 steps-beside zero b = b
-steps-beside (suc n) b = steps-beside n (step-beside b)
+steps-beside {r = r} {q = q} (suc n) b = steps-beside {r = (restore r).after} n (step-beside b)
 
 -- ---- the old image by the new step
 
@@ -85,7 +85,7 @@ act-same {r} (Inside p) b = ap (λ v. torn_read p v r) (reads_same b.bytes)
 acts-same : {r q : Recovering} (as' : List TornAct) → Beside r q → headed_acts r as' ≡ torn_acts r as'
 unfolding headed_acts torn_acts
 acts-same [] b = refl
-acts-same (c ∷ as') b = rw (act-same c b) (acts-same as' (act-beside b c))
+acts-same {r = r} {q = q} (c ∷ as') b = rw (act-same c b) (acts-same {r = torn_act r c} as' (act-beside b c))
 
 -- ---- the promise
 

@@ -13,7 +13,7 @@ use Rattle.laws.proofs.Bench.{save-accepted, saved-if}
 use Rattle.laws.specs.Bench.{Bench, bench_act, bench_acts, lent_image, next_call}
 use Rattle.rules.specs.Bytes.{bytes_of, num_of}
 use Rattle.rules.specs.Claim.{board_after, entries_in}
-use Rattle.rules.specs.Image.{image, image_call, save, saved}
+use Rattle.rules.specs.Image.{image, image_call, save}
 use Rattle.rules.specs.Record.{records_of}
 use Rattle.rules.specs.Recovery.{Restore, is_finished, recovery_call}
 use Rattle.rules.specs.Refusal.{is_set_up}
@@ -55,13 +55,13 @@ call-beside {c} {d} (Inside p) b = record { bytes = rw b.place (same-tear (num_o
 pub calls-beside : {c d : Bench} (as' : List TornAct) → Beside c d → Beside (torn_calls c as') (headed_calls d as')
 unfolding torn_calls headed_calls
 calls-beside [] b = b
-calls-beside (a ∷ as') b = calls-beside as' (call-beside a b)
+calls-beside {c = c} {d = d} (a ∷ as') b = calls-beside {c = torn_call c a} as' (call-beside a b)
 
 -- n calls more
 more-beside : {c d : Bench} (n : ℕ) → Beside c d → Beside (bench_acts c (replicate n Restore)) (headed_calls d (replicate n Whole))
 unfolding bench_acts headed_calls torn_call
 more-beside zero b = b
-more-beside (suc n) b = more-beside n (call-beside Whole b)
+more-beside {c = c} {d = d} (suc n) b = more-beside {c = torn_call c Whole} n (call-beside Whole b)
 
 -- an accepted image call: of a board that is cut, and its buffer begins with the new image
 saved-headed : (b : Board) (d : List ℕ) → (save_headed b d).answer.refusal ≡ 0

@@ -1,5 +1,5 @@
 -- The two forms of one state: a step, and a step that is cut inside, does to both the same.
-use Prim.Native.Nat.{◌+◌, ◌<◌, ℕ}
+use Prim.Native.Nat.{◌<◌, ℕ}
 use mathlib.Core.Path.{◌∙◌, ◌≡◌, refl, sym}
 use mathlib.Core.Bool.{Bool, false, true}
 use mathlib.Core.List.{List, [], ◌++◌, ◌∷◌}

@@ -1,3 +1,5 @@
+#![tactic(auto)]
+
 // Request 14: recovery from either form of an image. Each function has no body: its contract is the promise.
 ghost use Rattle.alike.specs.Alike.{HeadedRecovery};
 ghost use Rattle.alike.specs.Bench.{HeadedBenchRecovers};

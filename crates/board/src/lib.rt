@@ -1,3 +1,5 @@
+#![tactic(auto)]
+
 // The calls for benches in C; include/board.h declares them. A slice is a pointer and a length. No call keeps state.
 ghost use Rattle.std.specs.Prelude.{◌≡◌};
 ghost use Rattle.rules.specs.Image.{image_call};

@@ -1,3 +1,5 @@
+#![tactic(auto)]
+
 // Tries cases against the engine and the calls. They stand on standard input, as text of at most 131,072 bytes. `#` starts a comment.
 //     case NAME               starts a case, on a fresh board over zero memory
 //     lent 128 7              right behind the name: the board is over lent memory, of 128 bytes 7 (at most 16,448)
@@ -14,8 +16,9 @@
 //     either 8 = 0 1          the same with the step that takes both forms
 //     place 0                 the place becomes 0, as after a cut
 //     byte 4 = 33 / word 1 2 = 7 / place = 2      byte 4, word 2 of line 1, the place
-// Prints a line for each case, then how many there are and how many are right. A line in no form makes its case wrong.
-ghost use Rattle.std.specs.Prelude.{◌≡◌, ◌≤◌, ◌&&◌, length, if◌then◌else◌};
+// Prints a line for each case, then how many there are and how many are right. A line in no form makes its case wrong. What can't be written is passed over.
+ghost use Rattle.std.specs.Prelude.{◌≡◌, ◌≤◌, ◌&&◌, length, take, if◌then◌else◌};
+ghost use Rattle.std.specs.Io.KnownBytes.{Consumes};
 ghost use Rattle.trying.specs.Score.{agree, counted};
 
 use measures::{
@@ -23,6 +26,7 @@ use measures::{
 };
 use rows::Head;
 use rules::Answer;
+use std::io::{Read, Write};
 use trying::{Due, Total};
 
 // ---- a line
@@ -114,7 +118,7 @@ fn low(x: u64) -> u8 {
 }
 
 // The line at a place: its text starts there and ends at its comment or its end, and whether it is behind the last one.
-#[derive(Drop)]
+#[derive(Clone, Copy)]
 struct Line {
     start: usize,
     end: usize,
@@ -129,8 +133,8 @@ fn line_at(text: &[u8], at: usize) -> Line
     let e = trying::find(text, start, 10);
     let end = trying::find(&text[..e], start, 35);
     Line {
-        start: start,
-        end: end,
+        start,
+        end,
         next: sum(e, 1),
         last: text.len() <= at,
     }
@@ -139,7 +143,7 @@ fn line_at(text: &[u8], at: usize) -> Line
 // ---- where a case goes on
 
 // The next line, where the lines that are repeated begin, and how often they have been.
-#[derive(Drop)]
+#[derive(Clone, Copy)]
 struct Spot {
     at: usize,
     mark: usize,
@@ -148,7 +152,7 @@ struct Spot {
 
 fn spot_at(at: usize) -> Spot {
     Spot {
-        at: at,
+        at,
         mark: at,
         turns: 0,
     }
@@ -178,32 +182,24 @@ fn spot_behind(s: Spot, b: u8, n: u64, next: usize) -> Spot {
 // ---- answers
 
 // How many answers of a case were judged, and whether all were right.
-#[derive(Drop)]
+#[derive(Clone, Copy)]
 struct Score {
     answers: u64,
     right: bool,
 }
 
-fn print_answer(refusal: u64, value: u64) {
-    io::print_decimal(1, refusal);
-    io::write_all(1, b" ");
-    io::print_decimal(1, value);
-}
-
-fn print_wrong(answers: u64, a: Answer, d: Due) {
-    io::write_all(1, b": answer ");
-    io::print_decimal(1, answers);
-    io::write_all(1, b" is ");
-    print_answer(a.refusal as u64, a.value);
-    io::write_all(1, b", not ");
-    print_answer(d.refusal, d.value);
-    io::write_all(1, b"\n");
+fn print_wrong<W: Write>(to: &mut W, answers: u64, a: Answer, d: Due) {
+    let _ = writeln!(
+        to,
+        ": answer {answers} is {} {}, not {} {}",
+        a.refusal, a.value, d.refusal, d.value
+    );
 }
 
 // The first wrong answer of a case is printed.
-fn report(was_right: bool, right: bool, answers: u64, a: Answer, d: Due) {
+fn report<W: Write>(to: &mut W, was_right: bool, right: bool, answers: u64, a: Answer, d: Due) {
     if was_right && !right {
-        print_wrong(answers, a, d);
+        print_wrong(to, answers, a, d);
     }
 }
 
@@ -217,22 +213,22 @@ fn both(a: bool, b: bool) -> bool
 }
 
 // A case stays right as long as each answer is the one that is due.
-fn judge(s: Score, a: Answer, d: Due) -> Score
+fn judge<W: Write>(to: &mut W, s: Score, a: Answer, d: Due) -> Score
     ensures { result.right ≡ s.right && agree a d }
 {
-    let answers = std::num::wrapping_add_u64(s.answers, 1);
+    let answers = s.answers.wrapping_add(1);
     let right = trying::agrees(a, d);
-    report(s.right, right, answers, a, d);
+    report(to, s.right, right, answers, a, d);
     Score {
-        answers: answers,
+        answers,
         right: both(s.right, right),
     }
 }
 
 // A line in no form.
-fn spoil(s: Score) -> Score {
+fn spoil<W: Write>(to: &mut W, s: Score) -> Score {
     if s.right {
-        io::write_all(1, b": a line in no form\n");
+        let _ = to.write_all(b": a line in no form\n");
     }
     Score {
         answers: s.answers,
@@ -243,7 +239,7 @@ fn spoil(s: Score) -> Score {
 // ---- events
 
 // A case as far as it is tried: the numbers beside the rows, the score, the bytes of its file, whether these are all, and the length of the image.
-#[derive(Drop)]
+#[derive(Clone, Copy)]
 struct Tried {
     head: Head,
     score: Score,
@@ -267,7 +263,7 @@ fn fresh(zero: bool, lent: usize) -> Tried {
 
 // What a line has for the board: whether it has an event, whether that is in its form, and where its record stands in the file of its case. A line without
 // one has the empty record, which the board refuses.
-#[derive(Drop)]
+#[derive(Clone, Copy)]
 struct EventRead {
     event: bool,
     ok: bool,
@@ -280,8 +276,8 @@ fn no_event(ok: bool, at: usize) -> EventRead
 {
     EventRead {
         event: !ok,
-        ok: ok,
-        at: at,
+        ok,
+        at,
         end: at,
     }
 }
@@ -316,24 +312,24 @@ fn read_event(file: &mut [u8], from: usize, event: bool, line: &[u8]) -> EventRe
     EventRead {
         event: true,
         ok: true,
-        at: at,
-        end: end,
+        at,
+        end,
     }
 }
 
 // A line that has an answer to judge, or is in no form.
-fn scored(s: Score, judged: bool, ok: bool, a: Answer, line: &[u8]) -> Score {
+fn scored<W: Write>(to: &mut W, s: Score, judged: bool, ok: bool, a: Answer, line: &[u8]) -> Score {
     if !judged {
         return s;
     }
     if !ok {
-        return spoil(s);
+        return spoil(to, s);
     }
-    judge(s, a, trying::due_of(line))
+    judge(to, s, a, trying::due_of(line))
 }
 
 // The next line of a case: where it stands, its word, first byte and first number, where the line behind it is, whether the case is over, and its event.
-#[derive(Drop)]
+#[derive(Clone, Copy)]
 struct Next {
     start: usize,
     end: usize,
@@ -362,8 +358,8 @@ fn next_line(text: &[u8], at: usize, file: &mut [u8], from: usize) -> Next
     Next {
         start: a,
         end: b,
-        word: word,
-        first: first,
+        word,
+        first,
         count: trying::number(line, 0),
         next: l.next,
         over: ends_case(l.last, word),
@@ -371,11 +367,18 @@ fn next_line(text: &[u8], at: usize, file: &mut [u8], from: usize) -> Next
     }
 }
 
-fn with_event(t: Tried, r: EventRead, h: Head, a: Answer, line: &[u8]) -> Tried {
+fn with_event<W: Write>(
+    to: &mut W,
+    t: Tried,
+    r: EventRead,
+    h: Head,
+    a: Answer,
+    line: &[u8],
+) -> Tried {
     let s = t.score;
     Tried {
         head: h,
-        score: scored(s, r.event, r.ok, a, line),
+        score: scored(to, s, r.event, r.ok, a, line),
         file: r.end,
         whole: t.whole && r.at == t.file,
         image: t.image,
@@ -519,19 +522,27 @@ fn file_length(t: Tried, file: &[u8]) -> usize
 }
 
 // The score and the length of the image behind a call.
-fn with_call(t: Tried, judged: bool, a: Answer, line: &[u8], image: usize) -> Tried {
+fn with_call<W: Write>(
+    to: &mut W,
+    t: Tried,
+    judged: bool,
+    a: Answer,
+    line: &[u8],
+    image: usize,
+) -> Tried {
     let h = t.head;
     let s = t.score;
     Tried {
         head: h,
-        score: scored(s, judged, true, a, line),
+        score: scored(to, s, judged, true, a, line),
         file: t.file,
         whole: t.whole,
-        image: image,
+        image,
     }
 }
 
-fn try_call(
+fn try_call<W: Write>(
+    to: &mut W,
     t: Tried,
     word: usize,
     line: &[u8],
@@ -549,6 +560,7 @@ fn try_call(
             value: 0,
         };
         return with_call(
+            to,
             t,
             false,
             none,
@@ -559,13 +571,20 @@ fn try_call(
     let n = file_length(t, file);
     let a = call(word, line, &file[..n], memory, out, t.image, place);
     let saved = is_saved(word, a);
-    with_call(t, true, a, line, either(saved, a.value as usize, t.image))
+    with_call(
+        to,
+        t,
+        true,
+        a,
+        line,
+        either(saved, a.value as usize, t.image),
+    )
 }
 
 // ---- the text
 
 // Whether a line began a case, whether that was right, and where the next line is.
-#[derive(Drop)]
+#[derive(Clone, Copy)]
 struct Done {
     case: bool,
     right: bool,
@@ -573,19 +592,20 @@ struct Done {
 }
 
 // A case behind its last line.
-fn finished(s: Score, at: usize) -> Done {
+fn finished<W: Write>(to: &mut W, s: Score, at: usize) -> Done {
     if s.right {
-        io::write_all(1, b": ok\n");
+        let _ = to.write_all(b": ok\n");
     }
     Done {
         case: true,
         right: s.right,
-        at: at,
+        at,
     }
 }
 
 // A case behind a line, whose event leaves h and has the answer a.
-fn with_line(
+fn with_line<W: Write>(
+    to: &mut W,
     t: Tried,
     n: Next,
     h: Head,
@@ -602,12 +622,13 @@ fn with_line(
     let j = n.end;
     let line = &text[i..j];
     let r = n.ev;
-    let e = with_event(t, r, h, a, line);
-    try_call(e, n.word, line, file, memory, out, place)
+    let e = with_event(to, t, r, h, a, line);
+    try_call(to, e, n.word, line, file, memory, out, place)
 }
 
 // The lines of a case, from `from` on. No run uses up the count of lines.
-fn run_lines(
+fn run_lines<W: Write>(
+    to: &mut W,
     text: &[u8],
     from: usize,
     zero: bool,
@@ -652,12 +673,12 @@ fn run_lines(
         );
         let g = o.head;
         let a = o.answer;
-        t = with_line(t, n, g, a, text, file, memory, out, place);
+        t = with_line(to, t, n, g, a, text, file, memory, out, place);
         s = spot_behind(s, n.first, n.count, n.next);
         lines -= 1;
     }
     let q = t.score;
-    finished(q, s.at)
+    finished(to, q, s.at)
 }
 
 // The buffer of a case; an image has at most 34,853 bytes.
@@ -668,11 +689,11 @@ fn buffer() -> [u8; 40000]
 }
 
 // A case over its memory.
-fn run_over(text: &[u8], at: usize, zero: bool, memory: &[u8]) -> Done {
-    let mut file = io::buffer();
+fn run_over<W: Write>(to: &mut W, text: &[u8], at: usize, zero: bool, memory: &[u8]) -> Done {
+    let mut file = [0u8; 4096];
     let mut out = buffer();
     let mut place = [0u8; 16];
-    run_lines(text, at, zero, memory, &mut file, &mut out, &mut place)
+    run_lines(to, text, at, zero, memory, &mut file, &mut out, &mut place)
 }
 
 // The lent memory, as much of it as a case may have.
@@ -683,7 +704,7 @@ fn memory_of(fill: u8) -> [u8; 16448]
 }
 
 // The case whose lines begin at `from`. A line `lent` stands right behind the name.
-fn run_case(text: &[u8], from: usize) -> Done {
+fn run_case<W: Write>(to: &mut W, text: &[u8], from: usize) -> Done {
     let l = line_at(text, from);
     let a = l.start;
     let b = l.end;
@@ -691,18 +712,18 @@ fn run_case(text: &[u8], from: usize) -> Done {
     let lent = word_of(line) == LENT;
     let memory = memory_of(low(trying::number(line, 1)));
     let n = within(&memory, either(lent, trying::number(line, 0) as usize, 0));
-    run_over(text, either(lent, l.next, from), !lent, &memory[..n])
+    run_over(to, text, either(lent, l.next, from), !lent, &memory[..n])
 }
 
 // The name behind the word `case`.
-fn print_name(line: &[u8]) {
+fn print_name<W: Write>(to: &mut W, line: &[u8]) {
     if 5 <= line.len() {
-        io::write_all(1, &line[5..]);
+        let _ = to.write_all(&line[5..]);
     }
 }
 
 // Lines before the first case are passed over.
-fn run_line(text: &[u8], at: usize) -> Done {
+fn run_line<W: Write>(to: &mut W, text: &[u8], at: usize) -> Done {
     let l = line_at(text, at);
     let a = l.start;
     let b = l.end;
@@ -714,8 +735,8 @@ fn run_line(text: &[u8], at: usize) -> Done {
             at: l.next,
         };
     }
-    print_name(line);
-    run_case(text, l.next)
+    print_name(to, line);
+    run_case(to, text, l.next)
 }
 
 fn with_case(t: Total, d: Done) -> Total
@@ -728,7 +749,7 @@ fn with_case(t: Total, d: Done) -> Total
 }
 
 // The lines one by one; no run uses up the count of lines.
-fn run_text(text: &[u8]) -> Total {
+fn run_text<W: Write>(to: &mut W, text: &[u8]) -> Total {
     let mut total = Total { cases: 0, right: 0 };
     let mut at: usize = 0;
     let mut lines = u64::MAX;
@@ -736,7 +757,7 @@ fn run_text(text: &[u8]) -> Total {
         if text.len() <= at {
             break;
         }
-        let d = run_line(text, at);
+        let d = run_line(to, text, at);
         total = with_case(total, d);
         at = d.at;
         lines -= 1;
@@ -751,12 +772,38 @@ fn text_buffer() -> [u8; 131072]
     [0; 131072]
 }
 
-fn main() {
+// Reads once, to the front of a buffer. Answers how many bytes are read: none where the input has ended, or can't be read.
+fn read_once<R: Read>(input: &mut R, text: &mut [u8]) -> usize
+    ensures fits { result ≤ length text.new }
+    ensures comes { Consumes (R.remaining input.old) (R.remaining input.new) (take result text.new) }
+{
+    match input.read(text) {
+        Ok(n) => n,
+        Err(_) => 0,
+    }
+}
+
+// Reads until a buffer is full, or nothing more comes. Answers how many bytes are read.
+fn read_full<R: Read>(input: &mut R, text: &mut [u8]) -> usize
+    ensures fits { result ≤ length text.new }
+    ensures comes { Consumes (R.remaining input.old) (R.remaining input.new) (take result text.new) }
+{
+    let mut n: usize = 0;
+    while n < text.len() {
+        let more = read_once(input, &mut text[n..]);
+        n += more;
+        if more == 0 {
+            return n;
+        }
+    }
+    n
+}
+
+fn main(rt: HostRuntime) {
+    let mut input = rt.stdin();
+    let mut output = rt.stdout();
     let mut text = text_buffer();
-    let n = io::read_full(0, &mut text);
-    let t = run_text(&text[..n]);
-    io::print_decimal(1, t.cases);
-    io::write_all(1, b" cases, ");
-    io::print_decimal(1, t.right);
-    io::write_all(1, b" right\n");
+    let n = read_full(&mut input, &mut text);
+    let t = run_text(&mut output, &text[..n]);
+    let _ = writeln!(output, "{} cases, {} right", t.cases, t.right);
 }

@@ -1,3 +1,5 @@
+#![tactic(auto)]
+
 // What is done, and what commits, in place over the lent rows: the last part of a step. A row is judged by its numbers, and no region is taken out of it.
 ghost use Rattle.std.specs.Prelude.{◌≡◌, ◌&&◌, map, eqb};
 ghost use Rattle.measures.specs.Loan.{lent};

@@ -1,3 +1,5 @@
+#![tactic(auto)]
+
 // A drill: an event file, the image that its cut left, recovery steps and power cuts on it, between two steps or inside one. The promise of demand 3, said of
 // what the functions return.
 ghost use Rattle.std.specs.Prelude.{◌≡◌, cond, eqb, ◌%◌};
@@ -9,7 +11,7 @@ use measures::Line;
 use rules::Answer;
 
 // What a drill found: the answer to the save, and the answer to the last recovery step.
-#[derive(Drop)]
+#[derive(Clone, Copy)]
 pub struct DrillAnswers {
     pub saved: Answer,
     pub last: Answer,

@@ -1,3 +1,5 @@
+#![tactic(auto)]
+
 // What an accepted end and the accepted acknowledgements do before regions become done and commit, in place. Each function has the rule of document 01 for its
 // contract, for every number and every content of the rows.
 ghost use Rattle.std.specs.Prelude.{◌-◌, ◌≡◌, map, set};

@@ -1,3 +1,5 @@
+#![tactic(auto)]
+
 // One event of any content, in place: its refusal, or what it changes. A refusal changes nothing.
 ghost use Rattle.std.specs.Prelude.{◌<◌, ◌≡◌, true, set};
 ghost use Rattle.measures.specs.Loan.{lent, shown};
@@ -62,7 +64,7 @@ fn begin(threads: &mut Threads, regions: &mut Regions, t: u8)
 // ---- each event
 
 // What an accepted event leaves beside the lists: the numbers, and the value of its answer.
-#[derive(Drop)]
+#[derive(Clone, Copy)]
 struct Effect {
     head: Head,
     value: u64,
@@ -180,7 +182,7 @@ fn cut(h: Head) -> Head
 // ---- an event
 
 // What an event leaves beside the lists: the numbers, and its answer.
-#[derive(Drop)]
+#[derive(Clone, Copy)]
 pub struct Outcome {
     pub head: Head,
     pub answer: Answer,

@@ -1,3 +1,5 @@
+#![tactic(auto)]
+
 // The event record, one byte of kind, then a body whose length the kind fixes: its kinds, its reader, and whether one stands whole at the front of a file.
 ghost use Rattle.std.specs.Prelude.{◌≤◌, ◌≡◌, cond, leb, get_or, length};
 ghost use Rattle.rules.specs.Kinds.{is_kind, kind_at, widths_of};
@@ -12,7 +14,7 @@ use rules::{Event, Reading, Shares};
 
 // A kind of event: its word in the readable form, filled up with spaces, how many letters it has, and the widths of the numbers in its body, filled up with
 // zeros.
-#[derive(Drop)]
+#[derive(Clone, Copy)]
 pub struct KindRow {
     pub word: [u8; LETTERS],
     pub letters: usize,

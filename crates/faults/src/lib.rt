@@ -1,3 +1,5 @@
+#![tactic(auto)]
+
 // What is wrong with a region of an image by itself, and with two of a thread, one behind the other. The keys of all regions tell which are listed.
 ghost use Rattle.std.specs.Prelude.{◌≡◌, ◌||◌, ◌&&◌, eqb};
 ghost use Rattle.undo.specs.Table.{any};

@@ -1,3 +1,5 @@
+#![tactic(auto)]
+
 // The run of an event file over lent starting memory: its answers, the image that its cut left, and the tables after it.
 ghost use Rattle.std.specs.Prelude.{◌≡◌, length};
 ghost use Rattle.measures.specs.Loan.{lent, shown};

@@ -113,4 +113,5 @@ one_more e es (group x xs [] l₁ a₁ p₁ none) l a f =
   where
     apart : (eqb (suc (length xs)) 7 || not (eqb x.key e.key)) ≡ true → (eqb (length xs) 6 || not (eqb e.key x.key)) ≡ true
     apart f = test (eqb (length xs) 6) (λ d. rw d) (λ d. let z : eqb (suc (length xs)) 7 ≡ false = ne_eqb (suc (length xs)) 7 (λ q. omega (arith, eqb-false (length xs) 6 d)) in rw d (test (eqb e.key x.key) (λ q. never (rw (z, eqb-true e.key x.key q, is_same x.key) at f) refl) (λ q. rw q)))
+one_more e es (group x xs ([] ∷ gs) l₁ a₁ p₁ g) l a f = elim g [ ]
 one_more e es (group x xs ((y ∷ ys) ∷ gs) l₁ a₁ p₁ g) l a f = group x xs _ l₁ a₁ p₁ (one_more e es g l a f)

@@ -1,3 +1,5 @@
+#![tactic(auto)]
+
 // Request 14: log entries under headers. The second form of an image, the reader of both forms, and what is proved of their bytes.
 // The function has no body: its contract is the promise.
 ghost use Rattle.headed.specs.Claim.{HeadedImages};

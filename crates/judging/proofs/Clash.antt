@@ -54,13 +54,18 @@ module _ (rs : List Listed) (rows : List ℕ) where
           ∙ rw (meet-if (apart_from rows p) (eqb m.line y.line) q, bit_below (is_apart rows p) (length rows) q l, meet-clash ms z.1)
 
       module _ (ms : List Mark) (seen : List ℕ) (passed : Passed rs rows seen ms) (l : m.line < 256) where
+        -- what an entry adds to the places of a line
+        places-step : (i : ℕ) → places_on rs i (m ∷ ms) ≡ bit_or (bit_if (eqb i m.line) (place_in rs m.key)) (places_on rs i ms)
+        unfolding places_on
+        places-step i = refl
+
         pub clash-told : meet (apart_from rows (place_in rs m.key)) (get_or seen m.line 0) ≡ any (clash_by rs rows m) ms
         clash-told = rw (passed.told m.line l) (meet-clash ms passed.listed)
 
         -- one entry more
         pub pass : place_in rs m.key < length rs → meet (apart_from rows (place_in rs m.key)) (get_or seen m.line 0) ≡ false
             → Passed rs rows (set seen m.line (bit_or (2 ^ place_in rs m.key) (get_or seen m.line 0))) (m ∷ ms)
-        unfolding any_pair places_on
+        unfolding any_pair
         pass k e =
             record {
               long = simp length-set passed.long;
@@ -68,6 +73,6 @@ module _ (rs : List Listed) (rows : List ℕ) where
               clear = rw (← clash-told, e, passed.clear);
               told = λ i b.
                   test (eqb i m.line)
-                  (λ s. rw (s, eqb-true i m.line s, get_or-set_same seen m.line (bit_or (2 ^ place_in rs m.key) (get_or seen m.line 0)) 0 (rw passed.long l), passed.told m.line l))
-                  (λ s. rw (s, get_or-set_other seen m.line i (bit_or (2 ^ place_in rs m.key) (get_or seen m.line 0)) 0 (eqb-false i m.line s), passed.told i b));
+                  (λ s. rw (places-step i, s, eqb-true i m.line s, get_or-set_same seen m.line (bit_or (2 ^ place_in rs m.key) (get_or seen m.line 0)) 0 (rw passed.long l), passed.told m.line l))
+                  (λ s. rw (places-step i, s, get_or-set_other seen m.line i (bit_or (2 ^ place_in rs m.key) (get_or seen m.line 0)) 0 (eqb-false i m.line s), passed.told i b));
             }

@@ -1,17 +1,21 @@
 -- The keys of the regions tell the places of all that is looked up by a key.
-use Prim.Native.Nat.{suc, zero, ℕ}
+use Prim.Native.Nat.{◌≤◌, suc, zero, ℕ}
 use mathlib.Core.Path.{◌∙◌, ◌≡◌, ap, fun_ext, refl}
+use mathlib.Core.Bool.{◌||◌}
 use mathlib.Core.List.{List, [], ◌∷◌, map}
 use lib.Dec.{eqb}
 use lib.ListN.{length, length-map, take}
+use lib.Seq.{length-take-le}
 use Rattle.faults.proofs.Keys.{keyed-listed, keyed-long, keyed-place}
-use Rattle.judging.specs.Marks.{is_unlisted}
+use Rattle.judging.proofs.Judged.{judged}
+use Rattle.judging.specs.Marks.{contradicts_in, is_unlisted}
 use Rattle.faults.specs.Faults.{is_faulty, is_region, keyed, place_in}
 use Rattle.judging.specs.Reach.{clash_by, is_round, link_of, links_of, table_by, tangled_by}
 use Rattle.rules.proofs.Lists.{any-map, place_map}
-use Rattle.rules.specs.Contradiction.{is_astray, is_listed}
+use Rattle.rules.specs.Contradiction.{any_broken, is_astray, is_listed}
 use Rattle.rules.specs.declared.Listed.{Listed}
 use Rattle.rules.specs.declared.Mark.{Mark}
+use Rattle.undo.specs.Table.{any}
 
 -- the first of what a function makes of a list are what it makes of the first
 pub firsts : {A B : Type 0} (f : A → B) (n : ℕ) (xs : List A) → take n (map f xs) ≡ map f (take n xs)
@@ -56,3 +60,10 @@ module _ (rs : List Listed) where
   pub tangled : (ms : List Mark) → tangled_by (keyed keys) rs ms ≡ tangled_by rs rs ms
   unfolding tangled_by table_by
   tangled ms = rw (links, unlisted, on-circle (table_by rs rs), clash (table_by rs rs))
+
+-- the program's tests take the keys' n first, the regions' n first, and come to the whole
+pub judged-keys : (n : ℕ) (ks : List ℕ) (rs : List Listed) (ms : List Mark) → n ≤ length ks → ks ≡ map (λ x. x.key) rs →
+    contradicts_in (take n rs) ms
+    ≡ (any (is_faulty (keyed (take n ks))) (take (length (take n ks)) rs) || (any_broken (take n rs) || tangled_by (keyed (take n ks)) (take (length (take n ks)) rs) ms))
+judged-keys n ks rs ms h e =
+    rw (length-take-le n ks h, e, firsts (λ x. x.key) n rs, faulty (take n rs), tangled (take n rs) ms) (judged (take n rs) ms)

@@ -1,3 +1,5 @@
+#![tactic(auto)]
+
 // Whether an image contradicts itself, by its regions and the marks of its log: the first `held` regions and the first `logged` marks count.
 //
 // What belongs to one region is tested region by region. Then every dependence is of a listed region, and a table of bits tells which region reaches which:

@@ -118,7 +118,7 @@ module _ {start : ℕ → List ℕ} {b : Board} {es : List Account} {s : u.State
   pub acts-in-step : {r : Recovering} {c : Bench} (as' : List Act) → Standing rc i up quiet r → InStep r c → InStep (acts r as') (bench_acts c as')
   unfolding acts bench_acts act
   acts-in-step [] p t = t
-  acts-in-step (Restore ∷ as') p t = acts-in-step as' (step-stands rc i up quiet p) (act-in-step Restore p t)
+  acts-in-step {r = r} {c = c} (Restore ∷ as') p t = acts-in-step {r = (restore r).after} {c = bench_act c Restore} as' (step-stands rc i up quiet p) (act-in-step Restore p t)
   acts-in-step (PowerCut ∷ as') p t = acts-in-step as' (cut_stands rc i up quiet p) (act-in-step PowerCut p t)
 
 pub restores-acts : (n : ℕ) (r : Recovering) → acts r (replicate n Restore) ≡ restores n r

@@ -1,3 +1,5 @@
+#![tactic(auto)]
+
 // Laws about the board that crate rules defines, each for every list of event records; about images of any content; and about the calls of a bench.
 // Each function has no body: its contract is the law.
 ghost use Rattle.laws.specs.Bench.{BenchRecovers};

@@ -1,3 +1,5 @@
+#![tactic(auto)]
+
 // A line is eight words, taken and given by value. Words and lines as bytes, little-endian, in a lent slice: what does not lie wholly in the slice is
 // read as 0, and is not written.
 ghost use Rattle.std.specs.Prelude.{◌+◌, ◌*◌, ◌%◌, ◌≤◌, ◌≡◌, [], ◌∷◌, map, leb, length, set, take, drop};

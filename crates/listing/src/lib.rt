@@ -1,3 +1,5 @@
+#![tactic(auto)]
+
 // The tables as bytes in a fixed layout, into a lent buffer.
 ghost use Rattle.std.specs.Prelude.{◌≡◌, false, true, [], map, length};
 ghost use Rattle.output.specs.Room.{puts, room};

@@ -1,3 +1,5 @@
+#![tactic(auto)]
+
 // Small tests and searches in a region, by value. Each function's contract is one term of the definitions of `rules`, on every value; where a search
 // finds nothing, its place is the length of the list. The bounds that callers need are laws about these terms, in proofs/.
 ghost use Rattle.std.specs.Prelude.{◌≡◌, eqb};

@@ -1,3 +1,5 @@
+#![tactic(auto)]
+
 // The measures of document 01 as constants, and the types of what is lent to the board's functions. A type or a bound that names one is checked as its number.
 
 // "Threads T: 1 to 8. Lines L: 1 to 256. A line is eight words of 8 bytes"

@@ -1,3 +1,5 @@
+#![tactic(auto)]
+
 // Bytes, and numbers in decimal or in bytes, into a lent buffer, one behind the other. Bytes that find no room are dropped, and the cursor says so.
 ghost use Rattle.std.specs.Prelude.{◌+◌, ◌%◌, ◌≡◌, [], ◌∷◌};
 ghost use Rattle.rules.specs.Bytes.{bytes_of};
@@ -5,7 +7,7 @@ ghost use Rattle.output.specs.Room.{room, puts};
 ghost use Rattle.output.specs.Decimal.{decimal};
 
 // Where the next byte goes in a lent buffer, and whether a byte has found no room.
-#[derive(Drop)]
+#[derive(Clone, Copy)]
 pub struct Cursor {
     pub at: usize,
     pub short: bool,

@@ -1,3 +1,5 @@
+#![tactic(auto)]
+
 // Event files out of their readable form: lines of a word and numbers, spaces, tabs or carriage returns between them, '#' in front of a comment.
 ghost use Rattle.std.specs.Prelude.{◌+◌, ◌≤◌, ◌≡◌, length, drop};
 ghost use Rattle.rules.specs.Kinds.{kind_at};
@@ -31,28 +33,28 @@ pub const MISSING_NUMBER: u8 = 4;
 pub const EXTRA_NUMBER: u8 = 5;
 
 // The first fault of a text, and its place.
-#[derive(Drop)]
+#[derive(Clone, Copy)]
 pub struct Fault {
     pub kind: u8,
     pub at: usize,
 }
 
 // What a word means as a number.
-#[derive(Drop)]
+#[derive(Clone, Copy)]
 pub enum Number {
     Not,
     Is(u64),
 }
 
 // A part of a line.
-#[derive(Drop)]
+#[derive(Clone, Copy)]
 pub struct Span {
     pub start: usize,
     pub end: usize,
 }
 
 // What is read of a line, and whether it is in the form.
-#[derive(Drop)]
+#[derive(Clone, Copy)]
 pub struct LineRead {
     pub cursor: Cursor,
     pub ok: bool,
@@ -60,7 +62,7 @@ pub struct LineRead {
 
 // What is read of a text: the bytes up to the cursor, the place behind those of the lines in the form, the number of these lines, and whether these are all.
 // If not, the next line is the first one that is not in the form.
-#[derive(Drop)]
+#[derive(Clone, Copy)]
 pub struct TextRead {
     pub cursor: Cursor,
     pub good: usize,

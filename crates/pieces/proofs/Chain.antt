@@ -16,15 +16,15 @@ pub record Going {S : Type 0} (goes_on : S → Bool) (Turn : S → S → List �
   pub counted : turns + left ≡ most_turns
 
 module _ {S : Type 0} {goes_on : S → Bool} {Turn : S → S → List ℕ → List ℕ → Type 0} {s : S} where
-  pub at-start : Going goes_on Turn s s most_turns
+  abbrev pub at-start : Going goes_on Turn s s most_turns
   at-start = record { turns = 0; came = []; sent = []; run = stop; counted = refl }
 
-  pub one_more : {t r : S} {left : ℕ} {new out : List ℕ} → Going goes_on Turn s t left → 0 < left → goes_on t ≡ true → Turn t r new out → Going goes_on Turn s r (left - 1)
+  abbrev pub one_more : {t r : S} {left : ℕ} {new out : List ℕ} → Going goes_on Turn s t left → 0 < left → goes_on t ≡ true → Turn t r new out → Going goes_on Turn s r (left - 1)
   one_more {new = new} {out = out} g h e t =
       record { turns = suc g.turns; came = g.came ++ new; sent = g.sent ++ out; run = turn g.run e t; counted = omega (arith, g.counted) }
 
-  pub none-follows : {r : S} {left : ℕ} → Going goes_on Turn s r left → goes_on r ≡ false → Chained goes_on Turn s r
+  abbrev pub none-follows : {r : S} {left : ℕ} → Going goes_on Turn s r left → goes_on r ≡ false → Chained goes_on Turn s r
   none-follows g e = record { turns = g.turns; came = g.came; sent = g.sent; run = g.run; ends = inl e }
 
-  pub all-counted : {r : S} {left : ℕ} → Going goes_on Turn s r left → left ≡ 0 → Chained goes_on Turn s r
+  abbrev pub all-counted : {r : S} {left : ℕ} → Going goes_on Turn s r left → left ≡ 0 → Chained goes_on Turn s r
   all-counted g e = record { turns = g.turns; came = g.came; sent = g.sent; run = g.run; ends = inr (omega (arith, g.counted)) }

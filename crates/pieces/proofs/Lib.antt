@@ -1,3 +1,4 @@
 pub mod Chain
 pub mod Move
 pub mod Message
+pub mod Streams

@@ -1,3 +1,5 @@
+#![tactic(auto)]
+
 // Event files in the readable form: one event a line, its word and then its numbers in decimal.
 ghost use Rattle.std.specs.Prelude.{◌+◌, ◌≤◌, ◌<◌, ◌≡◌, true, drop, length, take};
 ghost use Rattle.rules.specs.Bytes.{num_of};
@@ -13,7 +15,7 @@ ghost use Rattle.printing.specs.Results.{PutWhole};
 use output::Cursor;
 
 // How far a file is written as text.
-#[derive(Drop)]
+#[derive(Clone, Copy)]
 pub struct Passed {
     pub at: usize,
     pub cursor: Cursor,

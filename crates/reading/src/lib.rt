@@ -1,3 +1,5 @@
+#![tactic(auto)]
+
 // One pass over the records of an image of either form: 32 head, then L records 33, any 34, any 35 or any of 41 to 47, then 36. A second one over its log.
 ghost use Rattle.std.specs.Prelude.{◌*◌, ◌+◌, ◌<◌, ◌≤◌, ◌&&◌, ◌||◌, true, eqb, leb, ltb, ◌≡◌, [], ◌∷◌, map, length};
 ghost use Rattle.rules.specs.Marks.{no_mark};
@@ -13,7 +15,7 @@ use measures::{MOST_ENTRIES, MOST_LOGGED, MOST_REGIONS, NUMBERS};
 use rules::{Listed, Mark};
 
 // What was read: T and L (0 before the head), the number of line records, the regions, the log entries.
-#[derive(Drop)]
+#[derive(Clone, Copy)]
 pub struct Scan {
     pub threads: u8,
     pub lines: u16,
@@ -25,7 +27,7 @@ pub struct Scan {
 }
 
 // The answer: a refusal with empty tables, or 0 with what was read.
-#[derive(Drop)]
+#[derive(Clone, Copy)]
 pub struct Read {
     pub refusal: u8,
     pub scan: Scan,
@@ -33,7 +35,7 @@ pub struct Read {
 
 // What the next record is judged by: T and L, how many lines, regions and log entries came before it, the key of the last region and of the last log entry,
 // how many log entries the thread of the last one has, and the kind of the last log record, 0 before the first.
-#[derive(Drop)]
+#[derive(Clone, Copy)]
 pub struct Tally {
     pub threads: u8,
     pub lines: u16,
@@ -47,14 +49,14 @@ pub struct Tally {
 }
 
 // An old line among the log records: that of one entry of the record at a place.
-#[derive(Drop)]
+#[derive(Clone, Copy)]
 pub struct Spot {
     pub at: usize,
     pub entry: usize,
 }
 
 // A record: refused with its number; T and L; a line; a region's key, state and dependences; the key of log entries and the kind that holds them; the end.
-#[derive(Drop)]
+#[derive(Clone, Copy)]
 pub enum Item {
     Refused(u8),
     Head(u8, u16),

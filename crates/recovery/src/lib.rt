@@ -1,3 +1,5 @@
+#![tactic(auto)]
+
 // The recovery step over a lent image, of the old form, or with `headed` of either: the image is judged whole, and one log entry is put back to its line.
 ghost use Rattle.std.specs.Prelude.{◌≡◌, take};
 ghost use Rattle.rules.specs.Recovery.{line_start};
@@ -14,7 +16,7 @@ use rules::{Answer, Found};
 use walking::Order;
 
 // What a step by value gives: its answer, and the place behind it.
-#[derive(Drop)]
+#[derive(Clone, Copy)]
 pub struct Walked {
     pub answer: Answer,
     pub at: u64,
@@ -65,7 +67,7 @@ fn more(found: Found) -> u64
 
 // What a step at a place finds: the refusal of the image, 0 for none; the log entry that it restores, if one is there, by its region's key, its line and what goes
 // back to it; and 1 while entries remain after it.
-#[derive(Drop)]
+#[derive(Clone, Copy)]
 pub struct Next {
     pub refusal: u8,
     pub there: bool,
@@ -174,7 +176,7 @@ fn restored(image: &mut [u8], at: u64, headed: bool) -> Walked
 }
 
 // The walk's own place: the number of steps made since the last cut.
-#[derive(Drop)]
+#[derive(Clone, Copy)]
 pub struct Place {
     pub steps: u64,
 }

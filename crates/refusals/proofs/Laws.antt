@@ -11,7 +11,7 @@ use Rattle.undo.proofs.Laws.{test}
 use Rattle.undo.specs.Table.{any}
 use Rattle.rules.specs.Access.{dependence, needs_log}
 use Rattle.rules.specs.Refusal.{is_foreign_open, no_room_for_dep}
-use Rattle.rules.specs.Tables.{current, is_placed, key_of, listed, no_thread, owner_of, region_at, thread_at, thread_of}
+use Rattle.rules.specs.Tables.{current, is_placed, key_of, listed, locked, no_thread, owner_of, region_at, thread_at, thread_of}
 use Rattle.rules.specs.declared.Region.{Region}
 use Rattle.rules.specs.declared.Tables.{Tables}
 use Rattle.rows.specs.Row.{thread_of as thread_in, threads_of}
@@ -47,11 +47,11 @@ foreign-of t n o e h =
 
 -- the tests of an access to line l where k is the current region of thread t, and x what it sees of the line's last writer
 module _ (t l k : ℕ) (ts : Tables) (ek : k ≡ current t ts) where
-  pub logs : (b : Bool) → needs_log (current t ts) l ts && b ≡ not (eqb (get_or ts.owner l 0) k) && b
+  logs : (b : Bool) → needs_log (current t ts) l ts && b ≡ not (eqb (get_or ts.owner l 0) k) && b
   logs b = rw ek
 
   module _ (x : Writer) (ex : x ≡ writer_of (get_or ts.owner l 0) k ts.regions) where
-    pub foreign : (thread_at t ts).last < 65536 → is_foreign_open t (owner_of l ts) ts ≡ not x.ended && not (eqb (thread_of x.key) t)
+    foreign : (thread_at t ts).last < 65536 → is_foreign_open t (owner_of l ts) ts ≡ not x.ended && not (eqb (thread_of x.key) t)
     unfolding writer_of owner_of
     foreign h = foreign-of t (thread_at t ts).last (owner_of l ts) (λ o. (region_at o ts.regions).ended) h ∙ rw (ex, ek)
 
@@ -59,8 +59,15 @@ module _ (t l k : ℕ) (ts : Tables) (ek : k ≡ current t ts) where
     unfolding writer_of owner_of
     depends = rw (ex, ek)
 
-    pub no-dep : no_room_for_dep (dependence (current t ts) l ts) (region_at (current t ts) ts.regions).deps ≡ no_room_for_dep x.key (region_at k ts.regions).deps
+    no-dep : no_room_for_dep (dependence (current t ts) l ts) (region_at (current t ts) ts.regions).deps ≡ no_room_for_dep x.key (region_at k ts.regions).deps
     no-dep = rw (depends, ek)
+
+    -- what the tests 17, 18 and 19 of the access ask
+    pub asked : (thread_at t ts).last < 65536
+        → (is_foreign_open t (owner_of l ts) ts ≡ not x.ended && not (eqb (thread_of x.key) t))
+        × ((needs_log (current t ts) l ts && locked l ts ≡ not (eqb (get_or ts.owner l 0) k) && locked l ts)
+        × (no_room_for_dep (dependence (current t ts) l ts) (region_at (current t ts) ts.regions).deps ≡ no_room_for_dep x.key (region_at k ts.regions).deps))
+    asked h = (foreign h, (logs (locked l ts), no-dep))
 
 -- ---- the last writer of a line
 

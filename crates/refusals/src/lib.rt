@@ -1,3 +1,5 @@
+#![tactic(auto)]
+
 // The reading half of an event: its tests on the lent rows, in the order of document 01. The refusal is the number of the first test that fails, or 0.
 // Nothing here changes a row, and every function has its answer for every content of the rows. A function takes the rows that its tests look at;
 // its contract says that the others make no difference. The last two tests of a write, 20 and 21, stand with its step, which makes the one pass over
@@ -26,7 +28,7 @@ use rows::Head;
 use rules::{Event, Shares, Size};
 
 // Another uncommitted region that wrote a line last: its key, 0 if there is none, and whether it has ended or there is none.
-#[derive(Drop)]
+#[derive(Clone, Copy)]
 struct Writer {
     key: u32,
     ended: bool,

@@ -1,3 +1,5 @@
+#![tactic(auto)]
+
 // One region, thread or log entry as a row of numbers: taken out and put back, judged and changed on its numbers.
 ghost use Rattle.std.specs.Prelude.{◌%◌, ◌/◌, ◌<◌, ◌^◌, ◌≡◌, ◌||◌, cond, false, [], ◌∷◌, eqb, length, set};
 ghost use Rattle.undo.specs.Table.{any};
@@ -18,7 +20,7 @@ use measures::{
 use rules::{Entry, Region, Size, Slot, SlotState};
 
 // The few numbers beside the lists.
-#[derive(Drop)]
+#[derive(Clone, Copy)]
 pub struct Head {
     pub size: Size,
     pub cut: bool,

@@ -13,11 +13,9 @@ use Rattle.rules.proofs.Sim.State.{GoodRegion, GoodRegions, SixteenEach}
 use Rattle.rules.specs.Commit.{after_commit}
 use Rattle.rules.specs.Lists.{count, place}
 use Rattle.rules.specs.Measures.{most_in_channel}
-use Rattle.rules.specs.Reader.{nothing}
 use Rattle.rules.specs.Tables.{channel_of, free_place, in_channel, is_held, is_key, is_placed, listed, no_region, number_of, place_of, region_at}
 use Rattle.rules.specs.declared.Region.{Region}
 use Rattle.undo.proofs.Laws.{and-true, flip, is_same, never, test}
-use Rattle.undo.proofs.Media.{first}
 use Rattle.undo.specs.Table.{any}
 use Rattle.rules.proofs.Lists.{any-map, any_none, any_place, any-put, any-set, count-fewer, count_map, count-mono, count-put, count_set, each_set, get_or-map, get_or-set, place-lt, place_map, place_none, place-put, place_set, place-true}
 

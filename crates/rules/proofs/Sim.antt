@@ -1,5 +1,6 @@
 pub mod State
 pub mod Base
+pub mod OneMore
 pub mod Looks
 pub mod Parts
 pub mod Flight

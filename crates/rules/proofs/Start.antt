@@ -19,7 +19,7 @@ use Rattle.rules.proofs.Lists.{count_none}
 use Rattle.rules.specs.Claim.{is_byte, is_byte_memory}
 use Rattle.rules.specs.Commit.{commits}
 use Rattle.rules.specs.History.{depth_in, ends_in, last_writer, lines_in, opened_in, uses_in, writes_in}
-use Rattle.rules.specs.Lists.{all, count}
+use Rattle.rules.specs.Lists.{all}
 use Rattle.rules.specs.Tables.{Lent, Memory, Zero, fresh, fresh_tables, in_channel, is_zero, lent_from, lent_length, lent_line, line_of, listed, no_entry, no_region, no_thread, number_of, owner_of, place_of, region_at, start_lines}
 use Rattle.rules.specs.declared.SlotState.TheVariants.{Empty, Waiting}
 use Rattle.undo.proofs.Laws.{flip, never, test}

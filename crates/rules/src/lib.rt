@@ -1,10 +1,12 @@
+#![tactic(auto)]
+
 // The tables of the board and its events, as plain structs and enums. The definitions of specs/ and the programs of the other crates work on these same types.
 //
 // A region's key is 65536 * thread + number; 0 is no region. A place of a list that holds the key 0 is free.
 ghost use Rattle.rules.specs.Claim.{Demand3, OnlyImage, ReadsBack};
 
 // A slot is empty, waits with its count, or is in flight.
-#[derive(Drop)]
+#[derive(Clone, Copy)]
 pub enum SlotState {
     Empty,
     Waiting(u8),
@@ -12,7 +14,7 @@ pub enum SlotState {
 }
 
 // A line that a region has yet to bring to the medium.
-#[derive(Drop)]
+#[derive(Clone, Copy)]
 pub struct Slot {
     pub line: u8,
     pub state: SlotState,
@@ -21,7 +23,7 @@ pub struct Slot {
 // An uncommitted region. Every region listed here is in the dependence list; those that are not done are the modified list. Its entry is in `channel`.
 // `stamp` tells which region ended first. `deps` are the keys of the regions on which it depends, 0 for a free place. `recent` are the last four different
 // lines that it wrote, the newest first; a place behind them holds 0.
-#[derive(Drop)]
+#[derive(Clone, Copy)]
 pub struct Region {
     pub key: u32,
     pub channel: u8,
@@ -35,7 +37,7 @@ pub struct Region {
 
 // A log entry: region `key` logged the old line. It is in flight until it is persistent. `rank` is the number of entries that its region wrote before it.
 // The old line itself stands in the memory of old lines, entry k of thread t at 32 * t + k.
-#[derive(Drop)]
+#[derive(Clone, Copy)]
 pub struct Entry {
     pub key: u32,
     pub line: u8,
@@ -44,7 +46,7 @@ pub struct Entry {
 }
 
 // A thread: its depth, the number of its last region, its log. `reads` has a bit for each line, set where the thread's open region has read the line.
-#[derive(Drop)]
+#[derive(Clone, Copy)]
 pub struct Thread {
     pub depth: u8,
     pub last: u16,
@@ -54,14 +56,14 @@ pub struct Thread {
 
 // How the threads share the dependence list. `parties` are eight bytes, the party of each thread, and `reserves` two, the reserve of each party; the
 // low byte is that of thread 0 and of party 0.
-#[derive(Drop)]
+#[derive(Clone, Copy)]
 pub struct Shares {
     pub parties: u64,
     pub reserves: u16,
 }
 
 // The numbers of the setup, 0 before it: T, L, the parties and reserves; and the starting memory, which is zero or lent with a length in bytes.
-#[derive(Drop)]
+#[derive(Clone, Copy)]
 pub struct Size {
     pub threads: u8,
     pub lines: u16,
@@ -71,7 +73,7 @@ pub struct Size {
 }
 
 // All tables. `clock` counts the regions that ended. A line's owner is the last region that wrote it, committed or not.
-#[derive(Drop)]
+#[derive(Clone, Copy)]
 pub struct Tables {
     pub size: Size,
     pub cut: bool,
@@ -83,7 +85,7 @@ pub struct Tables {
 }
 
 // An event: thread, line, word, mask and value as far as its kind has them, in the order of its record. A write of a whole word has the mask 255.
-#[derive(Drop)]
+#[derive(Clone, Copy)]
 pub enum Event {
     Setup(u8, u16, Shares),
     Begin(u8),
@@ -97,7 +99,7 @@ pub enum Event {
 }
 
 // What the record reader answers: a refusal with its number, or the event.
-#[derive(Drop)]
+#[derive(Clone, Copy)]
 pub enum Reading {
     Refused(u8),
     Whole(Event),
@@ -105,21 +107,21 @@ pub enum Reading {
 
 // The answer to an event, a save or a recovery step: a refusal, 0 for accepted, and a value, 0 with every refusal.
 #[repr(C)]
-#[derive(Drop)]
+#[derive(Clone, Copy)]
 pub struct Answer {
     pub refusal: u8,
     pub value: u64,
 }
 
 // Where a line's slot is: at an index, or there is none and none is free.
-#[derive(Drop)]
+#[derive(Clone, Copy)]
 pub enum Found {
     At(usize),
     Full,
 }
 
 // An entry of the dependence list in an image: state 0 in progress, 1 done; four keys in rising order, empty ones last as 0.
-#[derive(Drop)]
+#[derive(Clone, Copy)]
 pub struct Listed {
     pub key: u32,
     pub state: u8,
@@ -127,7 +129,7 @@ pub struct Listed {
 }
 
 // A log entry of an image by its region and line; its old line stays in the image, at the place `at`. No image that is accepted has 65536 bytes.
-#[derive(Drop)]
+#[derive(Clone, Copy)]
 pub struct Mark {
     pub key: u32,
     pub line: u8,

@@ -1,3 +1,5 @@
+#![tactic(auto)]
+
 // A region's slots, by value: the counts, the drop and the flight.
 ghost use Rattle.std.specs.Prelude.{◌≡◌, ◌&&◌, cond, not, map, eqb, set};
 ghost use Rattle.rules.specs.Lists.{place};
@@ -66,7 +68,7 @@ fn counted_slot(s: Slot, ls: [u8; MOST_RECENT]) -> Slot
 // ---- request 4: "one walk over the region's slots shall give a write both its slot, or that none is free, and every new count"
 
 // What the pass gives: the slot that the write takes, or that none is free, and every slot with its new count.
-#[derive(Drop)]
+#[derive(Clone, Copy)]
 pub struct Pass {
     pub slot: Found,
     pub slots: [Slot; MOST_SLOTS],

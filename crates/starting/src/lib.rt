@@ -1,3 +1,5 @@
+#![tactic(auto)]
+
 // The tables before setup and the starting memory.
 ghost use Rattle.std.specs.Prelude.{◌≡◌};
 ghost use Rattle.rules.specs.Tables.{fresh_tables, start_lines, Lent};

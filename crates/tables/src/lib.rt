@@ -1,3 +1,5 @@
+#![tactic(auto)]
+
 // The tables as lent rows: one region, thread or log entry at a time taken out of them and put back, and the searches over them.
 ghost use Rattle.std.specs.Prelude.{◌/◌, ◌<◌, ◌≡◌, ◌&&◌, cond, not, eqb, set};
 ghost use Rattle.undo.specs.Table.{any};

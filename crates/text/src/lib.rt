@@ -1,3 +1,5 @@
+#![tactic(auto)]
+
 // The readable form of event files, both ways: what crate printing writes crate parsing reads back. The calls that benches make for it.
 ghost use Rattle.std.specs.Prelude.{◌≡◌};
 ghost use Rattle.output.specs.Room.{puts, room};

@@ -1,5 +1,5 @@
 -- The bytes that are handed over piece by piece are those of the text.
-use Rattle.std.proofs.Common.{◌≡◌, ℕ, ◌+◌, ◌-◌, ◌<◌, ◌≤◌, Bool, true, false, cond, not, ◌&&◌, ltb, leb, List, [], ◌++◌, length, take, drop, sym, refl, ◌∙◌, append_assoc, append-nil, arith, length-append, take-append-drop}
+use Rattle.std.proofs.Common.{◌≡◌, ℕ, ◌-◌, ◌<◌, ◌≤◌, Bool, true, false, cond, not, ◌&&◌, ltb, leb, List, [], ◌++◌, length, take, drop, sym, refl, ◌∙◌, append_assoc, append-nil, arith, length-append, take-append-drop}
 use mathlib.Core.Bool.{false≢true}
 use lib.Seq.{drop-length, take-length}
 use borrow.Author.Tests.{not-true}
@@ -41,7 +41,7 @@ piece-right true p f h =
     rw (h refl, append-nil p, take-length p, drop-length p, no_bytes) (test (bytes_of_text p).ok (λ e. rw (e, append-nil)) (λ e. rw (e, append-nil)))
 piece-right false p f h = lines-in-pieces p f
 
-run-right : {d : List ℕ} {n : ℕ} {came sent : List ℕ} {r : Between} → Chain follows Turned (between d start) n came sent r → (f : List ℕ) → (r.left.last ≡ true → f ≡ [])
+pub run-right : {d : List ℕ} {n : ℕ} {came sent : List ℕ} {r : Between} → Chain follows Turned (between d start) n came sent r → (f : List ℕ) → (r.left.last ≡ true → f ≡ [])
     → good_bytes (came ++ f) ≡ sent ++ cond r.left.form (good_bytes (take r.left.held r.buffer ++ f)) []
 run-right stop f h = refl
 run-right (turn {came = came} {new = new} {t = a} c g t) f h =
@@ -65,8 +65,8 @@ complaint-short n = omega (arith, decimal-short n, length-append complaint_start
 abbrev pub Running : List ℕ → List ℕ → Left → ℕ → Type 0
 Running d d' r left = Going follows Turned (between d start) (between d' r) left
 
-pub goes_on_lem : (d e d' : List ℕ) (t r : Left) (left : ℕ) → Running d e t left → 0 < left → goes_on t (length e) ≡ true → Pieced e d' t.held t.read r → Running d d' r (left - 1)
+abbrev pub goes_on_lem : (d e d' : List ℕ) (t r : Left) (left : ℕ) → Running d e t left → 0 < left → goes_on t (length e) ≡ true → Pieced e d' t.held t.read r → Running d d' r (left - 1)
 goes_on_lem d e d' t r left g h o p = one_more g h o (record { pieced = p; comes = refl; goes = refl })
 
-pub ran : (d d' : List ℕ) (r : Left) → Chained follows Turned (between d start) (between d' r) → Ran d d' r
+abbrev pub ran : (d d' : List ℕ) (r : Left) → Chained follows Turned (between d start) (between d' r) → Ran d d' r
 ran d d' r c = record { run = c; right = run-right c.run }

@@ -1,8 +1,9 @@
 -- What a piece of a text leaves, and what the whole run does.
-use Rattle.std.specs.Prelude.{◌≡◌, ℕ, ◌+◌, ◌%◌, ◌^◌, Bool, true, false, cond, not, ◌&&◌, ◌||◌, List, [], ◌∷◌, ◌++◌, length, take, drop, nat_le, nat_lt}
+use Rattle.std.specs.Prelude.{◌≡◌, ℕ, ◌+◌, ◌%◌, ◌^◌, Bool, true, false, cond, not, ◌&&◌, ◌||◌, List, [], ◌∷◌, ◌++◌, Option, length, take, drop, nat_le, nat_lt}
 use Rattle.output.specs.Decimal.{decimal}
 use Rattle.parsing.specs.Read.{Text, bytes_of_text, good_bytes, last_line}
 use Rattle.pieces.specs.Chain.{Chained}
+use Rattle.pieces.specs.Streams.{Streamed}
 use Rattle.tobytes.specs.declared.Left.{Left}
 use Rattle.tobytes.specs.declared.Read.{Read}
 
@@ -32,6 +33,11 @@ pub record Pieced (d d' : List ℕ) (have before : ℕ) (r : Left) : Type 0 wher
   pub reads : r.read ≡ counted before (bytes_of_text (lines_in have piece)).lines
   pub form : r.form ≡ (bytes_of_text (lines_in have piece)).ok
   pub ends : r.last ≡ nat_le (length piece) have
+
+-- the same from a reader to a writer: what came with the piece was read, and the bytes of its lines went out
+pub record PiecedOver (i i' o o' : Option (List ℕ)) (d d' : List ℕ) (have before : ℕ) (r : Left) : Type 0 where
+  pub pieced : Pieced d d' have before r
+  pub streamed : Streamed i i' o o' (drop have pieced.piece) (good_bytes (lines_in have pieced.piece)) r.sent
 
 -- a piece follows: more may come, all lines were in the form and their bytes went out, and the buffer has room
 unfoldable pub goes_on : Left → ℕ → Bool
@@ -66,6 +72,11 @@ start = record { held = 0; read = 0; form = true; sent = true; last = false }
 pub record Ran (d d' : List ℕ) (r : Left) : Type 0 where
   pub run : Chained follows Turned (between d start) (between d' r)
   pub right : (f : List ℕ) → (r.last ≡ true → f ≡ []) → good_bytes (run.came ++ f) ≡ run.sent ++ cond r.form (good_bytes (take r.held d' ++ f)) []
+
+-- the same from a reader to a writer: what came was read, and what was handed over went out
+pub record RanOver (i i' o o' : Option (List ℕ)) (d d' : List ℕ) (r : Left) : Type 0 where
+  pub ran : Ran d d' r
+  pub streamed : Streamed i i' o o' ran.run.came ran.run.sent r.sent
 
 -- "line N is not in the form"
 abbrev pub complaint_start : List ℕ

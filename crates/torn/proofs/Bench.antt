@@ -50,7 +50,8 @@ module _ {start : ℕ → List ℕ} {b : Board} {es : List Account} {s : u.State
   calls-in-step : {r : Recovering} {c : Bench} (as' : List TornAct) → Standing rc i up quiet r → InStep r c → InStep (torn_acts r as') (torn_calls c as')
   unfolding torn_acts torn_calls
   calls-in-step [] p t = t
-  calls-in-step (a ∷ as') p t = calls-in-step as' (torn-act-stands rc i up quiet a p) (call-in-step a p t)
+  calls-in-step {r = r} {c = c} (a ∷ as') p t =
+      calls-in-step {r = torn_act r a} {c = torn_call c a} as' (torn-act-stands rc i up quiet a p) (call-in-step a p t)
 
 module _ (m : Memory) (rs : List (List ℕ)) (bm : is_byte_memory m ≡ true) (cut : (board_after m rs).tables.cut ≡ true) (p : ℕ → ℕ → Bool) where
   abbrev begun : Bench

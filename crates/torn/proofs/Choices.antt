@@ -1,5 +1,5 @@
 -- The choices of words leave what the request says: at the cut, and inside a step.
-use Prim.Native.Nat.{◌+◌, ◌<◌, suc, zero, ℕ}
+use Prim.Native.Nat.{◌<◌, suc, zero, ℕ}
 use mathlib.Core.Path.{◌∙◌, ◌≡◌, ap, refl, subst, sym}
 use mathlib.Core.Logic.{◌⊎◌, inl, inr, ⊎_elim}
 use mathlib.Core.Bool.{Bool, cond, false, not, true}

@@ -129,7 +129,7 @@ module _ {start : ℕ → List ℕ} {b : Board} {es : List Account} {s : u.State
   pub torn-acts-stand : {r : Recovering} (xs : List TornAct) → Standing rc i up quiet r → Standing rc i up quiet (torn_acts r xs)
   unfolding torn_acts
   torn-acts-stand [] p = p
-  torn-acts-stand (c ∷ xs) p = torn-acts-stand xs (torn-act-stands c p)
+  torn-acts-stand {r = r} (c ∷ xs) p = torn-acts-stand {r = torn_act r c} xs (torn-act-stands c p)
 
 -- a cut sets the place to 0, whatever the image reads as
 pub tear-place : (p : ℕ → Bool) (v : Verdict Persistent) (r : Recovering) → (torn_read p v r).at ≡ 0

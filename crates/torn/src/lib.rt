@@ -1,3 +1,5 @@
+#![tactic(auto)]
+
 // Request 10: stores that a power cut tears. What recovery promises for every choice of the words that had reached the medium.
 // Each function has no body: its contract is the promise.
 ghost use Rattle.torn.specs.Bench.{TornBenchRecovers};

@@ -1,5 +1,5 @@
 -- The text that is handed over piece by piece is that of the file.
-use Prim.Native.Nat.{◌+◌, ◌-◌, ◌<◌, ◌≤◌, suc, zero, ℕ}
+use Prim.Native.Nat.{◌-◌, ◌<◌, ◌≤◌, suc, zero, ℕ}
 use mathlib.Core.Bool.{false, true}
 use mathlib.Core.List.{List, [], ◌++◌, ◌∷◌, append_assoc, append-nil}
 use mathlib.Core.Path.{◌≡◌, refl}
@@ -22,7 +22,7 @@ use Rattle.totext.specs.declared.Left.{Left}
 abbrev Pieces : ℕ → List ℕ → List ℕ → Between → List ℕ → Type 0
 Pieces n came sent r d = Chain follows Turned (between d start) n came sent r
 
-run-right : {d : List ℕ} {n : ℕ} {came sent : List ℕ} {r : Between} → Pieces n came sent r d → (f : List ℕ)
+pub run-right : {d : List ℕ} {n : ℕ} {came sent : List ℕ} {r : Between} → Pieces n came sent r d → (f : List ℕ)
     → text_of (came ++ f) ≡ sent ++ text_of (take r.left.held r.buffer ++ f)
 run-right stop f = refl
 run-right (turn {came = came} {new = new} {t = a} c g t) f =
@@ -31,7 +31,7 @@ run-right (turn {came = came} {new = new} {t = a} c g t) f =
     let joined : take a.left.held a.buffer ++ (new ++ f) ≡ p.piece ++ f = rw (t.comes, ← p.begins, ← append_assoc, take-append-drop) in
     rw (append_assoc came new f, ih, joined, text-split p.piece f, p.left, t.goes, append_assoc)
 
-run-rests : {d : List ℕ} {n : ℕ} {came sent : List ℕ} {r : Between} → Pieces n came sent r d → record_length (take r.left.held r.buffer) ≡ 0
+pub run-rests : {d : List ℕ} {n : ℕ} {came sent : List ℕ} {r : Between} → Pieces n came sent r d → record_length (take r.left.held r.buffer) ≡ 0
 run-rests stop = length-empty [] refl
 run-rests (turn c g t) = rw t.pieced.left (whole-stop t.pieced.piece)
 
@@ -43,7 +43,7 @@ largest-at [] (suc k) = omega arith
 largest-at (n ∷ ns) zero = test (ltb (largest ns) n) (λ e. rw e (omega arith)) (λ e. rw e (ltb-false (largest ns) n e))
 largest-at (n ∷ ns) (suc k) = test (ltb (largest ns) n) (λ e. rw e (omega (arith, largest-at ns k, ltb-true (largest ns) n e))) (λ e. rw e (largest-at ns k))
 
-long-unknown : (r : List ℕ) → longest_record ≤ length r → record_length r ≡ 0 → is_kind (get_or r 0 0) ≡ false
+pub long-unknown : (r : List ℕ) → longest_record ≤ length r → record_length r ≡ 0 → is_kind (get_or r 0 0) ≡ false
 long-unknown r h e =
     test (is_kind (get_or r 0 0))
     (λ u. absurd (omega (arith, e, length_whole r (omega arith) u (omega (arith, largest-at body_lengths (get_or r 0 0))))))
@@ -54,10 +54,10 @@ long-unknown r h e =
 abbrev pub Running : List ℕ → List ℕ → Left → ℕ → Type 0
 Running d d' r left = Going follows Turned (between d start) (between d' r) left
 
-pub goes_on_lem : (d e d' : List ℕ) (t r : Left) (left : ℕ) → Running d e t left → 0 < left → goes_on t ≡ true → Pieced e d' t.held r → Running d d' r (left - 1)
+abbrev pub goes_on_lem : (d e d' : List ℕ) (t r : Left) (left : ℕ) → Running d e t left → 0 < left → goes_on t ≡ true → Pieced e d' t.held r → Running d d' r (left - 1)
 goes_on_lem d e d' t r left g h o p = one_more g h o (record { pieced = p; comes = refl; goes = refl })
 
-pub ran : (d d' : List ℕ) (r : Left) → Chained follows Turned (between d start) (between d' r) → Ran d d' r
+abbrev pub ran : (d d' : List ℕ) (r : Left) → Chained follows Turned (between d start) (between d' r) → Ran d d' r
 ran d d' r c = record { run = c; right = run-right c.run; rests = run-rests c.run; unknown = λ h. long-unknown (take r.held d') h (run-rests c.run) }
 
 -- nothing is left
@@ -70,13 +70,13 @@ empty-kind (b ∷ bs) e = absurd (omega arith)
 abbrev pub Resting : List ℕ → List ℕ → ℕ → ℕ → ℕ → Type 0
 Resting d d' held n left = Going is_left Parted (rest d held) (rest d' n) left
 
-rest-right : {d : List ℕ} {held n : ℕ} {came sent : List ℕ} {r : Rest} → Chain is_left Parted (rest d held) n came sent r → take held d ++ came ≡ sent ++ take r.count r.buffer
+pub rest-right : {d : List ℕ} {held n : ℕ} {came sent : List ℕ} {r : Rest} → Chain is_left Parted (rest d held) n came sent r → take held d ++ came ≡ sent ++ take r.count r.buffer
 rest-right {d} {held} stop = append-nil (take held d)
 rest-right {d} {held} (turn {came = came} {new = new} {t = a} c g t) =
     rw (← append_assoc (take held d) came new, rest-right c, t.comes, t.goes, append_assoc)
 
-pub rests-on : (d e d' : List ℕ) (held n n' left : ℕ) → Resting d e held n left → 0 < left → 0 < n → Refilled e d' 0 n' → Resting d d' held n' (left - 1)
+abbrev pub rests-on : (d e d' : List ℕ) (held n n' left : ℕ) → Resting d e held n left → 0 < left → 0 < n → Refilled e d' 0 n' → Resting d d' held n' (left - 1)
 rests-on d e d' held n n' left g h o r = one_more g h (lt-ltb 0 n o) (record { refilled = r; comes = refl; goes = refl })
 
-pub rested : (d d' : List ℕ) (held n : ℕ) → Chained is_left Parted (rest d held) (rest d' n) → Rested d d' held
+abbrev pub rested : (d d' : List ℕ) (held n : ℕ) → Chained is_left Parted (rest d held) (rest d' n) → Rested d d' held
 rested d d' held n c = record { left = n; run = c; right = rest-right c.run }

@@ -1,10 +1,12 @@
 -- What a piece of a file leaves, and what the whole run does.
-use Rattle.std.specs.Prelude.{◌≤◌, ℕ, ◌≡◌, Bool, ◌&&◌, false, true, List, ◌++◌, leb, ltb, drop, get_or, length, take}
+use Rattle.std.specs.Prelude.{◌≤◌, ℕ, ◌≡◌, Bool, ◌&&◌, false, true, List, ◌++◌, Option, leb, ltb, drop, get_or, length, take}
 use Rattle.events.specs.Whole.{record_length, whole_length}
 use Rattle.pieces.specs.Chain.{Chained}
 use Rattle.pieces.specs.Shift.{Refilled}
-use Rattle.printing.specs.Text.{text_of, whole_text}
-use Rattle.rules.specs.Kinds.{is_kind, longest_record}
+use Rattle.pieces.specs.Streams.{Streamed}
+use Rattle.printing.specs.Text.{line_text, number_text, text_of, whole_text}
+use Rattle.rules.specs.Kinds.{bytes_word, is_kind, longest_record}
+use Rattle.rules.specs.Lists.{flat}
 use Rattle.totext.specs.declared.Left.{Left}
 
 -- a whole record may still come: more was read than was held, and what is left of it begins with a kind, or is empty
@@ -19,6 +21,11 @@ pub record Pieced (d d' : List ℕ) (have : ℕ) (r : Left) : Type 0 where
   pub left : take r.held d' ≡ drop (whole_length piece) piece
   pub more : r.more ≡ may_come (ltb have (length piece)) (drop (whole_length piece) piece)
   pub ends : r.last ≡ leb (length piece) have
+
+-- the same from a reader to a writer: what came with the piece was read, and the text of its whole records went out
+pub record PiecedOver (i i' o o' : Option (List ℕ)) (d d' : List ℕ) (have : ℕ) (r : Left) : Type 0 where
+  pub pieced : Pieced d d' have r
+  pub streamed : Streamed i i' o o' (drop have pieced.piece) (whole_text pieced.piece) r.sent
 
 -- a piece follows
 unfoldable pub goes_on : Left → Bool
@@ -52,6 +59,11 @@ pub record Ran (d d' : List ℕ) (r : Left) : Type 0 where
   pub rests : record_length (take r.held d') ≡ 0
   pub unknown : longest_record ≤ length (take r.held d') → is_kind (get_or (take r.held d') 0 0) ≡ false
 
+-- the same from a reader to a writer: what came was read, and what was handed over went out
+pub record RanOver (i i' o o' : Option (List ℕ)) (d d' : List ℕ) (r : Left) : Type 0 where
+  pub ran : Ran d d' r
+  pub streamed : Streamed i i' o o' ran.run.came ran.run.sent r.sent
+
 -- what is left of a file: a buffer of which the first bytes count
 pub record Rest : Type 0 where
   pub buffer : List ℕ
@@ -74,3 +86,13 @@ pub record Rested (d d' : List ℕ) (held : ℕ) : Type 0 where
   pub left : ℕ
   pub run : Chained is_left Parted (rest d held) (rest d' left)
   pub right : take held d ++ run.came ≡ run.sent ++ take left d'
+
+-- the same from a reader to a writer: what came was read, and the bytes that were handed over went out as numbers
+pub record NumberedOver (i i' o o' : Option (List ℕ)) (d d' : List ℕ) (held : ℕ) : Type 0 where
+  pub rested : Rested d d' held
+  pub streamed : Streamed i i' o o' rested.run.came (flat number_text rested.run.sent) true
+
+-- and as a line of bytes
+pub record RestedOver (i i' o o' : Option (List ℕ)) (d d' : List ℕ) (held : ℕ) : Type 0 where
+  pub rested : Rested d d' held
+  pub streamed : Streamed i i' o o' rested.run.came (line_text bytes_word rested.run.sent) true

@@ -1,13 +1,13 @@
 -- The text that is handed over piece by piece is that of the file.
-use Prim.Native.Nat.{◌+◌, ◌-◌, ◌<◌, ℕ}
-use mathlib.Core.Bool.{false, true}
+use Prim.Native.Nat.{◌-◌, ◌<◌, ℕ}
+use mathlib.Core.Bool.{true}
 use mathlib.Core.List.{List, [], ◌++◌, append_assoc}
 use mathlib.Core.Path.{◌∙◌, ◌≡◌, refl}
 use lib.Dec.{leb}
 use lib.ListN.{drop, drop_of_length-le, length, replicate, take, take-append-drop}
 use borrow.Author.Tests.{le-leb}
-use Rattle.pieces.proofs.Chain.{Going, at-start, one_more}
-use Rattle.pieces.specs.Chain.{Chain, Chained, most_turns, stop, turn}
+use Rattle.pieces.proofs.Chain.{Going, one_more}
+use Rattle.pieces.specs.Chain.{Chain, Chained, stop, turn}
 use Rattle.rows.specs.declared.Head.{Head}
 use Rattle.rules.specs.Measures.{most_lines}
 use Rattle.rules.specs.Record.{records_of}
@@ -24,7 +24,7 @@ use Rattle.trace.specs.declared.State.{State}
 no_more : (b c : Between) (t : Turned b c) (f : List ℕ) → (c.last ≡ true → f ≡ []) → b.last ≡ true → drop b.held t.piece ++ f ≡ []
 no_more b c t f h e = rw (drop_of_length-le t.piece (t.still e), h (t.ends ∙ le-leb (length t.piece) b.held (t.still e)))
 
-turns-right : {a : Between} {n : ℕ} {came sent : List ℕ} {c : Between} → Chain follows Printed a n came sent c → a.held ≡ 0 → (f : List ℕ) → (c.last ≡ true → f ≡ [])
+pub turns-right : {a : Between} {n : ℕ} {came sent : List ℕ} {c : Between} → Chain follows Printed a n came sent c → a.held ≡ 0 → (f : List ℕ) → (c.last ≡ true → f ≡ [])
     → trace_text a.board (records_of (came ++ f)) ≡ sent ++ trace_text c.board (records_of (take c.held c.buffer ++ f))
 turns-right stop z f h = rw z
 turns-right (turn {came = came} {new = new} {t = b} {r = c} r m q) z f h =
@@ -47,11 +47,8 @@ begun h e = started Zero h (replicate most_lines no_line) (replicate most_lines 
 abbrev pub Running : List ℕ → List ℕ → Between → ℕ → Type 0
 Running d o c left = Going follows Printed (start d o) c left
 
-pub started-at : (d o : List ℕ) (b : Board) (s : State) → b ≡ fresh Zero → s.held ≡ 0 → s.last ≡ false → s.more ≡ true → Running d o (between b d o s) most_turns
-started-at d o b s e h l m = rw (e, h, l, m) at-start
-
-pub turned_on : (d o : List ℕ) (b c : Between) (left : ℕ) → Running d o b left → 0 < left → b.more ≡ true → Turned b c → Running d o c (left - 1)
+abbrev pub turned_on : (d o : List ℕ) (b c : Between) (left : ℕ) → Running d o b left → 0 < left → b.more ≡ true → Turned b c → Running d o c (left - 1)
 turned_on d o b c left g h m t = one_more g h m (record { turned = t; comes = refl; goes = refl })
 
-pub traced : (d d' o o' : List ℕ) (b : Board) (r : State) → Chained follows Printed (start d o) (between b d' o' r) → Traces d d' o o' r
+abbrev pub traced : (d d' o o' : List ℕ) (b : Board) (r : State) → Chained follows Printed (start d o) (between b d' o' r) → Traces d d' o o' r
 traced d d' o o' b r c = record { board = b; run = c; right = turns-right c.run refl }

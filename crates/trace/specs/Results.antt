@@ -1,6 +1,7 @@
 -- What a turn of the program does, and what the whole run does.
-use Rattle.std.specs.Prelude.{◌≤◌, ℕ, ◌≡◌, Bool, ◌&&◌, ◌||◌, false, not, true, List, [], ◌++◌, leb, drop, length, take}
+use Rattle.std.specs.Prelude.{◌≤◌, ℕ, ◌≡◌, Bool, ◌&&◌, ◌||◌, false, not, true, List, [], ◌++◌, Option, leb, drop, length, take}
 use Rattle.pieces.specs.Chain.{Chained}
+use Rattle.pieces.specs.Streams.{Streamed}
 use Rattle.rules.specs.Record.{records_of}
 use Rattle.rules.specs.Tables.{Board, Zero, fresh}
 use Rattle.trace.specs.declared.State.{State}
@@ -42,6 +43,12 @@ abbrev pub piece_text : Between → List ℕ → List ℕ
 piece_text a piece =
     trace_text a.board (take (fitting (length a.out) 0 a.board (due_in (leb (length piece) a.held) piece)) (due_in (leb (length piece) a.held) piece))
 
+-- the same from a reader to a writer: what came with the piece was read, and the text of its records went out
+pub record TurnedOver (i i' o o' : Option (List ℕ)) (a b : Between) (sent : Bool) : Type 0 where
+  pub turned : Turned a b
+  pub told : turned.sent ≡ sent
+  pub streamed : Streamed i i' o o' (drop a.held turned.piece) (piece_text a turned.piece) sent
+
 -- a turn: the bytes that came with its piece, and the text that was handed over to be printed
 pub record Printed (a b : Between) (new out : List ℕ) : Type 0 where
   pub turned : Turned a b
@@ -62,3 +69,8 @@ pub record Traces (d d' o o' : List ℕ) (r : State) : Type 0 where
   pub run : Chained follows Printed (start d o) (between board d' o' r)
   pub right : (f : List ℕ) → (r.last ≡ true → f ≡ [])
       → trace_text (fresh Zero) (records_of (run.came ++ f)) ≡ run.sent ++ trace_text board (records_of (take r.held d' ++ f))
+
+-- the same from a reader to a writer: what came was read, and what was handed over went out
+pub record TracesOver (i i' o o' : Option (List ℕ)) (d d' t t' : List ℕ) (r : State) : Type 0 where
+  pub traces : Traces d d' t t' r
+  pub streamed : Streamed i i' o o' traces.run.came traces.run.sent r.sent

@@ -1,3 +1,5 @@
+#![tactic(auto)]
+
 // The text that a trace prints: a line for each answer, and behind an accepted cut a line for each word of the recovered memory that is not zero.
 ghost use Rattle.std.specs.Prelude.{◌+◌, ◌≡◌, cond, leb, ltb, get_or, length};
 ghost use Rattle.events.specs.Whole.{record_length};
@@ -105,7 +107,7 @@ fn has_room(n: usize, at: usize) -> bool
 
 // What an event leaves: the numbers beside the rows, the place behind its text, the bytes of its record, 0 for one that ends its file, and whether there was
 // room for its text.
-#[derive(Drop)]
+#[derive(Clone, Copy)]
 pub struct Traced {
     pub head: Head,
     pub at: usize,
@@ -173,7 +175,7 @@ fn run_at(room: bool, i: usize, n: usize) -> usize
 }
 
 // What a piece leaves: the numbers beside the rows, the place behind its text, the bytes that are run, and whether the next record found no room.
-#[derive(Drop)]
+#[derive(Clone, Copy)]
 pub struct TracedPiece {
     pub head: Head,
     pub at: usize,

@@ -1,3 +1,5 @@
+#![tactic(auto)]
+
 // Lines of cases: where a line ends, the numbers in it, whether an answer is the one that is due, and how many cases are right.
 ghost use Rattle.std.specs.Prelude.{◌+◌, ◌-◌, ◌≡◌, cond, eqb, leb, get_or};
 ghost use Rattle.trying.specs.Line.{Finds, due_in, grown, is_digit, number_grown, row_byte, row_digit, row_of, whole_in};
@@ -22,7 +24,7 @@ pub fn find(s: &[u8], from: usize, b: u8) -> usize
 }
 
 // The numbers of a line as far as it is read, at most 20 of them: how many are whole, how many stand before the '=', and whether one is being read.
-#[derive(Drop)]
+#[derive(Clone, Copy)]
 pub struct Row {
     pub numbers: [u64; 20],
     pub n: usize,
@@ -168,7 +170,7 @@ pub fn number_count(line: &[u8]) -> usize
 // ---- an answer
 
 // The refusal and the value that an answer must have.
-#[derive(Drop)]
+#[derive(Clone, Copy)]
 pub struct Due {
     pub refusal: u64,
     pub value: u64,
@@ -220,7 +222,7 @@ pub fn agrees(a: Answer, d: Due) -> bool
 // ---- the cases
 
 // How many cases there were, and how many of them were right.
-#[derive(Drop)]
+#[derive(Clone, Copy)]
 pub struct Total {
     pub cases: u64,
     pub right: u64,

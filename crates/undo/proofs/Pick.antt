@@ -2,7 +2,7 @@
 -- Assumes nothing.
 use Prim.Native.Nat.{ℕ, ◌<◌, ◌≤◌}
 use native.Mathlib.Omega.{arith}
-use mathlib.Core.Path.{◌≡◌, refl}
+use mathlib.Core.Path.{◌≡◌, refl, subst, sym}
 use mathlib.Core.Logic.{⊎_elim}
 use mathlib.Core.Bool.{true, false, cond}
 use mathlib.Core.List.{List, [], ◌∷◌}
@@ -26,7 +26,8 @@ module _ (rank : ℕ → ℕ) (g : ℕ) where
   least-in (k ∷ ks) =
       test (ltb (rank k) (rank (least rank g ks)))
       (λ d. rw (d, is_same k) (or_right (eqb k g) refl))
-      (λ d. rw d (⊎_elim (λ p. rw p) (λ p. or_right (eqb (least rank g ks) g) (or_right (eqb (least rank g ks) k) p))
+      (λ d. let e : least rank g (k ∷ ks) ≡ least rank g ks = rw d in
+      subst (λ m. is_in m (g ∷ (k ∷ ks)) ≡ true) (sym e) (⊎_elim (λ p. rw p) (λ p. or_right (eqb (least rank g ks) g) (or_right (eqb (least rank g ks) k) p))
       (or-true (eqb (least rank g ks) g) (is_in (least rank g ks) ks) (least-in ks))))
 
   pub least-below : (gs : List ℕ) (a : ℕ) → is_in a (g ∷ gs) ≡ true → rank (least rank g gs) ≤ rank a

@@ -1,3 +1,5 @@
+#![tactic(auto)]
+
 // The recovery walk: the order of the regions, and the log entry at a place of the walk. The first `held` regions and the first `logged` marks count.
 ghost use Rattle.std.specs.Prelude.{◌<◌, ◌≤◌, ◌≡◌, not, map, eqb, length, take};
 ghost use Rattle.undo.specs.Table.{any};
@@ -12,7 +14,7 @@ use measures::{MOST_DEPS, MOST_LOGGED, MOST_REGIONS};
 use rules::{Found, Listed, Mark};
 
 // The keys of the regions in the order of the walk: the first `count` of them.
-#[derive(Drop)]
+#[derive(Clone, Copy)]
 pub struct Order {
     pub count: usize,
     pub keys: [u32; MOST_REGIONS],

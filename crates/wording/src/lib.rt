@@ -1,3 +1,5 @@
+#![tactic(auto)]
+
 // The lines of a trace: that of an answer, and those of the words that recovery leaves in an image.
 // Every writer puts its bytes behind the cursor. Bytes that find no room are dropped, and the cursor says so.
 ghost use Rattle.std.specs.Prelude.{◌≡◌};

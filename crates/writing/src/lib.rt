@@ -1,3 +1,5 @@
+#![tactic(auto)]
+
 // The records of an image into a lent buffer. Every writer has one contract shape, `Puts`: where there is room for its bytes from `at` on, the buffer has
 // them there and nothing else changed, and the answer is the place behind them; where there is none, buffer and place stay.
 ghost use Rattle.std.specs.Prelude.{◌+◌, ◌/◌, ◌%◌, ◌≤◌, ◌≡◌, [], ◌∷◌, length};

@@ -2,7 +2,7 @@
 use Rattle.undo.specs.Machine as u
 use Rattle.undo.specs.History as v
 use Rattle.undo.proofs.Inv.{Inv}
-use Rattle.undo.specs.Claim.{Reach, Structure, start}
+use Rattle.undo.specs.Claim.{Reach, Structure}
 use Prim.Native.Nat.{◌+◌, ◌<◌, ◌≤◌, suc, ℕ}
 use mathlib.Core.Path.{◌∙◌, ◌≡◌, ap, sym}
 use mathlib.Core.Logic.{◌≢◌, ◌⊎◌, ⊎_elim}
@@ -15,7 +15,6 @@ use native.Mathlib.Numerals.{add-one}
 use borrow.Author.Tests.{eqb-false, eqb-true, leb-true, lt-ltb, ltb-false, ltb-true, not-true}
 use Rattle.rules.proofs.Recover.Saved.{deps_at, padded-in}
 use Rattle.rules.proofs.Sim.State.{Sim}
-use Rattle.rules.specs.Acknowledge.{kept}
 use Rattle.rules.specs.History.{Account, Closes, Cuts, Nothing, Opens, Sets, Stores, Use, Uses, depth_in, draws_on, opened_in, region_in, uses_in}
 use Rattle.rules.specs.Tables.{Board, key_of, listed, no_thread, number_of, place_of, region_at, thread_at, thread_of}
 use Rattle.undo.proofs.Laws.{and-true, is_same, never, or_right, test}

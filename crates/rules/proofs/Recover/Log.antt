@@ -27,7 +27,6 @@ use Rattle.rules.specs.Image.{order_of, saved_entry, saved_log, saved_thread}
 use Rattle.rules.specs.Lists.{count, place}
 use Rattle.rules.specs.Reader.{is_logged_by}
 use Rattle.rules.specs.Refusal.{is_set_up}
-use Rattle.rules.specs.Slots.{counted}
 use Rattle.rules.specs.Tables.{Board, line_of, listed, no_entry, thread_at, thread_of}
 use Rattle.rules.specs.declared.Entry.{Entry}
 use Rattle.undo.proofs.Laws.{and-true, is_same, never, or_right, test}

@@ -1,8 +1,7 @@
 -- The old lines of log entries: of a region and a line, and what is saved of a thread.
 use Rattle.undo.specs.Machine as u
-use Rattle.undo.specs.History as v
 use Rattle.undo.specs.Claim as claim
-use Rattle.undo.specs.Recovery.{persistent, Undo, aimed, older, olds}
+use Rattle.undo.specs.Recovery.{Undo, aimed, older, olds}
 use Prim.Native.Nat.{◌*◌, ◌+◌, ◌<◌, ◌≤◌, ℕ}
 use mathlib.Core.Path.{◌∙◌, ◌≡◌, refl, sym}
 use mathlib.Core.Logic.{◌≢◌}

@@ -19,8 +19,6 @@ use Rattle.rules.specs.Tables.{is_key, listed, no_region, number_of, region_at}
 use Rattle.rules.specs.declared.Listed.{Listed}
 use Rattle.rules.specs.declared.Region.{Region}
 use Rattle.undo.proofs.Laws.{and-true, flip, is_same, never, or-false, or_right, test}
-use Rattle.undo.proofs.Media.{first}
-use Rattle.undo.specs.Recovery.{next}
 use Rattle.undo.specs.Table.{any, is_in}
 
 -- ---- lists

@@ -1,8 +1,7 @@
 -- What an accepted cut saves does not contradict itself.
 use Rattle.undo.specs.Machine as u
 use Rattle.undo.specs.History as v
-use Rattle.undo.specs.Claim as claim
-use Rattle.undo.specs.Claim.{Reach, age, Path, direct, through, start}
+use Rattle.undo.specs.Claim.{Reach, age, Path, direct, through}
 use Prim.Native.Nat.{◌+◌, ◌<◌, ◌≤◌, suc, zero, ℕ}
 use mathlib.Core.Path.{◌∙◌, ◌≡◌, refl, sym}
 use mathlib.Core.Logic.{⊎_elim}
@@ -29,7 +28,6 @@ use Rattle.rules.specs.Image.{Logged, saved, saved_log}
 use Rattle.rules.specs.Lists.{all, count, place}
 use Rattle.rules.specs.Tables.{Board, is_held, listed, number_of, place_of, region_at, thread_of}
 use Rattle.rules.specs.declared.Listed.{Listed}
-use Rattle.undo.proofs.Inv.{held}
 use Rattle.undo.proofs.Laws.{and-true, cons-nil, is_same, never, or_right, or-true, test}
 use Rattle.undo.proofs.Shape.{rest}
 use Rattle.undo.specs.Table.{any, is_in}

@@ -1,7 +1,7 @@
 -- Recovery steps and cuts on a saved image: its bytes stay the image of the saved state with another medium, and the medium is as the undo log has it.
 use Rattle.undo.specs.Machine as u
 use Rattle.undo.specs.History as v
-use Rattle.undo.specs.Claim.{Reach, start}
+use Rattle.undo.specs.Claim.{Reach}
 use Rattle.undo.specs.Recovery as w
 use Rattle.undo.specs.Recovery.{along, Placed, begins, cuts}
 use Rattle.undo.proofs.Main.{finishes}
@@ -40,7 +40,7 @@ use Rattle.rules.specs.Reader.{is_known_thread}
 use Rattle.rules.specs.Refusal.{is_set_up}
 use Rattle.rules.specs.Tables.{Board, line_of}
 use Rattle.rules.specs.Walk.{entries_from, entries_of, walk, walk_entries}
-use Rattle.undo.proofs.Laws.{and-true, same, test}
+use Rattle.undo.proofs.Laws.{and-true, test}
 use Rattle.undo.specs.Table.{is_in, keep, put}
 use Rattle.rules.proofs.Places.{homes}
 
@@ -190,7 +190,7 @@ module _ {start : ℕ → List ℕ} {b : Board} {es : List Account} {s : u.State
   pub acts-stand : {r : Recovering} (xs : List Act) → Standing r → Standing (acts r xs)
   unfolding acts act
   acts-stand [] p = p
-  acts-stand (Restore ∷ xs) p = acts-stand xs (step-stands p)
+  acts-stand {r = r} (Restore ∷ xs) p = acts-stand {r = (restore r).after} xs (step-stands p)
   acts-stand (PowerCut ∷ xs) p = acts-stand xs (cut_stands p)
 
   -- ---- every step is step-accepted

@@ -1,7 +1,7 @@
 -- What an accepted cut saves fits its image.
 use Rattle.undo.specs.Machine as u
 use Rattle.undo.specs.History as v
-use Rattle.undo.specs.Claim.{Reach, start}
+use Rattle.undo.specs.Claim.{Reach}
 use Rattle.rules.proofs.Codec.Bytes.{is_line, all_take}
 use Prim.Native.Nat.{◌<◌, suc, ℕ}
 use mathlib.Core.Path.{◌∙◌, ◌≡◌, refl, sym}

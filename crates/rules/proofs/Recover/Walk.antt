@@ -17,11 +17,10 @@ use Rattle.rules.proofs.Recover.Olds.{chosen, chosen-aimed, undos}
 use Rattle.rules.proofs.Recover.Rising.{Rises, higher, no_more, rises-above, rises-lower, rises-not}
 use Rattle.rules.proofs.Recover.Saved.{any_of, listed_by, none_of}
 use Rattle.rules.proofs.Lists.{any-map, any_place, place-lt, place_map, place-true}
-use Rattle.rules.specs.Acknowledge.{kept}
 use Rattle.rules.specs.Image.{Logged, no_listed}
 use Rattle.rules.specs.Lists.{count, place}
 use Rattle.rules.specs.Walk.{entries_from, entries_of, is_needed, next_place, walk_from, without}
-use Rattle.undo.proofs.Laws.{is_same, never, or_right, or-true, same, test}
+use Rattle.undo.proofs.Laws.{is_same, never, or_right, or-true, test}
 use Rattle.undo.proofs.Pick.{least, least-in, picks}
 use Rattle.undo.specs.Table.{any, is_in, keep}
 

@@ -26,7 +26,6 @@ use Rattle.rules.specs.Acknowledge.{kept}
 use Rattle.rules.specs.Commit.{commits}
 use Rattle.rules.specs.History.{Account, Uses, depth_in, draws_on, ends_in, last_writer, lines_in, opened_in, region_in, uses_in, writes_in}
 use Rattle.rules.specs.Lists.{place}
-use Rattle.rules.specs.Reader.{nothing}
 use Rattle.rules.specs.Refusal.{depth_of, is_foreign_open, is_set_up, no_room_for_dep, tests_of}
 use Rattle.rules.specs.Step.{apply}
 use Rattle.rules.specs.Tables.{Board, current, is_held, is_placed, line_of, listed, no_region, owner_of, place_of, region_at, start_lines, thread_at, thread_of, with_deps, with_reads, with_tables, with_thread}

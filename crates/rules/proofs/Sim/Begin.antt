@@ -10,7 +10,6 @@ use lib.Dec.{eqb, leb, ltb}
 use lib.ListN.{get_or, replicate, set}
 use native.Mathlib.Omega.{arith}
 use borrow.Author.Tests.{eqb-false, eqb-true, le-leb, leb-false, leb-true, lt-leb, ltb-true, ne_eqb, not-false, not-true}
-use Rattle.rules.proofs.Recover.Rising.{no_more}
 use Rattle.rules.proofs.Lists.{count_room, each_set, get_or-set}
 use Rattle.rules.proofs.Places.{eqb_swap, good-free, listed-key, listed-new, once-one, region-new, region-none, regions-new, room-left, unlisted-any}
 use Rattle.rules.proofs.Sim.State.{Distinct, Finished, GoodRegion, Keeps, Kept, Rest, Shape, Sim, Simulated, Told, Watched, by, more, none, other}
@@ -18,8 +17,7 @@ use Rattle.rules.proofs.Sim.Base.{key-number, key_split, key-thread, logs-over, 
 use Rattle.rules.proofs.Views.{is_opened, state_of}
 use Rattle.rules.specs.Begin.{begin, begun, opened}
 use Rattle.rules.specs.Commit.{commits}
-use Rattle.rules.specs.Flight.{flown}
-use Rattle.rules.specs.History.{Account, Opens, depth_in, draws_on, ends_in, has_read_in, lines_in, opened_in, region_in, uses_in, writes_in}
+use Rattle.rules.specs.History.{Account, Opens, depth_in, draws_on, ends_in, has_read_in, lines_in, opened_in, read_in, region_in, uses_in, writes_in}
 use Rattle.rules.specs.Lists.{count}
 use Rattle.rules.specs.Refusal.{depth_of, refusal, tests_of}
 use Rattle.rules.specs.Step.{apply}
@@ -31,10 +29,10 @@ use Rattle.rules.specs.declared.Tables.{Tables}
 use Rattle.rules.specs.declared.Thread.{Thread}
 use Rattle.undo.proofs.Laws.{and-true, is_same, never, or_right, or-true, test}
 use Rattle.undo.proofs.Main.{structured}
+use Rattle.rules.proofs.Sim.OneMore.{depth-opens, opened-opens, read-opens}
 use Rattle.rules.proofs.Sim.Looks.{acted, acted-same, marks-same, reach, unread-yet}
 use Rattle.undo.specs.Claim.{Reach, Structure}
 use Rattle.undo.specs.Machine.{ends}
-use Rattle.undo.specs.Recovery.{older}
 use Rattle.undo.specs.Table.{any, put}
 use Rattle.rules.proofs.Tests.{channel-room, passed}
 use Rattle.rules.proofs.Sim.Depth.{keeps-deeper}
@@ -138,12 +136,10 @@ module _ {m : ℕ → List ℕ} {b : Board} {es : List Account} {s : u.State (Li
         (threads-stored t opener b.tables lt (sh.threads.logs t) sh) sh.owner sh.lock sh
 
     depth-begun : (j : ℕ) → depth_in j (Opens t ∷ es) ≡ cond (eqb j t) 1 (depth_in j es)
-    unfolding depth_in
-    depth-begun j = rw (eqb_swap t j) (test (eqb j t) (λ d. rw (d, eqb-true j t d, d0)) (λ d. rw d))
+    depth-begun j = rw (depth-opens t j es, eqb_swap t j) (test (eqb j t) (λ d. rw (d, eqb-true j t d, d0)) (λ d. rw d))
 
     number-begun : (j : ℕ) → opened_in j (Opens t ∷ es) ≡ cond (eqb j t) (opened_in t es + 1) (opened_in j es)
-    unfolding opened_in
-    number-begun j = rw (eqb_swap t j) (test (eqb j t) (λ d. rw (d, eqb-true j t d, d0)) (λ d. rw d))
+    number-begun j = rw (opened-opens t j es, eqb_swap t j) (test (eqb j t) (λ d. rw (d, eqb-true j t d, d0)) (λ d. rw d))
 
     pub born-begun : (j : ℕ) → put (new_key t b.tables) true s.born j ≡ is_opened (Opens t ∷ es) j
     born-begun j =
@@ -267,15 +263,18 @@ module _ {m : ℕ → List ℕ} {b : Board} {es : List Account} {s : u.State (Li
         (s' : u.State (List ℕ)) × (h' : v.History (List ℕ))
         × (Watched m (with_tables (opened t b.tables) b) (Opens t ∷ es) s' h' × Sim (with_tables (opened t b.tables) b) (Opens t ∷ es) s' h')
 
+    unread : (j l : ℕ) → read_in j l (Opens t ∷ es) ≡ read_in j l es
+    unread j l = rw (read-opens t (region_in j (Opens t ∷ es)) l es, depth-begun j, number-begun j) (test (eqb j t)
+        (λ d. rw (d, eqb-true j t d, d0) (unread-yet es i.told.numbers t (opened_in t es + 1) l (omega arith) (omega arith)))
+        (λ d. rw d))
+
     -- the new region begins, and the thread's marks stay, which are none
     watched-begun : Watched m b es s h → Watched m (with_tables (opened t b.tables) b) (Opens t ∷ es) (u.act s (u.Begin (new_key t b.tables))) h
     unfolding v.note has_read_in
     watched-begun w =
         acted w (λ ks x. other refl x)
         (marks-same (λ j. rw (thread-begun j) (test (eqb j t) (λ d. rw (d, eqb-true j t d)) (λ d. rw d)))
-        (λ j l. rw (depth-begun j, number-begun j) (test (eqb j t)
-        (λ d. rw (d, eqb-true j t d, d0) (unread-yet es i.told.numbers t (opened_in t es + 1) l (omega arith) (omega arith)))
-        (λ d. rw d))))
+        (λ j l. unread j l))
         (u.Begin (new_key t b.tables)) u.begins refl
 
     opens-after : Watched m b es s h → listed (current t b.tables) b.tables.regions ≡ true → Opened

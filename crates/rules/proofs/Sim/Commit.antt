@@ -1,11 +1,9 @@
 -- Commits keep the relation, one by one and all of a step.
 use Rattle.undo.specs.Machine as u
 use Rattle.undo.specs.History as v
-use Rattle.undo.specs.Claim as c
-use Rattle.undo.proofs.Inv as n
 use Prim.Native.Nat.{◌<◌, ◌≤◌, suc, zero, ℕ}
 use mathlib.Core.Path.{◌∙◌, ◌≡◌, refl, sym}
-use mathlib.Core.Logic.{◌≢◌, ◌⊎◌, inl, inr, ⊎_elim}
+use mathlib.Core.Logic.{◌≢◌, inl, inr, ⊎_elim}
 use mathlib.Core.Bool.{Bool, ◌&&◌, cond, false, false≢true, not, true}
 use mathlib.Core.List.{List, [], ◌∷◌, map}
 use lib.Dec.{eqb, leb, ltb}
@@ -32,7 +30,6 @@ use Rattle.rules.specs.Tables.{Board, Memory, is_held, is_key, listed, no_entry,
 use Rattle.rules.specs.declared.Region.{Region}
 use Rattle.rules.specs.declared.SlotState.TheVariants.{Empty, Waiting}
 use Rattle.undo.proofs.Laws.{and-true, flip, never, or-false, test}
-use Rattle.undo.proofs.Shape.{rest}
 use Rattle.undo.proofs.Steps.{reached}
 use Rattle.undo.specs.Claim.{Reach}
 use Rattle.undo.specs.Table.{any}

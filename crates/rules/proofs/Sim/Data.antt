@@ -28,7 +28,6 @@ use Rattle.rules.specs.Tables.{Board, Memory, is_placed, line_of, listed, no_reg
 use Rattle.rules.specs.declared.Event.TheVariants.{DataAck}
 use Rattle.rules.specs.declared.Region.{Region}
 use Rattle.rules.specs.declared.SlotState.TheVariants.{Empty, Waiting}
-use Rattle.undo.proofs.Inv.{flying}
 use Rattle.undo.proofs.Laws.{is_same, test}
 use Rattle.undo.specs.Claim.{Reach}
 use Rattle.undo.specs.Table.{any, put}

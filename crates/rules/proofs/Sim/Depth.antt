@@ -1,8 +1,7 @@
 -- Fence, cut, setup, and begin and end at other depths than 0 and 1 keep the relation.
-use Rattle.undo.specs.Machine as u
-use Rattle.undo.specs.History as v
 use Prim.Native.Nat.{◌-◌, ◌+◌, ◌<◌, ℕ}
 use mathlib.Core.Path.{◌∙◌, ◌≡◌, ap, refl}
+use mathlib.Core.Logic.{◌≢◌}
 use mathlib.Core.Bool.{cond, false, true}
 use mathlib.Core.List.{List, ◌∷◌}
 use lib.Dec.{eqb, ltb}
@@ -12,12 +11,11 @@ use borrow.Author.Tests.{eqb-false, eqb-true, ltb-false, ltb-true, ne_eqb, not-f
 use Rattle.rules.proofs.Sim.State.{Keeps, Kept, Shape, Simulated, by, depth-of, other}
 use Rattle.rules.proofs.Sim.Base.{Alike, alter, logs-same, rest-alter, shape-thread, sim-alter, thread-stored, threads-8, told-alike}
 use Rattle.rules.proofs.Sim.Looks.{alike}
+use Rattle.rules.proofs.Sim.OneMore.{depth-closes, depth-opens, opened-closes, opened-opens, read-closes, read-opens}
 use Rattle.rules.proofs.Views.{entry_at}
-use Rattle.rules.specs.Begin.{deeper, opened}
+use Rattle.rules.specs.Begin.{deeper}
 use Rattle.rules.specs.End.{shallower}
-use Rattle.rules.specs.History.{Account, Closes, Cuts, Nothing, Opens, Sets, depth_in, ends_in, has_read_in, lines_in, opened_in, uses_in, writes_in}
-use Rattle.rules.specs.Lists.{count}
-use Rattle.rules.specs.Reader.{nothing}
+use Rattle.rules.specs.History.{Account, Closes, Cuts, Nothing, Opens, Sets, depth_in, ends_in, has_read_in, lines_in, opened_in, read_in, region_in, uses_in, writes_in}
 use Rattle.rules.specs.Refusal.{depth_of, in_range, is_set_up, tests_of}
 use Rattle.rules.specs.Step.{apply, setup}
 use Rattle.rules.specs.Tables.{Board, Memory, no_entry, no_thread, thread_at, with_cut, with_depth, with_numbers, with_tables, with_thread}
@@ -27,7 +25,6 @@ use Rattle.rules.specs.declared.Shares.{Shares}
 use Rattle.rules.specs.declared.Size.{Size}
 use Rattle.rules.specs.declared.Tables.{Tables}
 use Rattle.undo.proofs.Laws.{flip, is_same, never, test}
-use Rattle.undo.specs.Machine.{ends}
 use Rattle.rules.proofs.Tests.{passed, setup-passed}
 
 -- an event that says nothing of regions and lines
@@ -154,22 +151,37 @@ unfolding opened_in depth_in ends_in writes_in uses_in lines_in has_read_in
 keeps-deeper t m b es lt n k =
     kept-depth m b es (Opens t) t (depth_of t b.tables + 1) lt
     (record {
-      opened = λ j. test (eqb t j) (λ d. rw (d, ← eqb-true t j d, z)) (λ d. rw d);
-      inside = λ j p. test (eqb t j) (λ d. rw d (λ y. omega arith)) (λ d. rw d p);
-      outside = λ j p. test (eqb t j) (λ d. rw (← eqb-true t j d) (eqb-false (depth_in t es) 0 z)) (λ d. rw d at p);
+      opened = opened';
+      inside = λ j p. rw (depth-opens t j es) (test (eqb t j) (λ d. rw d (λ y. omega arith)) (λ d. rw d p));
+      outside = λ j p. test (eqb t j) (λ d. outside' j d) (λ d. rw (depth-opens t j es, d) at p);
       ends = refl;
       writes = refl;
       uses = rw z;
-      reads = λ j l. test (eqb t j) (λ d. rw (d, ← eqb-true t j d, z, ne_eqb (depth_in t es + 1) 0 (λ q. omega arith))) (λ d. rw d);
+      reads = reads';
       looks = λ ks x. other refl x;
     })
-    (λ j. test (eqb t j)
-    (λ d. rw (d, ← eqb-true t j d, is_same t, depth-of k.simulated t))
-    (λ d. rw (d, flip t j d)))
-    refl k
+    depth' refl k
   where
     z : eqb (depth_in t es) 0 ≡ false
     z = rw (depth-of k.simulated t) at n
+
+    opened' : (j : ℕ) → opened_in j (Opens t ∷ es) ≡ opened_in j es
+    opened' j = rw (opened-opens t j es) (test (eqb t j) (λ d. rw (d, ← eqb-true t j d, z)) (λ d. rw d))
+
+    outside' : (j : ℕ) → eqb t j ≡ true → depth_in j es ≢ 0
+    outside' j d = rw (← eqb-true t j d) (eqb-false (depth_in t es) 0 z)
+
+    reads' : (j l : ℕ) → read_in j l (Opens t ∷ es) ≡ read_in j l es
+    reads' j l =
+        rw (read-opens t (region_in j (Opens t ∷ es)) l es, depth-opens t j es, opened' j)
+        (test (eqb t j) (λ d. rw (d, ← eqb-true t j d, z, ne_eqb (depth_in t es + 1) 0 (λ q. omega arith))) (λ d. rw d))
+
+    depth' : (j : ℕ) → depth_in j (Opens t ∷ es) ≡ cond (eqb j t) (depth_of t b.tables + 1) (depth_in j es)
+    depth' j =
+        rw (depth-opens t j es)
+        (test (eqb t j)
+        (λ d. rw (d, ← eqb-true t j d, is_same t, depth-of k.simulated t))
+        (λ d. rw (d, flip t j d)))
 
 pub keeps-shallower : (t : ℕ) (m : Memory) (b : Board) (es : List Account) → t < b.tables.size.threads → eqb (depth_of t b.tables) 0 ≡ false
     → eqb (depth_of t b.tables) 1 ≡ false → Kept m b es → Kept m (with_tables (shallower t b.tables) b) (Closes t ∷ es)
@@ -178,22 +190,42 @@ keeps-shallower t m b es lt n n1 k =
     kept-depth m b es (Closes t) t (depth_of t b.tables - 1) lt
     (record {
       opened = λ j. refl;
-      inside = λ j p. test (eqb t j) (λ d. rw (d, ← eqb-true t j d) (λ y. omega (arith, eqb-false (depth_in t es) 0 z, eqb-false (depth_in t es) 1 z1))) (λ d. rw d p);
-      outside = λ j p. test (eqb t j) (λ d. rw (← eqb-true t j d) (eqb-false (depth_in t es) 0 z)) (λ d. rw d at p);
+      inside = inside';
+      outside = λ j p. test (eqb t j) (λ d. outside' j d) (λ d. rw (depth-closes t j es, d) at p);
       ends = rw z1;
       writes = refl;
       uses = refl;
-      reads = λ j l. test (eqb t j)
-          (λ d. rw (d, ← eqb-true t j d, z, ne_eqb (depth_in t es - 1) 0 (λ q. omega (arith, eqb-false (depth_in t es) 0 z, eqb-false (depth_in t es) 1 z1)))) (λ d. rw d);
+      reads = reads';
       looks = λ ks x. other refl x;
     })
-    (λ j. test (eqb t j)
-    (λ d. rw (d, ← eqb-true t j d, is_same t, depth-of k.simulated t))
-    (λ d. rw (d, flip t j d)))
-    refl k
+    depth' refl k
   where
     z : eqb (depth_in t es) 0 ≡ false
     z = rw (depth-of k.simulated t) at n
 
     z1 : eqb (depth_in t es) 1 ≡ false
     z1 = rw (depth-of k.simulated t) at n1
+
+    inside' : (j : ℕ) → depth_in j es ≢ 0 → depth_in j (Closes t ∷ es) ≢ 0
+    inside' j p =
+        rw (depth-closes t j es)
+        (test (eqb t j)
+        (λ d. rw (d, ← eqb-true t j d) (λ y. omega (arith, eqb-false (depth_in t es) 0 z, eqb-false (depth_in t es) 1 z1)))
+        (λ d. rw d p))
+
+    outside' : (j : ℕ) → eqb t j ≡ true → depth_in j es ≢ 0
+    outside' j d = rw (← eqb-true t j d) (eqb-false (depth_in t es) 0 z)
+
+    reads' : (j l : ℕ) → read_in j l (Closes t ∷ es) ≡ read_in j l es
+    reads' j l =
+        rw (read-closes t (region_in j (Closes t ∷ es)) l es, depth-closes t j es, opened-closes t j es)
+        (test (eqb t j)
+        (λ d. rw (d, ← eqb-true t j d, z, ne_eqb (depth_in t es - 1) 0 (λ q. omega (arith, eqb-false (depth_in t es) 0 z, eqb-false (depth_in t es) 1 z1))))
+        (λ d. rw d))
+
+    depth' : (j : ℕ) → depth_in j (Closes t ∷ es) ≡ cond (eqb j t) (depth_of t b.tables - 1) (depth_in j es)
+    depth' j =
+        rw (depth-closes t j es)
+        (test (eqb t j)
+        (λ d. rw (d, ← eqb-true t j d, is_same t, depth-of k.simulated t))
+        (λ d. rw (d, flip t j d)))

@@ -3,7 +3,6 @@ use Rattle.undo.specs.Machine as u
 use Rattle.undo.specs.History as v
 use Prim.Native.Nat.{◌%◌, ◌-◌, ◌/◌, ◌<◌, ℕ}
 use mathlib.Core.Path.{◌∙◌, ◌≡◌, refl, sym}
-use mathlib.Core.Logic.{◌≢◌}
 use mathlib.Core.Bool.{◌||◌, cond, false, true, true≢false}
 use mathlib.Core.List.{List, ◌∷◌}
 use lib.Dec.{eqb}
@@ -15,6 +14,7 @@ use Rattle.rules.proofs.Places.{entry_at, eqb_swap, get_or-same, key-at, listed-
 use Rattle.rules.proofs.Sim.State.{GoodRegion, Kept, Marks, Rest, Shape, Sim, Simulated, Told, by, other}
 use Rattle.rules.proofs.Sim.Base.{key-thread, logs-over, logs-same, memories-same, shape-kept, thread-stored, threads-8, threads-stored}
 use Rattle.rules.proofs.Sim.Flight.{flights, flown-rest}
+use Rattle.rules.proofs.Sim.OneMore.{depth-closes, opened-closes}
 use Rattle.rules.proofs.Sim.Looks.{acted, reach}
 use Rattle.rules.proofs.Sim.Parts.{Flown, once-at, open-listed}
 use Rattle.rules.proofs.Views.{state_of}
@@ -101,8 +101,7 @@ module _ {m : ℕ → List ℕ} {b : Board} {es : List Account} {s : u.State (Li
       (threads-stored t (over_thread t b.tables) b.tables lt (sh.threads.logs t) sh) sh.owner sh.lock sh
 
   depth-over : (j : ℕ) → depth_in j (Closes t ∷ es) ≡ cond (eqb j t) 0 (depth_in j es)
-  unfolding depth_in
-  depth-over j = rw (eqb_swap t j) (test (eqb j t) (λ d. rw (d, eqb-true j t d, d1)) (λ d. rw d))
+  depth-over j = rw (depth-closes t j es, eqb_swap t j) (test (eqb j t) (λ d. rw (d, eqb-true j t d, d1)) (λ d. rw d))
 
   told_over : Told (with_tables (over t b.tables) b) (Closes t ∷ es) (u.with_over (put (current t b.tables) true s.over) s)
       (record { writes = h.writes; ends = current t b.tables ∷ h.ends; uses = h.uses })
@@ -111,7 +110,7 @@ module _ {m : ℕ → List ℕ} {b : Board} {es : List Account} {s : u.State (Li
       record {
         depth = λ j. rw (thread-over j, depth-over j)
             (test (eqb j t) (λ d. rw (d, i.told.depth t, d1)) (λ d. rw d (i.told.depth j)));
-        last = λ j. rw (thread-over j) (test (eqb j t) (λ d. rw (d, eqb-true j t d) (i.told.last t)) (λ d. rw d (i.told.last j)));
+        last = λ j. rw (thread-over j, opened-closes t j es) (test (eqb j t) (λ d. rw (d, eqb-true j t d) (i.told.last t)) (λ d. rw d (i.told.last j)));
         numbers = i.told.numbers;
         lines = i.told.lines;
         born = i.told.born;

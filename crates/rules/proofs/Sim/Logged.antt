@@ -4,7 +4,7 @@ use Rattle.undo.specs.History as v
 use Rattle.undo.specs.Claim as c
 use Prim.Native.Nat.{◌*◌, ◌+◌, ◌<◌, ◌≤◌, ℕ}
 use mathlib.Core.Path.{◌∙◌, ◌≡◌, ap, refl, sym}
-use mathlib.Core.Logic.{◌≢◌, ◌⊎◌, ⊎_elim}
+use mathlib.Core.Logic.{◌≢◌, ⊎_elim}
 use mathlib.Core.Bool.{Bool, ◌&&◌, cond, false, not, true}
 use mathlib.Core.List.{List, [], ◌∷◌}
 use lib.Dec.{eqb, ltb}
@@ -22,12 +22,10 @@ use Rattle.rules.specs.Acknowledge.{is_entry}
 use Rattle.rules.specs.History.{Account, opened_in, region_in}
 use Rattle.rules.specs.Lists.{count}
 use Rattle.rules.specs.Refusal.{is_set_up}
-use Rattle.rules.specs.Step.{setup}
 use Rattle.rules.specs.Tables.{Board, line_of, listed, no_entry, no_thread, owner_of, thread_at, thread_of, with_log}
 use Rattle.rules.specs.declared.Entry.{Entry}
 use Rattle.rules.specs.declared.Tables.{Tables}
 use Rattle.rules.specs.declared.Thread.{Thread}
-use Rattle.undo.proofs.Inv.{held}
 use Rattle.undo.proofs.Laws.{and-true, cons-nil, flip, is_same, never, or-true, test}
 use Rattle.undo.specs.Recovery.{olds}
 use Rattle.undo.specs.Table.{any, put}

@@ -19,6 +19,7 @@ use Rattle.rules.proofs.Bits.{bit-or, bit-pow}
 use Rattle.rules.proofs.Lists.{any_none}
 use Rattle.rules.proofs.Sim.State.{Looks, Marks, Sim, Watched, looks, other, unread}
 use Rattle.rules.proofs.Sim.Base.{Alike, thread-stored, threads-8}
+use Rattle.rules.proofs.Sim.OneMore.{depth-uses, opened-uses, read-uses}
 use Rattle.rules.proofs.Words.{eight}
 use Rattle.rules.specs.Access.{also_read, has_read, is_set, note_read, word_places}
 use Rattle.rules.specs.History.{Account, Closes, Cuts, Nothing, Opens, Sets, Stores, Uses, depth_in, has_read_in, opened_in, read_in, region_in}
@@ -195,13 +196,13 @@ watched-read {s = s} {h = h} t l w i o ok mk =
 -- the bit of line l of thread t is set
 pub marks-read : {b : Board} {es : List Account} (t l : ℕ) → l < 256 → t < length b.tables.threads → depth_in t es ≢ 0 → Few es → Marks b es
     → Marks (with_tables (note_read t l b.tables) b) (Uses t l ∷ es)
-unfolding note_read has_read_in depth_in opened_in
+unfolding note_read
 marks-read {b} {es} t l h g deep few w =
     record {
       words = λ x. rw (at x) (test (eqb x t)
           (λ d. rw d (length-set (thread_at t b.tables).reads (l / 64) _ ∙ w.words t))
           (λ d. rw d (w.words x)));
-      marks = λ x y n. rw (at x, mine x) (test (eqb x t)
+      marks = λ x y n. rw (at x, depth-uses t l x es, opened-uses t l x es, read-uses t (region_in x es) y es l, mine x) (test (eqb x t)
           (λ d. rw (d, eqb-true x t d, read_more l y (thread_at t b.tables).reads h (w.words t), w.marks t y n, ne_eqb (depth_in t es) 0 deep))
           (λ d. rw d (w.marks x y n)));
     }

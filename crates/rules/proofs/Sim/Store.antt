@@ -1,7 +1,6 @@
 -- The change of a line by a region keeps the relation.
 use Rattle.undo.specs.Machine as u
 use Rattle.undo.specs.History as v
-use Rattle.undo.specs.Claim as c
 use Prim.Native.Nat.{◌<◌, ℕ}
 use mathlib.Core.Path.{◌∙◌, ◌≡◌, refl, sym}
 use mathlib.Core.Logic.{◌⊎◌, inl, inr, ⊎_elim}

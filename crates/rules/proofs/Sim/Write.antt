@@ -31,7 +31,7 @@ use Rattle.rules.specs.Flight.{flown}
 use Rattle.rules.specs.History.{Account, Stores, region_in}
 use Rattle.rules.specs.Refusal.{depth_of, is_foreign_open, is_read_elsewhere, is_set_up, tests_of}
 use Rattle.rules.specs.Slots.{flown_slots, is_full, slot_for}
-use Rattle.rules.specs.Step.{apply, setup}
+use Rattle.rules.specs.Step.{apply}
 use Rattle.rules.specs.Tables.{Board, Memory, current, is_placed, line_of, listed, locked, no_region, owner_of, place_of, region_at, start_lines, thread_at, with_deps, with_slots, with_tables}
 use Rattle.rules.specs.declared.Event.TheVariants.{Write}
 use Rattle.rules.specs.declared.Region.{Region}
@@ -41,7 +41,6 @@ use Rattle.rules.specs.declared.Tables.{Tables}
 use Rattle.rules.specs.declared.Thread.{Thread}
 use Rattle.undo.proofs.Laws.{is_same, never, or_right, test}
 use Rattle.undo.proofs.Main.{structured}
-use Rattle.undo.proofs.Media.{first}
 use Rattle.undo.specs.Claim.{Reach, then}
 use Rattle.undo.specs.Recovery.{olds}
 use Rattle.undo.specs.Table.{any}

@@ -1,0 +1,4 @@
+use Rattle.access.proofs.joined_region.Goals as goal
+
+pub returns : goal.returns
+returns c = rw c.join-now.ensures

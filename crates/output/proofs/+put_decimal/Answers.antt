@@ -1,0 +1,10 @@
+use native.Mathlib.Omega.{arith}
+use Rattle.output.proofs.Digits.{decimal-more, decimal-small}
+use Rattle.output.proofs.Rooms.{puts-join}
+use Rattle.output.proofs.+put_decimal.Goals as goal
+
+pub returns-then-n-lt10 : goal.returns-then-n-lt10
+returns-then-n-lt10 t c = rw (c.put_byte.ensures, decimal-small c.args.n (omega arith), c.digit.ensures)
+
+pub returns : goal.returns
+returns t c = rw (c.put_byte-2.ensures, c.put_decimal-q.ensures, c.digit-2.ensures, decimal-more c.args.n (omega arith) (omega arith), puts-join)

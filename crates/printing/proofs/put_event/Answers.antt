@@ -1,0 +1,21 @@
+use Rattle.events.proofs.Records.{stands}
+use Rattle.printing.proofs.Records.{line-puts, whole-line}
+use Rattle.lines.proofs.Paste.{rest}
+use lib.ListN.{length-drop}
+use native.Mathlib.Omega.{arith}
+use Rattle.printing.proofs.put_event.Goals as goal
+
+pub bounds-r-0 : goal.bounds-r-0
+bounds-r-0 c = (stands c.args.r.now c.requires).some
+
+pub slice_bounds-put_body-count : goal.slice_bounds-put_body-count
+slice_bounds-put_body-count c = omega (arith, (stands c.args.r.now c.requires).some)
+
+pub slice_bounds-put_body-start : goal.slice_bounds-put_body-start
+slice_bounds-put_body-start c = omega (arith, (stands c.args.r.now c.requires).some)
+
+pub put_body-p-requires : goal.put_body-p-requires
+put_body-p-requires c = rw (rest c.args.r.now 1, length-drop) (stands c.args.r.now c.requires).room_for
+
+pub returns : goal.returns
+returns c = let r = c.args.r.now in let b = rw (rest r 1) at c.put_body-p.ensures in rw (whole-line r c.requires, line-puts) cc

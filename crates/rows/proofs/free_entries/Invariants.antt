@@ -1,0 +1,13 @@
+use Rattle.rows.proofs.Laws.{worked}
+use Rattle.rows.specs.Row.{thread_numbers, thread_of}
+use Rattle.rules.specs.Commit.{freed, freed_entry}
+use lib.ListN.{length}
+use mathlib.Core.Path.{◌≡◌}
+use Prim.Native.Nat.{◌-◌, ◌≤◌}
+use Rattle.rows.proofs.free_entries.Given as goal
+
+abbrev pub invariant-loop-i : goal.invariant-loop-i
+invariant-loop-i l = (l.i ≤ 32) × ((length l.row ≡ thread_numbers) × (worked (freed_entry l.k) l.i l.row ≡ freed l.k (thread_of l.initial.row)))
+
+abbrev pub decreases-loop-i : goal.decreases-loop-i
+decreases-loop-i l = 32 - l.i

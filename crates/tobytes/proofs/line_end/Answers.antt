@@ -1,0 +1,12 @@
+use Rattle.std.proofs.Common.{arith}
+use Rattle.parsing.proofs.Lines.{last-in}
+use Rattle.tobytes.specs.Results.{line_end}
+use Rattle.tobytes.proofs.line_end.Goals as goal
+
+pub returns-then-last : goal.returns-then-last
+unfolding line_end
+returns-then-last c = (rw c.if-last.true, omega arith)
+
+pub returns : goal.returns
+unfolding line_end
+returns c = (rw c.if-last.false c.whole_lines.ensures, omega (arith, c.whole_lines.ensures, last-in c.args.piece.now))
