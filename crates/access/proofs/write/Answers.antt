@@ -1,5 +1,3 @@
--- back from the pass over the slots to where the region, its and its were found
--- back to the pass from where a slot was found, and from where there is a log entry for the write
 use mathlib.Core.Path.{◌∙◌, ◌≡◌, ap, sym}
 use Rattle.measures.specs.Loan.{Rows}
 use Rattle.rules.specs.Access.{joined, stored_in, wrote_line}

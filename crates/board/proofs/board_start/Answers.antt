@@ -1,4 +1,3 @@
--- from behind the test of the length back to the start
 use mathlib.Core.Bool.{false}
 use lib.ListN.{length}
 use Rattle.rules.specs.Tables.{fresh_tables}

@@ -1,6 +1,4 @@
 -- `drill::cut_inside` meets its contract: nothing to restore, or words of the entry that was found.
--- ---- what was found
--- ---- the needs
 use Prim.Native.Nat.{ℕ}
 use mathlib.Core.Path.{◌∙◌, ◌≡◌, ap, sym}
 use mathlib.Core.Bool.{false, true}

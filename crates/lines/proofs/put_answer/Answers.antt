@@ -11,35 +11,29 @@ use Rattle.rules.specs.Run.{answer_bytes}
 use borrow.Author.Rules.{rules}
 use Rattle.lines.proofs.put_answer.Goals as goal
 
--- src/lib.rt:160:9
 pub bounds-dst-at : goal.bounds-dst-at
 bounds-dst-at c =
     let room : c.args.at + 9 ≤ length c.args.dst.now = leb-true _ _ (sym c.has_room.ensures ∙ c.if-has_room.true) in
     omega (arith, room)
 
--- src/lib.rt:161:23
 pub overflow_add-at : goal.overflow_add-at
 overflow_add-at c =
     let room : c.args.at + 9 ≤ length c.args.dst.now = leb-true _ _ (sym c.has_room.ensures ∙ c.if-has_room.true) in
     let h = room in search rules
 
--- src/lib.rt:161:9
 pub set_word-requires : goal.set_word-requires
 set_word-requires c =
     let room : c.args.at + 9 ≤ length c.args.dst.now = leb-true _ _ (sym c.has_room.ensures ∙ c.if-has_room.true) in
     rw length-set (omega (arith, room))
 
--- src/lib.rt:156:1
 pub shape_of-dst : goal.shape_of-dst
 shape_of-dst c = rw (c.set_word.ensures, length-sets, length-set)
 
--- src/lib.rt:156:1
 pub returns-then-has_room : goal.returns-then-has_room
 returns-then-has_room c =
     let room : c.args.at + 9 ≤ length c.args.dst.now = leb-true _ _ (sym c.has_room.ensures ∙ c.if-has_room.true) in
     let s = c.args in rw (c.set_word.ensures, put-room 9 s.dst.now s.at (answer_bytes (record { refusal = s.refusal; value = s.value })) (room), add-one)
 
--- src/lib.rt:156:1
 pub returns-else-has_room : goal.returns-else-has_room
 unfolding put_at
 returns-else-has_room c = rw (sym c.has_room.ensures ∙ c.if-has_room.false)

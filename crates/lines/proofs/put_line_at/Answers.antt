@@ -11,31 +11,26 @@ use Rattle.rules.specs.Bytes.{line_bytes}
 use borrow.Author.Rules.{rules}
 use Rattle.lines.proofs.put_line_at.Goals as goal
 
--- src/lib.rt:150:17
 pub overflow_add-b : goal.overflow_add-b
 overflow_add-b c =
     let room : c.args.a + 64 ≤ length c.args.dst.now = leb-true _ _ (sym c.has_room.ensures ∙ c.if-has_room.true) in
     let h = room in search rules
 
--- src/lib.rt:151:18
 pub slice_bounds-put_line-start : goal.slice_bounds-put_line-start
 slice_bounds-put_line-start c =
     let room : c.args.a + 64 ≤ length c.args.dst.now = leb-true _ _ (sym c.has_room.ensures ∙ c.if-has_room.true) in
     let h = room in search rules
 
--- src/lib.rt:151:18
 pub slice_bounds-put_line-end : goal.slice_bounds-put_line-end
 slice_bounds-put_line-end c =
     let room : c.args.a + 64 ≤ length c.args.dst.now = leb-true _ _ (sym c.has_room.ensures ∙ c.if-has_room.true) in
     let h = room in search rules
 
--- src/lib.rt:151:9
 pub put_line-requires : goal.put_line-requires
 put_line-requires c =
     let room : c.args.a + 64 ≤ length c.args.dst.now = leb-true _ _ (sym c.has_room.ensures ∙ c.if-has_room.true) in
     let h = room in search rules
 
--- src/lib.rt:146:1
 pub returns-then-has_room : goal.returns-then-has_room
 returns-then-has_room c =
     let room : c.args.a + 64 ≤ length c.args.dst.now = leb-true _ _ (sym c.has_room.ensures ∙ c.if-has_room.true) in
@@ -44,7 +39,6 @@ returns-then-has_room c =
     let h = room in
     rw (c.put_line.ensures, put-room 64 c.args.dst.now c.args.a bs h) (sets-part c.args.dst.now c.args.a (c.args.a + 64 - c.args.a) bs (omega arith) (omega arith))
 
--- src/lib.rt:146:1
 pub returns-else-has_room : goal.returns-else-has_room
 unfolding put_at
 returns-else-has_room c = rw (sym c.has_room.ensures ∙ c.if-has_room.false)

@@ -1,7 +1,4 @@
 -- `recovery::next_entry` meets its contract: a refusal; a place past the last entry; an entry.
--- ---- what was read
--- ---- what is known of the entry that was found
--- ---- the needs
 use Prim.Native.Nat.{◌<◌, ◌≤◌, ℕ}
 use mathlib.Core.Path.{◌∙◌, ◌≡◌, sym}
 use mathlib.Core.Bool.{Bool, true}

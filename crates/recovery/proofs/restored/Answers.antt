@@ -1,6 +1,4 @@
 -- `recovery::restored` meets its contract: nothing to restore, or the entry that was found goes back to its line.
--- ---- what was found
--- ---- the needs
 use Prim.Native.Nat.{ℕ}
 use mathlib.Core.Path.{◌∙◌, ◌≡◌, ap, sym}
 use mathlib.Core.Bool.{Bool, true}

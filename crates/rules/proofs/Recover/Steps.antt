@@ -193,7 +193,7 @@ module _ {start : ℕ → List ℕ} {b : Board} {es : List Account} {s : u.State
   acts-stand {r = r} (Restore ∷ xs) p = acts-stand {r = (restore r).after} xs (step-stands p)
   acts-stand (PowerCut ∷ xs) p = acts-stand xs (cut_stands p)
 
-  -- ---- every step is step-accepted
+  -- ---- every step is accepted
 
   pub step-accepted : {r : Recovering} → Standing r → (restore r).answer.refusal ≡ 0
   unfolding restore_by
@@ -205,7 +205,7 @@ module _ {start : ℕ → List ℕ} {b : Board} {es : List Account} {s : u.State
 
   -- ---- where a pass is at its end
 
-  -- how much is step_left at a place
+  -- how much is left at a place
   step_left : (r : Recovering) (e : List Logged) → drop r.at (walk_entries (saved b)) ≡ e → length (walk_entries (saved b)) ≤ r.at + length e
   step_left r e k = let l = length-drop r.at (walk_entries (saved b)) in let q = ap length k in omega arith
 
@@ -220,7 +220,7 @@ module _ {start : ℕ → List ℕ} {b : Board} {es : List Account} {s : u.State
           let q = ap length k in
           rw (eq-eqb (length fs) 0 (omega arith))
 
-  -- a step step-moves the place on, or nothing is step_left
+  -- a step moves the place on, or nothing is left
   pub step-moves : {r : Recovering} → Standing r → (n : ℕ) → length (walk_entries (saved b)) ≤ r.at + suc n → length (walk_entries (saved b)) ≤ (restore r).after.at + n
   unfolding restore_by
   step-moves {r} p n l = rw (step-reads p) (go (drop r.at (walk_entries (saved b))) refl)
@@ -234,7 +234,7 @@ module _ {start : ℕ → List ℕ} {b : Board} {es : List Account} {s : u.State
   pass-finishes zero {r} p l = rw (step-accepted p, step-last p (omega arith))
   pass-finishes (suc n) {r} p l = pass-finishes n (step-stands p) (step-moves p (suc n) l)
 
-  -- 'finished': nothing is step_left behind the step
+  -- 'finished': nothing is left behind the step
   pub step-ended : {r : Recovering} → Standing r → (restore r).answer.value ≡ 0 → length (walk_entries (saved b)) ≤ (restore r).after.at
   unfolding restore_by
   step-ended {r} p v = go (drop r.at (walk_entries (saved b))) refl (rw (step-reads p) at v) (step-reads p)

@@ -1,5 +1,3 @@
--- ---- what is known behind the save
--- ---- the needs
 use Prim.Native.Nat.{◌≤◌, ℕ}
 use mathlib.Core.Path.{◌∙◌, ◌≡◌, ap, sym}
 use mathlib.Core.Bool.{Bool}

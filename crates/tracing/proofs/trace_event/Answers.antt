@@ -1,5 +1,3 @@
--- ---- what is known behind the event
--- ---- the needs
 use Prim.Native.Nat.{◌+◌}
 use mathlib.Core.Path.{◌∙◌, ◌≡◌, ap, refl, sym}
 use mathlib.Core.Bool.{true}

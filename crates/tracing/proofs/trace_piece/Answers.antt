@@ -1,5 +1,3 @@
--- ---- what is known behind an event
--- ---- the needs
 use mathlib.Core.Path.{◌∙◌, ◌≡◌, refl, sym}
 use mathlib.Core.Bool.{true}
 use lib.ListN.{drop, length}
