@@ -188,12 +188,16 @@ struct Score {
     right: bool,
 }
 
+fn print_answer<W: Write>(to: &mut W, refusal: u64, value: u64) {
+    let _ = write!(to, "{refusal} {value}");
+}
+
 fn print_wrong<W: Write>(to: &mut W, answers: u64, a: Answer, d: Due) {
-    let _ = writeln!(
-        to,
-        ": answer {answers} is {} {}, not {} {}",
-        a.refusal, a.value, d.refusal, d.value
-    );
+    let _ = write!(to, ": answer {answers} is ");
+    print_answer(to, a.refusal as u64, a.value);
+    let _ = to.write_all(b", not ");
+    print_answer(to, d.refusal, d.value);
+    let _ = to.write_all(b"\n");
 }
 
 // The first wrong answer of a case is printed.

@@ -5,6 +5,7 @@ use mathlib.Core.Bool.{false, true}
 use mathlib.Core.List.{List, ◌++◌}
 use lib.Dec.{leb}
 use lib.ListN.{drop, length, replicate, take}
+use lib.IntN.{ℤ}
 use lib.Seq.{length-take-le, take_all, take_at}
 use native.Mathlib.Omega.{arith}
 use borrow.Author.Tests.{leb-false, leb-true, lt-leb}
@@ -12,7 +13,7 @@ use Rattle.output.proofs.Rooms.{put_front, puts-filled, puts-join}
 use Rattle.output.specs.Room.{Room, filled, puts, room}
 use Rattle.output.specs.declared.Cursor.{Cursor}
 use Rattle.undo.proofs.Laws.{test}
-use Rattle.pieces.specs.Message.{message}
+use Rattle.pieces.specs.Message.{failure, message}
 
 abbrev front : Cursor
 front = record { at = 0; short = false }
@@ -34,7 +35,8 @@ put-most d d' bs c e =
     (λ h. cut_off d d' bs c (e ∙ puts-filled d bs) (leb-false (length bs) (length d) h))
 
 -- the name, and what can't be done behind it
-pub put-message : (name what : List ℕ) (d₁ d₂ : List ℕ) (c₁ c₂ : Cursor) → room d₁ c₁ ≡ puts (room (replicate 64 0) front) name → room d₂ c₂ ≡ puts (room d₁ c₁) what
-    → take c₂.at d₂ ≡ message what name
+pub put-message : (failed : ℤ) (name what : List ℕ) → what ≡ failure failed → (d₁ d₂ : List ℕ) (c₁ c₂ : Cursor) → room d₁ c₁ ≡ puts (room (replicate 64 0) front) name
+    → room d₂ c₂ ≡ puts (room d₁ c₁) what → take c₂.at d₂ ≡ message failed name
 unfolding message
-put-message name what d₁ d₂ c₁ c₂ e₁ e₂ = put-most (replicate 64 0) d₂ (name ++ what) c₂ (e₂ ∙ rw (e₁, puts-join (room (replicate 64 0) front) name what))
+put-message failed name what w d₁ d₂ c₁ c₂ e₁ e₂ =
+    put-most (replicate 64 0) d₂ (name ++ failure failed) c₂ (e₂ ∙ rw (e₁, w, puts-join (room (replicate 64 0) front) name (failure failed)))

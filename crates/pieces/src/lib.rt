@@ -2,14 +2,19 @@
 
 // A reader in pieces through a lent buffer, and a writer from one: standard input and output, when a program runs. What fails is said to a second writer.
 // The contracts say which bytes are taken in and which go out where a reader's and a writer's bytes are known; which the system reads and writes, none can say.
-ghost use Rattle.std.specs.Prelude.{◌<◌, ◌≤◌, ◌≡◌, true, length, drop, take};
+ghost use Rattle.std.specs.Prelude.{◌<◌, ◌≤◌, ◌≡◌, pos, true, length, drop, take};
 ghost use Rattle.std.specs.Io.KnownBytes.{Appends, Consumes, Keeps};
-ghost use Rattle.pieces.specs.Message.{message, unread, unwritten};
+ghost use Rattle.pieces.specs.Message.{failure, message};
 ghost use Rattle.pieces.specs.Shift.{Filled, Refilled, moved, shifted};
 ghost use Rattle.pieces.specs.Streams.{AppendsFront};
 
 use output::Cursor;
 use std::io::{Read, Write};
+
+// What a message says that failed, by its descriptor.
+const IN: i32 = 0;
+
+const OUT: i32 = 1;
 
 // Writes bytes. Answers whether all went out: it stops at the first write that takes none or fails.
 pub fn write_all<W: Write>(to: &mut W, bytes: &[u8]) -> bool
@@ -27,9 +32,11 @@ pub fn write_all<W: Write>(to: &mut W, bytes: &[u8]) -> bool
     true
 }
 
-// Writes the first n bytes of a buffer, which say what failed.
-fn send_message<E: Write>(errors: &mut E, out: &[u8], n: usize) -> bool
-    ensures { AppendsFront (E.contents errors.old) (E.contents errors.new) (take n out.now) }
+// Says that the descriptor `failed` can't be read or written: the first n bytes of a buffer.
+fn send_message<E: Write>(errors: &mut E, out: &[u8], n: usize, failed: i32, name: &[u8]) -> bool
+    requires { take n out.now ≡ message failed name.now }
+    ensures all { result ≡ true → Appends (E.contents errors.old) (E.contents errors.new) (message failed name.now) }
+    ensures front { AppendsFront (E.contents errors.old) (E.contents errors.new) (message failed name.now) }
 {
     if out.len() < n {
         return false;
@@ -37,9 +44,11 @@ fn send_message<E: Write>(errors: &mut E, out: &[u8], n: usize) -> bool
     write_all(errors, &out[..n])
 }
 
-// Says for the program of this name what can't be done.
-fn complain<E: Write>(errors: &mut E, name: &[u8], what: &[u8]) -> bool
-    ensures { AppendsFront (E.contents errors.old) (E.contents errors.new) (message what.now name.now) }
+// Says so for the program of this name; `what` is what can't be done.
+fn complain<E: Write>(errors: &mut E, failed: i32, name: &[u8], what: &[u8]) -> bool
+    requires { what.now ≡ failure failed }
+    ensures all { result ≡ true → Appends (E.contents errors.old) (E.contents errors.new) (message failed name.now) }
+    ensures front { AppendsFront (E.contents errors.old) (E.contents errors.new) (message failed name.now) }
 {
     let mut out = [0u8; 64];
     let c = output::put_all(
@@ -51,7 +60,8 @@ fn complain<E: Write>(errors: &mut E, name: &[u8], what: &[u8]) -> bool
         name,
     );
     let e = output::put_all(&mut out, c, what);
-    send_message(errors, &out, e.at)
+    let n = e.at;
+    send_message(errors, &out, n, failed, name)
 }
 
 // Reads once, to the front of a buffer. Answers how many bytes are read: none where the input has ended, or can't be read, which is said.
@@ -59,12 +69,12 @@ fn take_in<R: Read, E: Write>(input: &mut R, errors: &mut E, buf: &mut [u8], nam
     ensures fits { result ≤ length buf.new }
     ensures comes { Consumes (R.remaining input.old) (R.remaining input.new) (take result buf.new) }
     ensures quiet { 0 < result → Keeps (E.contents errors.old) (E.contents errors.new) }
-    ensures said { AppendsFront (E.contents errors.old) (E.contents errors.new) (message unread name.now) }
+    ensures said { AppendsFront (E.contents errors.old) (E.contents errors.new) (message (pos 0) name.now) }
 {
     match input.read(buf) {
         Ok(n) => n,
         Err(_) => {
-            complain(errors, name, b": standard input cannot be read\n");
+            complain(errors, IN, name, b": standard input cannot be read\n");
             0
         }
     }
@@ -75,12 +85,12 @@ fn send<W: Write, E: Write>(output: &mut W, errors: &mut E, bytes: &[u8], name: 
     ensures all { result ≡ true → Appends (W.contents output.old) (W.contents output.new) bytes.now }
     ensures front { AppendsFront (W.contents output.old) (W.contents output.new) bytes.now }
     ensures quiet { result ≡ true → Keeps (E.contents errors.old) (E.contents errors.new) }
-    ensures said { AppendsFront (E.contents errors.old) (E.contents errors.new) (message unwritten name.now) }
+    ensures said { AppendsFront (E.contents errors.old) (E.contents errors.new) (message (pos 1) name.now) }
 {
     if write_all(output, bytes) {
         return true;
     }
-    complain(errors, name, b": standard output cannot be written\n");
+    complain(errors, OUT, name, b": standard output cannot be written\n");
     false
 }
 
@@ -96,7 +106,7 @@ pub fn refill<R: Read, E: Write>(
     ensures refilled { Refilled buf.old buf.new have result }
     ensures comes { Consumes (R.remaining input.old) (R.remaining input.new) (drop have (take result buf.new)) }
     ensures quiet { have < result → Keeps (E.contents errors.old) (E.contents errors.new) }
-    ensures said { AppendsFront (E.contents errors.old) (E.contents errors.new) (message unread name.now) }
+    ensures said { AppendsFront (E.contents errors.old) (E.contents errors.new) (message (pos 0) name.now) }
 {
     if buf.len() <= have {
         return buf.len();
@@ -117,7 +127,7 @@ pub fn fill<R: Read, E: Write>(
     ensures filled { Filled buf.old buf.new have last result }
     ensures comes { Consumes (R.remaining input.old) (R.remaining input.new) (drop have (take result buf.new)) }
     ensures quiet { have < result → Keeps (E.contents errors.old) (E.contents errors.new) }
-    ensures said { AppendsFront (E.contents errors.old) (E.contents errors.new) (message unread name.now) }
+    ensures said { AppendsFront (E.contents errors.old) (E.contents errors.new) (message (pos 0) name.now) }
 {
     if !last {
         return refill(input, errors, buf, have, name);
@@ -160,7 +170,7 @@ pub fn flush<W: Write, E: Write>(
     ensures all { result ≡ true → Appends (W.contents output.old) (W.contents output.new) (take n buf.now) }
     ensures front { AppendsFront (W.contents output.old) (W.contents output.new) (take n buf.now) }
     ensures quiet { result ≡ true → Keeps (E.contents errors.old) (E.contents errors.new) }
-    ensures said { AppendsFront (E.contents errors.old) (E.contents errors.new) (message unwritten name.now) }
+    ensures said { AppendsFront (E.contents errors.old) (E.contents errors.new) (message (pos 1) name.now) }
 {
     if buf.len() < n {
         return false;

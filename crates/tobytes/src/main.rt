@@ -208,8 +208,14 @@ fn main(rt: HostRuntime) {
     let mut errors = rt.stderr();
     let mut text = [0u8; PIECE];
     let mut out = [0u8; BYTES];
-    let s = run(&mut input, &mut output, &mut errors, &mut text, &mut out);
+    let s = run::<io::Stdin, io::Stdout, io::Stderr>(
+        &mut input,
+        &mut output,
+        &mut errors,
+        &mut text,
+        &mut out,
+    );
     if is_bad(s, text.len()) {
-        complain(&mut errors, s.read.wrapping_add(1));
+        complain::<io::Stderr>(&mut errors, s.read.wrapping_add(1));
     }
 }

@@ -14,7 +14,7 @@ ghost use Rattle.printing.specs.Text.{number_text, whole_text};
 ghost use Rattle.totext.specs.Results.{NumberedOver, PiecedOver, RanOver, RestedOver, goes_on, may_come};
 
 use output::Cursor;
-use std::io::{Read, Write};
+use std::io::{Read, Stderr, Stdin, Stdout, Write};
 
 // A piece of the file, and its text: a byte is at most 32 bytes of text.
 const PIECE: usize = 4096;
@@ -268,9 +268,9 @@ fn main(rt: HostRuntime) {
     let mut errors = rt.stderr();
     let mut file = [0u8; PIECE];
     let mut out = [0u8; TEXT];
-    let s = run(&mut input, &mut output, &mut errors, &mut file, &mut out);
+    let s = run::<Stdin, Stdout, Stderr>(&mut input, &mut output, &mut errors, &mut file, &mut out);
     if s.sent && 0 < s.held {
-        rest(
+        rest::<Stdin, Stdout, Stderr>(
             &mut input,
             &mut output,
             &mut errors,

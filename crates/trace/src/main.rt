@@ -13,7 +13,7 @@ use measures::{
     Owners, REGION_NUMBERS, Regions, THREAD_NUMBERS, Threads,
 };
 use rows::Head;
-use std::io::{Read, Write};
+use std::io::{Read, Stderr, Stdin, Stdout, Write};
 
 // A piece of the file: longer than the longest record, so that a full buffer without a whole record begins with an unknown kind, which ends the file.
 const PIECE: usize = 65536;
@@ -151,5 +151,5 @@ fn main(rt: HostRuntime) {
     let mut errors = rt.stderr();
     let mut buffer = [0u8; PIECE];
     let mut out = [0u8; TEXT];
-    trace(&mut input, &mut output, &mut errors, &mut buffer, &mut out);
+    trace::<Stdin, Stdout, Stderr>(&mut input, &mut output, &mut errors, &mut buffer, &mut out);
 }
