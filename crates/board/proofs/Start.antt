@@ -15,30 +15,30 @@ use Rattle.rules.specs.Tables.{Board, Lent, fresh, fresh_tables}
 use Rattle.rules.specs.declared.Event.TheVariants.{Setup}
 use Rattle.rules.specs.declared.Shares.{Shares}
 
-by-refusal : (n l : ℕ) (s : Shares) (k : ℕ) (b : Board) → (step_by k b (Setup n l s)).answer ≡ record { refusal = k; value = 0 }
+by_refusal : (n l : ℕ) (s : Shares) (k : ℕ) (b : Board) → (step_by k b (Setup n l s)).answer ≡ record { refusal = k; value = 0 }
 unfolding step_by apply
-by-refusal n l s zero b = refl
-by-refusal n l s (suc k) b = refl
+by_refusal n l s zero b = refl
+by_refusal n l s (suc k) b = refl
 
 module _ (n l : ℕ) (shares memory : List ℕ) where
-  pub start-short : length shares ≢ 10 → start_call n l shares memory ≡ record { refusal = 6; value = 0 }
+  pub start_short : length shares ≢ 10 → start_call n l shares memory ≡ record { refusal = 6; value = 0 }
   unfolding start_call
-  start-short h = rw (ne_eqb (length shares) 10 h)
+  start_short h = rw (ne_eqb (length shares) 10 h)
 
-  pub start-answer : length shares ≡ 10
+  pub start_answer : length shares ≡ 10
       → start_call n l shares memory ≡ record { refusal = refusal (fresh_tables false (length memory)) (Setup n l (shares_at shares)); value = 0 }
   unfolding start_call step_event fresh
-  start-answer h =
+  start_answer h =
       rw (eq-eqb (length shares) 10 h)
-      (by-refusal n l (shares_at shares) (refusal (fresh_tables false (length memory)) (Setup n l (shares_at shares))) (fresh (Lent memory)))
+      (by_refusal n l (shares_at shares) (refusal (fresh_tables false (length memory)) (Setup n l (shares_at shares))) (fresh (Lent memory)))
 
-  pub start-far : length shares ≡ 10 → in_range n l ≡ false → start_call n l shares memory ≡ record { refusal = 6; value = 0 }
+  pub start_far : length shares ≡ 10 → in_range n l ≡ false → start_call n l shares memory ≡ record { refusal = 6; value = 0 }
   unfolding refusal tests_of
-  start-far h e = start-answer h ∙ rw e
+  start_far h e = start_answer h ∙ rw e
 
 module _ (n l : ℕ) where
-  pub many-threads : 8 < n → in_range n l ≡ false
-  many-threads h = rw (lt-leb n 8 h, and-false (leb 1 n))
+  pub many_threads : 8 < n → in_range n l ≡ false
+  many_threads h = rw (lt-leb n 8 h, and-false (leb 1 n))
 
-  pub many-lines : 256 < l → in_range n l ≡ false
-  many-lines h = rw (lt-leb l 256 h, and-false (leb 1 l), and-false (leb 1 n && leb n 8))
+  pub many_lines : 256 < l → in_range n l ≡ false
+  many_lines h = rw (lt-leb l 256 h, and-false (leb 1 l), and-false (leb 1 n && leb n 8))

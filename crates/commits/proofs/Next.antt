@@ -12,21 +12,21 @@ use Rattle.rules.specs.declared.Region.{Region}
 
 -- the best so far stays where the next does not commit, or ended no earlier
 module _ (b r : Region) where
-  pub earlier-none : commits r ≡ false → b ≡ earlier b r
+  pub earlier_none : commits r ≡ false → b ≡ earlier b r
   unfolding earlier
-  earlier-none e = sym (rw e)
+  earlier_none e = sym (rw e)
 
-  pub earlier-first : commits r ≡ true → commits b ≡ false → r ≡ earlier b r
+  pub earlier_first : commits r ≡ true → commits b ≡ false → r ≡ earlier b r
   unfolding earlier
-  earlier-first e f = sym (rw (e, f))
+  earlier_first e f = sym (rw (e, f))
 
-  pub earlier-yes : commits r ≡ true → commits b ≡ true → r.stamp < b.stamp → r ≡ earlier b r
+  pub earlier_yes : commits r ≡ true → commits b ≡ true → r.stamp < b.stamp → r ≡ earlier b r
   unfolding earlier
-  earlier-yes e f h = sym (rw (e, f, lt-ltb r.stamp b.stamp h))
+  earlier_yes e f h = sym (rw (e, f, lt-ltb r.stamp b.stamp h))
 
-  pub earlier-no : commits r ≡ true → commits b ≡ true → b.stamp ≤ r.stamp → b ≡ earlier b r
+  pub earlier_no : commits r ≡ true → commits b ≡ true → b.stamp ≤ r.stamp → b ≡ earlier b r
   unfolding earlier
-  earlier-no e f h = sym (rw (e, f, le-ltb r.stamp b.stamp h))
+  earlier_no e f h = sym (rw (e, f, le-ltb r.stamp b.stamp h))
 
 -- a walk that has passed i regions
 pub walk_more : (b : Region) (i : ℕ) (rs : List Region) (d : Region) → i < length rs → earliest_from (earlier b (get_or rs i d)) (drop (i + 1) rs) ≡ earliest_from b (drop i rs)

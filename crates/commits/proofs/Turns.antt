@@ -7,16 +7,16 @@ use lib.ListN.{length}
 use lib.Seq.{set_out}
 use native.Mathlib.Nat.{add-zero, zero-add}
 use native.Mathlib.Omega.{arith}
-use Rattle.undo.proofs.Laws.{or-false}
+use Rattle.undo.proofs.Laws.{or_false}
 use Rattle.undo.specs.Table.{any}
 use Rattle.rules.specs.Commit.{Settled, after_commit, before, commit, commits, done_region, earlier, earliest, earliest_from, freed, settle, settled}
 use Rattle.rules.specs.Slots.{has_slot}
 use Rattle.rules.specs.Tables.{is_held, no_region, thread_at, thread_of, with_regions}
 use Rattle.rules.specs.declared.Region.{Region}
 use Rattle.rules.specs.declared.Tables.{Tables}
-use Rattle.rules.proofs.Lists.{or-none}
+use Rattle.rules.proofs.Lists.{or_none}
 use Rattle.commits.specs.Ripe.{ripe}
-use Rattle.commits.proofs.Row.{done-same}
+use Rattle.commits.proofs.Row.{done_same}
 
 -- tables and a number of commits
 pub record Counted : Type 0 where
@@ -28,10 +28,10 @@ abbrev pub counted : ℕ → Settled → Counted
 counted n s = record { tables = s.tables; commits = n + length s.keys }
 
 -- the chosen region commits, one of at most 32
-pub settle-more : (n : ℕ) (r : Region) (t : Tables) → n < 32 → r ≡ earliest t.regions → commits r ≡ true
+pub settle_more : (n : ℕ) (r : Region) (t : Tables) → n < 32 → r ≡ earliest t.regions → commits r ≡ true
     → counted (n + 1) (settle (32 - (n + 1)) (commit r.key t)) ≡ counted n (settle (32 - n) t)
 unfolding settle
-settle-more n r t h e y =
+settle_more n r t h e y =
     let s : 32 - n ≡ suc (32 - (n + 1)) = omega arith in
     let z : commits (earliest t.regions) ≡ true = rw e at y in
     let q : settle (32 - n) t ≡ before r.key (settle (32 - (n + 1)) (commit r.key t)) = rw (s, z, settle, ← e) in
@@ -49,20 +49,20 @@ stopped (suc n) t e = rw (e, settle)
 none_more : (c : ℕ) (t : Tables) (s : Settled) → s ≡ record { tables = t; keys = [] } → counted c s ≡ record { tables = t; commits = c }
 none_more c t s e = ap (counted c) e ∙ ap (λ n. record { tables = t; commits = n }) (add-zero c)
 
-pub settle-stop : (n c : ℕ) (t : Tables) → commits (earliest t.regions) ≡ false → counted c (settle n t) ≡ record { tables = t; commits = c }
-settle-stop n c t e = none_more c t (settle n t) (stopped n t e)
+pub settle_stop : (n c : ℕ) (t : Tables) → commits (earliest t.regions) ≡ false → counted c (settle n t) ≡ record { tables = t; commits = c }
+settle_stop n c t e = none_more c t (settle n t) (stopped n t e)
 
 -- the list's places are used up
-pub settle-full : (n : ℕ) (t : Tables) → 32 ≤ n → counted n (settle (32 - n) t) ≡ record { tables = t; commits = n }
+pub settle_full : (n : ℕ) (t : Tables) → 32 ≤ n → counted n (settle (32 - n) t) ≡ record { tables = t; commits = n }
 unfolding settle
-settle-full n t h =
+settle_full n t h =
     let s : 32 - n ≡ 0 = omega arith in
     none_more n t (settle (32 - n) t) (rw s)
 
 -- a key of no thread frees no log entries
-pub commit-none : (k : ℕ) (t : Tables) → length t.threads ≤ k / 65536 → with_regions (map (after_commit k) t.regions) t ≡ commit k t
+pub commit_none : (k : ℕ) (t : Tables) → length t.threads ≤ k / 65536 → with_regions (map (after_commit k) t.regions) t ≡ commit k t
 unfolding commit
-commit-none k t h = rw (set_out t.threads (k / 65536) (freed k (thread_at (thread_of k) t)) h)
+commit_none k t h = rw (set_out t.threads (k / 65536) (freed k (thread_at (thread_of k) t)) h)
 
 -- ---- where no region is ripe nothing changes
 
@@ -72,35 +72,35 @@ unripe true c b e f g = f refl e
 unripe false c b e f g = g refl e
 
 -- so it stays as it is
-unripe-same : (r : Region) → ripe r ≡ false → done_region r ≡ r
-unripe-same r e =
-    done-same r (unripe r.done (commits r) (r.ended && not (has_slot r)) e (λ d w. rw d) (λ d b. rw b (or-none r.done)))
+unripe_same : (r : Region) → ripe r ≡ false → done_region r ≡ r
+unripe_same r e =
+    done_same r (unripe r.done (commits r) (r.ended && not (has_slot r)) e (λ d w. rw d) (λ d b. rw b (or_none r.done)))
 
 -- and does not commit
-unripe-waits : (r : Region) → ripe r ≡ false → commits r ≡ false
+unripe_waits : (r : Region) → ripe r ≡ false → commits r ≡ false
 unfolding commits
-unripe-waits r e = unripe r.done (commits r) (r.ended && not (has_slot r)) e (λ d w. w) (λ d b. rw d (and-false (is_held r)))
+unripe_waits r e = unripe r.done (commits r) (r.ended && not (has_slot r)) e (λ d w. w) (λ d b. rw d (and-false (is_held r)))
 
 same : (rs : List Region) → any ripe rs ≡ false → map done_region rs ≡ rs
 same [] e = refl
-same (r ∷ rs) e = let p = or-false (ripe r) (any ripe rs) e in ap₂ ◌∷◌ (unripe-same r p.0) (same rs p.1)
+same (r ∷ rs) e = let p = or_false (ripe r) (any ripe rs) e in ap₂ ◌∷◌ (unripe_same r p.0) (same rs p.1)
 
 waits : (best : Region) (rs : List Region) → any ripe rs ≡ false → commits best ≡ false → commits (earliest_from best rs) ≡ false
 unfolding earliest_from earlier
 waits best [] e b = b
 waits best (r ∷ rs) e b =
-    let p = or-false (ripe r) (any ripe rs) e in
-    rw (unripe-waits r p.0) (waits best rs p.1 b)
+    let p = or_false (ripe r) (any ripe rs) e in
+    rw (unripe_waits r p.0) (waits best rs p.1 b)
 
-pub settled-none : (t : Tables) → any ripe t.regions ≡ false → counted 0 (settled t) ≡ record { tables = t; commits = 0 }
+pub settled_none : (t : Tables) → any ripe t.regions ≡ false → counted 0 (settled t) ≡ record { tables = t; commits = 0 }
 unfolding settled commits
-settled-none t e = rw (same t.regions e) (settle-stop (length t.regions) 0 t (waits no_region t.regions e refl))
+settled_none t e = rw (same t.regions e) (settle_stop (length t.regions) 0 t (waits no_region t.regions e refl))
 
 -- ---- done, then the commits
 
-pub settled-from : (t : Tables) (rs : List Region) → length t.regions ≡ 32 → rs ≡ map done_region t.regions → settle 32 (with_regions rs t) ≡ settled t
+pub settled_from : (t : Tables) (rs : List Region) → length t.regions ≡ 32 → rs ≡ map done_region t.regions → settle 32 (with_regions rs t) ≡ settled t
 unfolding settled
-settled-from t rs h e = rw (h, e)
+settled_from t rs h e = rw (h, e)
 
 -- what is settled, by its parts
 pub parts : (t : Tables) (n : ℕ) (s : Settled) → ◌≡◌ {A = Counted} (record { tables = t; commits = n }) (counted 0 s) → (t ≡ s.tables) × (n ≡ length s.keys)

@@ -20,7 +20,7 @@ use Rattle.drill.specs.Drilled.{cut_inside, choice_of}
 abbrev word : ℕ → ℕ → List ℕ → List ℕ → ℕ
 word n w xs ys = cond (eqb (n % 2) 1) (get_or ys w 0) (get_or xs w 0)
 
-eight-mixed : (a : ℕ) (xs ys : List ℕ) → length xs ≡ 8
+eight_mixed : (a : ℕ) (xs ys : List ℕ) → length xs ≡ 8
     → word a 0 xs ys
     ∷ word (a / 2) 1 xs ys
     ∷ word (a / 4) 2 xs ys
@@ -32,28 +32,28 @@ eight-mixed : (a : ℕ) (xs ys : List ℕ) → length xs ≡ 8
     ∷ []
     ≡ mixed (choice_of a) 0 xs ys
 unfolding mixed
-eight-mixed a [] ys n = absurd (omega arith)
-eight-mixed a (x ∷ []) ys n = absurd (omega arith)
-eight-mixed a (x ∷ y ∷ []) ys n = absurd (omega arith)
-eight-mixed a (x ∷ y ∷ z ∷ []) ys n = absurd (omega arith)
-eight-mixed a (x ∷ y ∷ z ∷ s ∷ []) ys n = absurd (omega arith)
-eight-mixed a (x ∷ y ∷ z ∷ s ∷ t ∷ []) ys n = absurd (omega arith)
-eight-mixed a (x ∷ y ∷ z ∷ s ∷ t ∷ u ∷ []) ys n = absurd (omega arith)
-eight-mixed a (x ∷ y ∷ z ∷ s ∷ t ∷ u ∷ v ∷ []) ys n = absurd (omega arith)
-eight-mixed a (x ∷ y ∷ z ∷ s ∷ t ∷ u ∷ v ∷ w ∷ []) ys n = let d : a / 1 ≡ a = omega arith in rw d
-eight-mixed a (x ∷ y ∷ z ∷ s ∷ t ∷ u ∷ v ∷ w ∷ r ∷ xs) ys n = absurd (omega arith)
+eight_mixed a [] ys n = absurd (omega arith)
+eight_mixed a (x ∷ []) ys n = absurd (omega arith)
+eight_mixed a (x ∷ y ∷ []) ys n = absurd (omega arith)
+eight_mixed a (x ∷ y ∷ z ∷ []) ys n = absurd (omega arith)
+eight_mixed a (x ∷ y ∷ z ∷ s ∷ []) ys n = absurd (omega arith)
+eight_mixed a (x ∷ y ∷ z ∷ s ∷ t ∷ []) ys n = absurd (omega arith)
+eight_mixed a (x ∷ y ∷ z ∷ s ∷ t ∷ u ∷ []) ys n = absurd (omega arith)
+eight_mixed a (x ∷ y ∷ z ∷ s ∷ t ∷ u ∷ v ∷ []) ys n = absurd (omega arith)
+eight_mixed a (x ∷ y ∷ z ∷ s ∷ t ∷ u ∷ v ∷ w ∷ []) ys n = let d : a / 1 ≡ a = omega arith in rw d
+eight_mixed a (x ∷ y ∷ z ∷ s ∷ t ∷ u ∷ v ∷ w ∷ r ∷ xs) ys n = absurd (omega arith)
 
-pub words-mixed : (a : ℕ) (xs ys : List ℕ) → length xs ≡ 8 → (r₀ r₁ r₂ r₃ r₄ r₅ r₆ r₇ : ℕ) → r₀ ≡ word a 0 xs ys → r₁ ≡ word (a / 2) 1 xs ys → r₂ ≡ word (a / 4) 2 xs ys
+pub words_mixed : (a : ℕ) (xs ys : List ℕ) → length xs ≡ 8 → (r₀ r₁ r₂ r₃ r₄ r₅ r₆ r₇ : ℕ) → r₀ ≡ word a 0 xs ys → r₁ ≡ word (a / 2) 1 xs ys → r₂ ≡ word (a / 4) 2 xs ys
     → r₃ ≡ word (a / 8) 3 xs ys → r₄ ≡ word (a / 16) 4 xs ys → r₅ ≡ word (a / 32) 5 xs ys → r₆ ≡ word (a / 64) 6 xs ys → r₇ ≡ word (a / 128) 7 xs ys
     → r₀ ∷ r₁ ∷ r₂ ∷ r₃ ∷ r₄ ∷ r₅ ∷ r₆ ∷ r₇ ∷ [] ≡ mixed (choice_of a) 0 xs ys
-words-mixed a xs ys n r₀ r₁ r₂ r₃ r₄ r₅ r₆ r₇ e₀ e₁ e₂ e₃ e₄ e₅ e₆ e₇ = rw (e₀, e₁, e₂, e₃, e₄, e₅, e₆, e₇) (eight-mixed a xs ys n)
+words_mixed a xs ys n r₀ r₁ r₂ r₃ r₄ r₅ r₆ r₇ e₀ e₁ e₂ e₃ e₄ e₅ e₆ e₇ = rw (e₀, e₁, e₂, e₃, e₄, e₅, e₆, e₇) (eight_mixed a xs ys n)
 
 -- ---- what a step that is cut inside leaves
 
 module _ (bs : List ℕ) (at a : ℕ) where
-  pub inside-none : (next_of (read_image bs) at).there ≡ false → bs ≡ cut_inside bs at a
+  pub inside_none : (next_of (read_image bs) at).there ≡ false → bs ≡ cut_inside bs at a
   unfolding torn_act torn_by
-  inside-none e = go (finds (read_image bs) at)
+  inside_none e = go (finds (read_image bs) at)
     where
       go : Finds (read_image bs) at → bs ≡ (torn_read (choice_of a) (read_image bs) (record { bytes = bs; at = at })).bytes
       go (refused n q) = rw q
@@ -64,10 +64,10 @@ module _ (bs : List ℕ) (at a : ℕ) where
   abbrev mixed_at : ℕ → List ℕ → List ℕ
   mixed_at l old = mixed (choice_of a) 0 (line_at bs (line_start l)) old
 
-  pub inside-some : (next_of (read_image bs) at).there ≡ true
+  pub inside_some : (next_of (read_image bs) at).there ≡ true
       → paste bs (line_start (next_of (read_image bs) at).line) (line_bytes (mixed_at (next_of (read_image bs) at).line (next_of (read_image bs) at).old)) ≡ cut_inside bs at a
   unfolding torn_act torn_by
-  inside-some e = go (finds (read_image bs) at)
+  inside_some e = go (finds (read_image bs) at)
     where
       go : Finds (read_image bs) at
           → paste bs (line_start (next_of (read_image bs) at).line) (line_bytes (mixed_at (next_of (read_image bs) at).line (next_of (read_image bs) at).old))

@@ -13,13 +13,13 @@ use Rattle.rules.specs.declared.Event.TheVariants.{Begin, Read}
 use Rattle.rules.specs.declared.Tables.{Tables}
 
 module _ (ts : Tables) (t : ℕ) where
-  pub begin-accepted : first_bad (before 20 (tests_of ts (Begin t))) ≡ 0
+  pub begin_accepted : first_bad (before 20 (tests_of ts (Begin t))) ≡ 0
       → ((thread_at t ts).depth < 15) × (eqb (thread_at t ts).depth 0 && leb 65535 (thread_at t ts).last ≡ false)
   unfolding tests_of
-  begin-accepted e =
+  begin_accepted e =
       let p : (n : ℕ) → bad_at n (tests_of ts (Begin t)) ≡ false = λ n. passes n (tests_of ts (Begin t)) refl e in
       (leb-false 15 (thread_at t ts).depth (p 13), p 14)
 
-  pub read-accepted : (l w : ℕ) → first_bad (before 20 (tests_of ts (Read t l w))) ≡ 0 → w < 8
+  pub read_accepted : (l w : ℕ) → first_bad (before 20 (tests_of ts (Read t l w))) ≡ 0 → w < 8
   unfolding tests_of
-  read-accepted l w e = omega (arith, ltb-false 7 w (passes 5 (tests_of ts (Read t l w)) refl e))
+  read_accepted l w e = omega (arith, ltb-false 7 w (passes 5 (tests_of ts (Read t l w)) refl e))

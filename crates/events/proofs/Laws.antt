@@ -10,10 +10,10 @@ use Rattle.rules.specs.Kinds.{is_kind}
 use Rattle.rules.specs.Record.{body_length, event_of, read_record}
 use Rattle.rules.specs.declared.Reading.TheVariants.{Refused, Whole}
 
-pub read-empty : (bs : List ℕ) → length bs ≡ 0 → read_record bs ≡ Refused 1
+pub read_empty : (bs : List ℕ) → length bs ≡ 0 → read_record bs ≡ Refused 1
 unfolding read_record
-read-empty [] e = refl
-read-empty (b ∷ bs) e = absurd (omega arith)
+read_empty [] e = refl
+read_empty (b ∷ bs) e = absurd (omega arith)
 
 pub read_some : (bs : List ℕ) → 0 < length bs → read_record bs
     ≡ cond (is_kind (get_or bs 0 0)) (cond (ltb (length bs - 1) (body_length (get_or bs 0 0))) (Refused 1) (Whole (event_of (get_or bs 0 0) (drop 1 bs))))

@@ -10,7 +10,7 @@ use borrow.Author.Tests.{le-ltb, lt-ltb, ltb-false, ltb-true}
 use lib.Seq.{drop-append-le, drop-drop}
 use native.Mathlib.Nat.{suc-add, zero-add}
 use Rattle.events.specs.Whole.{record_length, whole_from, whole_length}
-use Rattle.rules.proofs.Laws.{part-front, shares-front}
+use Rattle.rules.proofs.Laws.{part_front, shares_front}
 use Rattle.rules.specs.Kinds.{is_kind, kind_at}
 use Rattle.rules.specs.Record.{body_length, event_of, is_whole, read_record, records_from, records_of}
 use Rattle.rules.specs.declared.Reading.TheVariants.{Whole}
@@ -18,97 +18,97 @@ use Rattle.undo.proofs.Laws.{test}
 use Rattle.undo.specs.Table.{keep}
 
 module _ (k : ℕ) (body : List ℕ) where
-  rec-unknown : is_kind k ≡ false → record_length (k ∷ body) ≡ 0
+  rec_unknown : is_kind k ≡ false → record_length (k ∷ body) ≡ 0
   unfolding record_length read_record
-  rec-unknown h = rw h
+  rec_unknown h = rw h
 
-  rec-short : is_kind k ≡ true → length body < body_length k → record_length (k ∷ body) ≡ 0
+  rec_short : is_kind k ≡ true → length body < body_length k → record_length (k ∷ body) ≡ 0
   unfolding record_length read_record
-  rec-short h l = rw (h, lt-ltb _ _ l)
+  rec_short h l = rw (h, lt-ltb _ _ l)
 
-  whole-read : is_kind k ≡ true → body_length k ≤ length body → is_whole (read_record (k ∷ body)) ≡ true
+  whole_read : is_kind k ≡ true → body_length k ≤ length body → is_whole (read_record (k ∷ body)) ≡ true
   unfolding read_record
-  whole-read h l = rw (h, le-ltb _ _ l)
+  whole_read h l = rw (h, le-ltb _ _ l)
 
-  rec-whole : is_kind k ≡ true → body_length k ≤ length body → record_length (k ∷ body) ≡ suc (body_length k)
+  rec_whole : is_kind k ≡ true → body_length k ≤ length body → record_length (k ∷ body) ≡ suc (body_length k)
   unfolding record_length read_record
-  rec-whole h l = rw (h, le-ltb _ _ l)
+  rec_whole h l = rw (h, le-ltb _ _ l)
 
 -- the length of the record at the front, by the tests on it
-pub length-empty : (r : List ℕ) → length r ≡ 0 → record_length r ≡ 0
+pub length_empty : (r : List ℕ) → length r ≡ 0 → record_length r ≡ 0
 unfolding record_length read_record
-length-empty [] e = refl
-length-empty (k ∷ body) e = absurd (omega arith)
+length_empty [] e = refl
+length_empty (k ∷ body) e = absurd (omega arith)
 
-pub length-unknown : (r : List ℕ) → 0 < length r → is_kind (get_or r 0 0) ≡ false → record_length r ≡ 0
-length-unknown [] z h = absurd (omega arith)
-length-unknown (k ∷ body) z h = rec-unknown k body h
+pub length_unknown : (r : List ℕ) → 0 < length r → is_kind (get_or r 0 0) ≡ false → record_length r ≡ 0
+length_unknown [] z h = absurd (omega arith)
+length_unknown (k ∷ body) z h = rec_unknown k body h
 
-pub length-short : (r : List ℕ) → 0 < length r → is_kind (get_or r 0 0) ≡ true → length r - 1 < body_length (get_or r 0 0) → record_length r ≡ 0
-length-short [] z h l = absurd (omega arith)
-length-short (k ∷ body) z h l = rec-short k body h (let e : suc (length body) - 1 ≡ length body = omega arith in rw e at l)
+pub length_short : (r : List ℕ) → 0 < length r → is_kind (get_or r 0 0) ≡ true → length r - 1 < body_length (get_or r 0 0) → record_length r ≡ 0
+length_short [] z h l = absurd (omega arith)
+length_short (k ∷ body) z h l = rec_short k body h (let e : suc (length body) - 1 ≡ length body = omega arith in rw e at l)
 
 pub length_whole : (r : List ℕ) → 0 < length r → is_kind (get_or r 0 0) ≡ true → body_length (get_or r 0 0) ≤ length r - 1 → record_length r ≡ suc (body_length (get_or r 0 0))
 length_whole [] z h l = absurd (omega arith)
-length_whole (k ∷ body) z h l = rec-whole k body h (let e : suc (length body) - 1 ≡ length body = omega arith in rw e at l)
+length_whole (k ∷ body) z h l = rec_whole k body h (let e : suc (length body) - 1 ≡ length body = omega arith in rw e at l)
 
 -- what a record with a length is
 pub record Stands (r : List ℕ) : Type 0 where
   pub some : 0 < length r
   pub known : is_kind (get_or r 0 0) ≡ true
   pub room_for : body_length (get_or r 0 0) ≤ length r - 1
-  pub is-whole : is_whole (read_record r) ≡ true
-  pub is-long : record_length r ≡ suc (body_length (get_or r 0 0))
+  pub is_whole_lem : is_whole (read_record r) ≡ true
+  pub is_long : record_length r ≡ suc (body_length (get_or r 0 0))
 
 pub stands : (r : List ℕ) → 0 < record_length r → Stands r
-stands [] h = absurd (omega (arith, length-empty [] refl))
+stands [] h = absurd (omega (arith, length_empty [] refl))
 stands (k ∷ body) h =
     test (is_kind k)
-    (λ u. test (ltb (length body) (body_length k)) (λ s. absurd (omega (arith, rec-short k body u (ltb-true (length body) (body_length k) s))))
+    (λ u. test (ltb (length body) (body_length k)) (λ s. absurd (omega (arith, rec_short k body u (ltb-true (length body) (body_length k) s))))
     (λ s. let b : body_length k ≤ length body = ltb-false (length body) (body_length k) s in
     let e : suc (length body) - 1 ≡ length body = omega arith in
-    record { some = omega arith; known = u; room_for = rw e b; is-whole = whole-read k body u b; is-long = rec-whole k body u b }))
-    (λ u. absurd (omega (arith, rec-unknown k body u)))
+    record { some = omega arith; known = u; room_for = rw e b; is_whole_lem = whole_read k body u b; is_long = rec_whole k body u b }))
+    (λ u. absurd (omega (arith, rec_unknown k body u)))
 
-pub not-whole : (r : List ℕ) → record_length r ≡ 0 → is_whole (read_record r) ≡ false
+pub not_whole : (r : List ℕ) → record_length r ≡ 0 → is_whole (read_record r) ≡ false
 unfolding record_length
-not-whole r e = test (is_whole (read_record r)) (λ w. absurd (omega (arith, rw w at e))) (λ w. w)
+not_whole r e = test (is_whole (read_record r)) (λ w. absurd (omega (arith, rw w at e))) (λ w. w)
 
-pub records-skip : (k : ℕ) (bs : List ℕ) → records_from k bs ≡ records_from 0 (drop k bs)
+pub records_skip : (k : ℕ) (bs : List ℕ) → records_from k bs ≡ records_from 0 (drop k bs)
 unfolding records_from
-records-skip zero bs = refl
-records-skip (suc k) [] = refl
-records-skip (suc k) (b ∷ bs) = records-skip k bs
+records_skip zero bs = refl
+records_skip (suc k) [] = refl
+records_skip (suc k) (b ∷ bs) = records_skip k bs
 
-whole-skip : (k : ℕ) (bs : List ℕ) → k ≤ length bs → whole_from k bs ≡ k + whole_from 0 (drop k bs)
+whole_skip : (k : ℕ) (bs : List ℕ) → k ≤ length bs → whole_from k bs ≡ k + whole_from 0 (drop k bs)
 unfolding whole_from
-whole-skip zero bs h = rw zero-add
-whole-skip (suc k) [] h = absurd (omega arith)
-whole-skip (suc k) (b ∷ bs) h = rw (whole-skip k bs (omega arith), suc-add)
+whole_skip zero bs h = rw zero-add
+whole_skip (suc k) [] h = absurd (omega arith)
+whole_skip (suc k) (b ∷ bs) h = rw (whole_skip k bs (omega arith), suc-add)
 
 -- a whole record, and what stands behind it
-on-length : (k : ℕ) (body : List ℕ) → is_whole (read_record (k ∷ body)) ≡ true → body_length k ≤ length body → whole_length (k ∷ body) ≡ suc (body_length k) + whole_length (drop (body_length k) body)
+on_length : (k : ℕ) (body : List ℕ) → is_whole (read_record (k ∷ body)) ≡ true → body_length k ≤ length body → whole_length (k ∷ body) ≡ suc (body_length k) + whole_length (drop (body_length k) body)
 unfolding whole_length whole_from
-on-length k body w h = rw (w, whole-skip (body_length k) body h, suc-add)
+on_length k body w h = rw (w, whole_skip (body_length k) body h, suc-add)
 
-pub length-on : (r : List ℕ) → 0 < record_length r → whole_length r ≡ record_length r + whole_length (drop (record_length r) r)
-length-on [] h = absurd (omega (arith, length-empty [] refl))
-length-on (k ∷ body) h = let s = stands (k ∷ body) h in rw s.is-long (on-length k body s.is-whole (omega (arith, s.room_for)))
+pub length_on : (r : List ℕ) → 0 < record_length r → whole_length r ≡ record_length r + whole_length (drop (record_length r) r)
+length_on [] h = absurd (omega (arith, length_empty [] refl))
+length_on (k ∷ body) h = let s = stands (k ∷ body) h in rw s.is_long (on_length k body s.is_whole_lem (omega (arith, s.room_for)))
 
 pub fits_on : (r : List ℕ) → 0 < record_length r → record_length r ≤ length r
-fits_on r h = let s = stands r h in omega (arith, s.is-long, s.room_for, s.some)
+fits_on r h = let s = stands r h in omega (arith, s.is_long, s.room_for, s.some)
 
 -- no whole record
-pub length-off : (r : List ℕ) → record_length r ≡ 0 → whole_length r ≡ 0
+pub length_off : (r : List ℕ) → record_length r ≡ 0 → whole_length r ≡ 0
 unfolding whole_length whole_from
-length-off [] e = refl
-length-off (k ∷ body) e = rw (not-whole (k ∷ body) e)
+length_off [] e = refl
+length_off (k ∷ body) e = rw (not_whole (k ∷ body) e)
 
 -- one whole record more, at a place of a file
 pub length_more : (file : List ℕ) (at n : ℕ) → n ≡ record_length (drop at file) → 0 < n → at + whole_length (drop at file) ≡ at + n + whole_length (drop (at + n) file)
 length_more file at n e h =
     let z : 0 < record_length (drop at file) = omega arith in
-    rw (length-on (drop at file) z, ← e, drop-drop n at file) (omega arith)
+    rw (length_on (drop at file) z, ← e, drop-drop n at file) (omega arith)
 
 pub fits_more : (file : List ℕ) (at n : ℕ) → n ≡ record_length (drop at file) → 0 < n → at + n ≤ length file
 fits_more file at n e h =
@@ -121,21 +121,21 @@ whole_pos r w = rw w (omega arith)
 
 -- the first record, and those behind it
 module _ (b : ℕ) (bs : List ℕ) where
-  pub records-on : is_whole (read_record (b ∷ bs)) ≡ true → records_from 0 (b ∷ bs) ≡ (b ∷ bs) ∷ records_from (body_length b) bs
+  pub records_on : is_whole (read_record (b ∷ bs)) ≡ true → records_from 0 (b ∷ bs) ≡ (b ∷ bs) ∷ records_from (body_length b) bs
   unfolding records_from
-  records-on w = rw w
+  records_on w = rw w
 
-  pub records-off : is_whole (read_record (b ∷ bs)) ≡ false → records_from 0 (b ∷ bs) ≡ (b ∷ bs) ∷ []
+  pub records_off : is_whole (read_record (b ∷ bs)) ≡ false → records_from 0 (b ∷ bs) ≡ (b ∷ bs) ∷ []
   unfolding records_from
-  records-off w = rw w
+  records_off w = rw w
 
-pub records-none : (k : ℕ) → records_from k [] ≡ []
+pub records_none : (k : ℕ) → records_from k [] ≡ []
 unfolding records_from
-records-none k = refl
+records_none k = refl
 
-pub records-pass : (k b : ℕ) (bs : List ℕ) → records_from (suc k) (b ∷ bs) ≡ records_from k bs
+pub records_pass : (k b : ℕ) (bs : List ℕ) → records_from (suc k) (b ∷ bs) ≡ records_from k bs
 unfolding records_from
-records-pass k b bs = refl
+records_pass k b bs = refl
 
 pub pos : (n : ℕ) → (n ≡ 0 → ⊥) → 0 < n
 pos zero f = absurd (f refl)
@@ -148,46 +148,46 @@ get_d_front [] ys i h = absurd (omega arith)
 get_d_front (x ∷ xs) ys zero h = refl
 get_d_front (x ∷ xs) ys (suc i) h = get_d_front xs ys i (omega arith)
 
-event-front : (k : ℕ) (body f : List ℕ) → is_kind k ≡ true → body_length k ≤ length body → event_of k (body ++ f) ≡ event_of k body
+event_front : (k : ℕ) (body f : List ℕ) → is_kind k ≡ true → body_length k ≤ length body → event_of k (body ++ f) ≡ event_of k body
 unfolding event_of kind_at
-event-front zero body f u h =
+event_front zero body f u h =
     let l : 10 ≤ length (drop 3 body) = rw length-drop (omega arith) in
-    rw (get_d_front body f 0 (omega arith), part-front 1 2 body f (omega arith), drop-append-le 3 body f (omega arith), shares-front (drop 3 body) f l)
-event-front (suc zero) body f u h = rw (get_d_front body f 0 (omega arith))
-event-front (suc (suc zero)) body f u h = rw (get_d_front body f 0 (omega arith))
-event-front (suc (suc (suc zero))) body f u h = rw (get_d_front body f 0 (omega arith), get_d_front body f 1 (omega arith), get_d_front body f 2 (omega arith))
-event-front (suc (suc (suc (suc zero)))) body f u h =
-    rw (get_d_front body f 0 (omega arith), get_d_front body f 1 (omega arith), get_d_front body f 2 (omega arith), part-front 3 8 body f (omega arith))
-event-front (suc (suc (suc (suc (suc zero))))) body f u h = rw (get_d_front body f 0 (omega arith))
-event-front (suc (suc (suc (suc (suc (suc zero)))))) body f u h = rw (get_d_front body f 0 (omega arith))
-event-front (suc (suc (suc (suc (suc (suc (suc zero))))))) body f u h = rw (get_d_front body f 0 (omega arith))
-event-front (suc (suc (suc (suc (suc (suc (suc (suc zero)))))))) body f u h = refl
-event-front (suc (suc (suc (suc (suc (suc (suc (suc (suc zero))))))))) body f u h = refl
-event-front (suc (suc (suc (suc (suc (suc (suc (suc (suc (suc zero)))))))))) body f u h =
+    rw (get_d_front body f 0 (omega arith), part_front 1 2 body f (omega arith), drop-append-le 3 body f (omega arith), shares_front (drop 3 body) f l)
+event_front (suc zero) body f u h = rw (get_d_front body f 0 (omega arith))
+event_front (suc (suc zero)) body f u h = rw (get_d_front body f 0 (omega arith))
+event_front (suc (suc (suc zero))) body f u h = rw (get_d_front body f 0 (omega arith), get_d_front body f 1 (omega arith), get_d_front body f 2 (omega arith))
+event_front (suc (suc (suc (suc zero)))) body f u h =
+    rw (get_d_front body f 0 (omega arith), get_d_front body f 1 (omega arith), get_d_front body f 2 (omega arith), part_front 3 8 body f (omega arith))
+event_front (suc (suc (suc (suc (suc zero))))) body f u h = rw (get_d_front body f 0 (omega arith))
+event_front (suc (suc (suc (suc (suc (suc zero)))))) body f u h = rw (get_d_front body f 0 (omega arith))
+event_front (suc (suc (suc (suc (suc (suc (suc zero))))))) body f u h = rw (get_d_front body f 0 (omega arith))
+event_front (suc (suc (suc (suc (suc (suc (suc (suc zero)))))))) body f u h = refl
+event_front (suc (suc (suc (suc (suc (suc (suc (suc (suc zero))))))))) body f u h = refl
+event_front (suc (suc (suc (suc (suc (suc (suc (suc (suc (suc zero)))))))))) body f u h =
     rw (
       get_d_front body f 0 (omega arith),
       get_d_front body f 1 (omega arith),
       get_d_front body f 2 (omega arith),
       get_d_front body f 3 (omega arith),
-      part-front 4 8 body f (omega arith),
+      part_front 4 8 body f (omega arith),
     )
-event-front (suc (suc (suc (suc (suc (suc (suc (suc (suc (suc (suc k))))))))))) body f u h = absurd (false≢true u)
+event_front (suc (suc (suc (suc (suc (suc (suc (suc (suc (suc (suc k))))))))))) body f u h = absurd (false≢true u)
 
 read_by : (k : ℕ) (body : List ℕ) → is_kind k ≡ true → body_length k ≤ length body → read_record (k ∷ body) ≡ Whole (event_of k body)
 unfolding read_record
 read_by k body h l = rw (h, le-ltb _ _ l)
 
-pub read-front : (r f : List ℕ) → is_whole (read_record r) ≡ true → read_record (r ++ f) ≡ read_record r
-read-front [] f w = absurd (omega (arith, whole_pos [] w, length-empty [] refl))
-read-front (k ∷ body) f w =
+pub read_front : (r f : List ℕ) → is_whole (read_record r) ≡ true → read_record (r ++ f) ≡ read_record r
+read_front [] f w = absurd (omega (arith, whole_pos [] w, length_empty [] refl))
+read_front (k ∷ body) f w =
     let s = stands (k ∷ body) (whole_pos (k ∷ body) w) in
     let l : body_length k ≤ length body = omega (arith, s.room_for) in
     let m : body_length k ≤ length (body ++ f) = rw length-append (omega arith) in
-    rw (read_by k (body ++ f) s.known m, read_by k body s.known l, event-front k body f s.known l)
+    rw (read_by k (body ++ f) s.known m, read_by k body s.known l, event_front k body f s.known l)
 
 -- the first byte
-pub kind-front : (r f : List ℕ) → is_whole (read_record r) ≡ true → get_or (r ++ f) 0 0 ≡ get_or r 0 0
-kind-front r f w = get_d_front r f 0 (stands r (whole_pos r w)).some
+pub kind_front : (r f : List ℕ) → is_whole (read_record r) ≡ true → get_or (r ++ f) 0 0 ≡ get_or r 0 0
+kind_front r f w = get_d_front r f 0 (stands r (whole_pos r w)).some
 
 -- ---- the records of a piece, and of what is left of it with all that comes behind
 
@@ -207,14 +207,14 @@ split (suc k) (b ∷ bs) f h = split k bs f (omega arith)
 split zero (b ∷ bs) f h =
     test (is_whole (read_record (b ∷ bs)))
     (λ w. let s = stands (b ∷ bs) (whole_pos (b ∷ bs) w) in
-    let v : is_whole (read_record (b ∷ (bs ++ f))) ≡ true = ap is_whole (read-front (b ∷ bs) f w) ∙ w in
+    let v : is_whole (read_record (b ∷ (bs ++ f))) ≡ true = ap is_whole (read_front (b ∷ bs) f w) ∙ w in
     let ih = split (body_length b) bs f (omega (arith, s.room_for)) in
     rw (w, v, ih))
     (λ w. rw w)
 
-pub records-split : (a f : List ℕ) → records_of (a ++ f) ≡ onto f (wholes (records_of a)) ++ records_of (drop (whole_length a) a ++ f)
+pub records_split : (a f : List ℕ) → records_of (a ++ f) ≡ onto f (wholes (records_of a)) ++ records_of (drop (whole_length a) a ++ f)
 unfolding whole_length
-records-split a f = split 0 a f (omega arith)
+records_split a f = split 0 a f (omega arith)
 
 no_length : (r : List ℕ) → is_whole (read_record r) ≡ false → record_length r ≡ 0
 unfolding record_length
@@ -223,13 +223,13 @@ no_length r w = rw w
 -- no whole record is left
 stop : (k : ℕ) (bs : List ℕ) → k ≤ length bs → record_length (drop (whole_from k bs) bs) ≡ 0
 unfolding whole_from
-stop k [] h = length-empty [] refl
+stop k [] h = length_empty [] refl
 stop (suc k) (b ∷ bs) h = stop k bs (omega arith)
 stop zero (b ∷ bs) h =
     test (is_whole (read_record (b ∷ bs)))
     (λ w. let s = stands (b ∷ bs) (whole_pos (b ∷ bs) w) in rw w (stop (body_length b) bs (omega (arith, s.room_for))))
     (λ w. rw w (no_length (b ∷ bs) w))
 
-pub whole-stop : (a : List ℕ) → record_length (drop (whole_length a) a) ≡ 0
+pub whole_stop : (a : List ℕ) → record_length (drop (whole_length a) a) ≡ 0
 unfolding whole_length
-whole-stop a = stop 0 a (omega arith)
+whole_stop a = stop 0 a (omega arith)

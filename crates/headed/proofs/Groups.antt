@@ -11,22 +11,22 @@ use borrow.Author.Tests.{eqb-false, eqb-true, ne_eqb}
 use native.Mathlib.Nat.{zero-add}
 use Rattle.rules.specs.Image.{Logged}
 use Rattle.rules.specs.Lists.{all}
-use Rattle.undo.proofs.Laws.{and-true, is_same, never, or_right, test}
+use Rattle.undo.proofs.Laws.{and_true, is_same, never, or_right, test}
 use Rattle.headed.specs.Claim.{Grouped, group, held, is_apart, is_of, none}
 use Rattle.headed.specs.Image.{also_held, entry_keys, log_records_from, record_key, same_front}
 
-pub held-append : (gs hs : List (List Logged)) → held (gs ++ hs) ≡ held gs ++ held hs
-held-append [] hs = refl
-held-append (g ∷ gs) hs = rw (held-append gs hs) (sym (append_assoc g (held gs) (held hs)))
+pub held_append : (gs hs : List (List Logged)) → held (gs ++ hs) ≡ held gs ++ held hs
+held_append [] hs = refl
+held_append (g ∷ gs) hs = rw (held_append gs hs) (sym (append_assoc g (held gs) (held hs)))
 
 -- ---- how many entries share a record
 
 module _ (k : ℕ) where
-  front-few : (n : ℕ) (ks : List ℕ) → same_front n k ks ≤ n
+  front_few : (n : ℕ) (ks : List ℕ) → same_front n k ks ≤ n
   unfolding same_front
-  front-few zero ks = omega arith
-  front-few (suc n) [] = omega arith
-  front-few (suc n) (q ∷ ks) = let ih = front-few n ks in test (eqb q k) (λ e. rw e (omega arith)) (λ e. rw e (omega arith))
+  front_few zero ks = omega arith
+  front_few (suc n) [] = omega arith
+  front_few (suc n) (q ∷ ks) = let ih = front_few n ks in test (eqb q k) (λ e. rw e (omega arith)) (λ e. rw e (omega arith))
 
   -- they are of one region, and are there
   front_same : (n : ℕ) (es : List Logged) → (all (is_of k) (take (same_front n k (entry_keys es)) es) ≡ true) × (same_front n k (entry_keys es) ≤ length es)
@@ -38,64 +38,64 @@ module _ (k : ℕ) where
       test (eqb e.key k) (λ d. rw (d, d) (ih.0, omega (arith, ih.1))) (λ d. rw d (refl, omega arith))
 
   -- the record is full, or what is behind it is of another region
-  front-apart : (n m : ℕ) (es : List Logged) → n + m ≡ 6 → is_apart k (m + same_front n k (entry_keys es)) (drop (same_front n k (entry_keys es)) es) ≡ true
+  front_apart : (n m : ℕ) (es : List Logged) → n + m ≡ 6 → is_apart k (m + same_front n k (entry_keys es)) (drop (same_front n k (entry_keys es)) es) ≡ true
   unfolding same_front
-  front-apart zero m [] h = refl
-  front-apart zero m (e ∷ es) h = let q : m + 0 ≡ 6 = omega arith in rw q
-  front-apart (suc n) m [] h = refl
-  front-apart (suc n) m (e ∷ es) h =
-      let ih = front-apart n (suc m) es (omega arith) in
+  front_apart zero m [] h = refl
+  front_apart zero m (e ∷ es) h = let q : m + 0 ≡ 6 = omega arith in rw q
+  front_apart (suc n) m [] h = refl
+  front_apart (suc n) m (e ∷ es) h =
+      let ih = front_apart n (suc m) es (omega arith) in
       test (eqb e.key k)
       (λ d. let q : m + suc (same_front n k (entry_keys es)) ≡ suc m + same_front n k (entry_keys es) = omega arith in rw (d, q) ih)
       (λ d. rw (d, d) (or_right (eqb (m + 0) 6) refl))
 
   -- so a record takes neither fewer nor more
-  front-exact : (n m : ℕ) (es fs : List Logged) → n + m ≡ 6 → length es ≤ n → all (is_of k) es ≡ true → is_apart k (m + length es) fs ≡ true
+  front_exact : (n m : ℕ) (es fs : List Logged) → n + m ≡ 6 → length es ≤ n → all (is_of k) es ≡ true → is_apart k (m + length es) fs ≡ true
       → same_front n k (entry_keys (es ++ fs)) ≡ length es
   unfolding same_front
-  front-exact zero m [] fs h l a p = refl
-  front-exact zero m (e ∷ es) fs h l a p = absurd (omega arith)
-  front-exact (suc n) m [] [] h l a p = refl
-  front-exact (suc n) m [] (f ∷ fs) h l a p =
+  front_exact zero m [] fs h l a p = refl
+  front_exact zero m (e ∷ es) fs h l a p = absurd (omega arith)
+  front_exact (suc n) m [] [] h l a p = refl
+  front_exact (suc n) m [] (f ∷ fs) h l a p =
       let q : eqb (m + 0) 6 ≡ false = ne_eqb (m + 0) 6 (λ z. omega arith) in
       test (eqb f.key k) (λ d. never (rw (q, d) at p) refl) (λ d. rw d)
-  front-exact (suc n) m (e ∷ es) fs h l a p =
-      let b = and-true (is_of k e) (all (is_of k) es) a in
+  front_exact (suc n) m (e ∷ es) fs h l a p =
+      let b = and_true (is_of k e) (all (is_of k) es) a in
       let q : m + suc (length es) ≡ suc m + length es = omega arith in
-      rw (b.0, front-exact n (suc m) es fs (omega arith) (omega arith) b.1 (rw q at p))
+      rw (b.0, front_exact n (suc m) es fs (omega arith) (omega arith) b.1 (rw q at p))
 
 -- ---- records one behind the other
 
-pub nothing-lost : (n : ℕ) (es : List Logged) → length es ≤ n → held (log_records_from n es) ≡ es
+pub nothing_lost : (n : ℕ) (es : List Logged) → length es ≤ n → held (log_records_from n es) ≡ es
 unfolding log_records_from
-nothing-lost zero [] h = refl
-nothing-lost zero (e ∷ es) h = absurd (omega arith)
-nothing-lost (suc n) [] h = refl
-nothing-lost (suc n) (e ∷ es) h =
+nothing_lost zero [] h = refl
+nothing_lost zero (e ∷ es) h = absurd (omega arith)
+nothing_lost (suc n) [] h = refl
+nothing_lost (suc n) (e ∷ es) h =
     let l : length (drop (also_held e es) es) ≤ n = omega (arith, length-drop (also_held e es) es) in
-    ap (λ xs. e ∷ xs) (rw (nothing-lost n (drop (also_held e es) es) l) (take-append-drop (also_held e es) es))
+    ap (λ xs. e ∷ xs) (rw (nothing_lost n (drop (also_held e es) es) l) (take-append-drop (also_held e es) es))
 
-pub all-grouped : (n : ℕ) (es : List Logged) → length es ≤ n → Grouped (log_records_from n es)
+pub all_grouped : (n : ℕ) (es : List Logged) → length es ≤ n → Grouped (log_records_from n es)
 unfolding log_records_from
-all-grouped zero es h = none
-all-grouped (suc n) [] h = none
-all-grouped (suc n) (e ∷ es) h =
+all_grouped zero es h = none
+all_grouped (suc n) [] h = none
+all_grouped (suc n) (e ∷ es) h =
     let m = also_held e es in
     let s = front_same e.key 6 es in
     let l : length (drop m es) ≤ n = omega (arith, length-drop m es) in
     let t : length (take m es) ≡ m = length-take m es ∙ omega (arith, s.1) in
-    group e (take m es) (log_records_from n (drop m es)) (rw t (front-few e.key 6 (entry_keys es))) s.0
-    (rw (t, nothing-lost n (drop m es) l) (rw (zero-add m) at (front-apart e.key 6 0 es refl))) (all-grouped n (drop m es) l)
+    group e (take m es) (log_records_from n (drop m es)) (rw t (front_few e.key 6 (entry_keys es))) s.0
+    (rw (t, nothing_lost n (drop m es) l) (rw (zero-add m) at (front_apart e.key 6 0 es refl))) (all_grouped n (drop m es) l)
 
-pub only-records : {gs : List (List Logged)} (n : ℕ) → Grouped gs → length (held gs) ≤ n → log_records_from n (held gs) ≡ gs
+pub only_records : {gs : List (List Logged)} (n : ℕ) → Grouped gs → length (held gs) ≤ n → log_records_from n (held gs) ≡ gs
 unfolding log_records_from
-only-records zero none h = refl
-only-records (suc n) none h = refl
-only-records zero (group e es gs l a p g) h = absurd (omega arith)
-only-records (suc n) (group e es gs l a p g) h =
-    let f : also_held e (es ++ held gs) ≡ length es = front-exact e.key 6 0 es (held gs) refl l a (rw (zero-add (length es)) p) in
+only_records zero none h = refl
+only_records (suc n) none h = refl
+only_records zero (group e es gs l a p g) h = absurd (omega arith)
+only_records (suc n) (group e es gs l a p g) h =
+    let f : also_held e (es ++ held gs) ≡ length es = front_exact e.key 6 0 es (held gs) refl l a (rw (zero-add (length es)) p) in
     let r : length (held gs) ≤ n = omega (arith, length-append es (held gs)) in
-    rw (f, take_at es (held gs) (length es) refl, drop_at es (held gs) (length es) refl, only-records n g r)
+    rw (f, take_at es (held gs) (length es) refl, drop_at es (held gs) (length es) refl, only_records n g r)
 
 -- ---- one record more
 

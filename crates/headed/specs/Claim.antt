@@ -39,8 +39,8 @@ pub record BothForms (p : Persistent) : Type 0 where
   pub stops : p.log ≢ [] → read_image (encode_headed p) ≡ Refuses 2
   pub same : p.log ≡ [] → encode_headed p ≡ encode p
   -- the new reader takes both
-  pub takes-old : read_headed (encode p) ≡ Reads p
-  pub takes-new : read_headed (encode_headed p) ≡ Reads p
+  pub takes_old : read_headed (encode p) ≡ Reads p
+  pub takes_new : read_headed (encode_headed p) ≡ Reads p
 
 pub record HeadedImages : Type 0 where
   -- the new image of every board after a cut reads back to the same persistent state, and so does the old one

@@ -8,16 +8,16 @@ use lib.Dec.{eqb}
 use lib.ListN.{get_or, get_or-replicate, length, length-replicate, length-set, replicate, set}
 use lib.Seq.{get_or-set_other, get_or-set_same}
 use borrow.Author.Tests.{eqb-false, eqb-true, le-ltb, lt-ltb, not-false}
-use Rattle.judging.proofs.Bits.{bit_below, meet-if, meet-or}
+use Rattle.judging.proofs.Bits.{bit_below, meet_if, meet_or}
 use Rattle.judging.specs.Marks.{any_pair, is_unlisted}
 use Rattle.faults.specs.Faults.{is_region, place_in}
 use Rattle.judging.specs.Reach.{apart_from, bit_if, clash_by, is_apart, meet, places_on}
-use Rattle.rules.proofs.Lists.{place-lt}
+use Rattle.rules.proofs.Lists.{place_lt}
 use Rattle.lookup.proofs.Search.{any_place}
 use Rattle.rules.specs.Contradiction.{is_listed}
 use Rattle.rules.specs.declared.Listed.{Listed}
 use Rattle.rules.specs.declared.Mark.{Mark}
-use Rattle.undo.proofs.Laws.{or-false, test}
+use Rattle.undo.proofs.Laws.{or_false, test}
 use Rattle.undo.specs.Table.{any}
 
 -- the entries passed: all of listed regions, no two of them clash, and `seen` has for each line the places of their regions
@@ -37,30 +37,30 @@ module _ (rs : List Listed) (rows : List ℕ) where
     pub unlisted : length rs ≤ place_in rs m.key → is_unlisted rs m ≡ true
     unlisted h = rw (any_place (is_region m.key) rs, le-ltb (place_in rs m.key) (length rs) h)
 
-    is-listed : place_in rs m.key < length rs → is_unlisted rs m ≡ false
-    is-listed h = rw (any_place (is_region m.key) rs, lt-ltb (place_in rs m.key) (length rs) h)
+    is_listed_lem : place_in rs m.key < length rs → is_unlisted rs m ≡ false
+    is_listed_lem h = rw (any_place (is_region m.key) rs, lt-ltb (place_in rs m.key) (length rs) h)
 
     module _ (h : length rs ≡ length rows) where
       -- the bits tell whether an entry clashes with one of those behind it
-      meet-clash : (ms : List Mark) → any (is_unlisted rs) ms ≡ false → meet (apart_from rows (place_in rs m.key)) (places_on rs m.line ms) ≡ any (clash_by rs rows m) ms
+      meet_clash : (ms : List Mark) → any (is_unlisted rs) ms ≡ false → meet (apart_from rows (place_in rs m.key)) (places_on rs m.line ms) ≡ any (clash_by rs rows m) ms
       unfolding places_on
-      meet-clash [] e = rw (and_zero_r (apart_from rows (place_in rs m.key)))
-      meet-clash (y ∷ ms) e =
+      meet_clash [] e = rw (and_zero_r (apart_from rows (place_in rs m.key)))
+      meet_clash (y ∷ ms) e =
           let p : ℕ = place_in rs m.key in
           let q : ℕ = place_in rs y.key in
-          let z = or-false (is_unlisted rs y) (any (is_unlisted rs) ms) e in
-          let l : q < length rows = rw (← h) (place-lt (is_region y.key) rs (not-false (is_listed y.key rs) z.0)) in
-          meet-or (apart_from rows p) (bit_if (eqb m.line y.line) q) (places_on rs m.line ms)
-          ∙ rw (meet-if (apart_from rows p) (eqb m.line y.line) q, bit_below (is_apart rows p) (length rows) q l, meet-clash ms z.1)
+          let z = or_false (is_unlisted rs y) (any (is_unlisted rs) ms) e in
+          let l : q < length rows = rw (← h) (place_lt (is_region y.key) rs (not-false (is_listed y.key rs) z.0)) in
+          meet_or (apart_from rows p) (bit_if (eqb m.line y.line) q) (places_on rs m.line ms)
+          ∙ rw (meet_if (apart_from rows p) (eqb m.line y.line) q, bit_below (is_apart rows p) (length rows) q l, meet_clash ms z.1)
 
       module _ (ms : List Mark) (seen : List ℕ) (passed : Passed rs rows seen ms) (l : m.line < 256) where
         -- what an entry adds to the places of a line
-        places-step : (i : ℕ) → places_on rs i (m ∷ ms) ≡ bit_or (bit_if (eqb i m.line) (place_in rs m.key)) (places_on rs i ms)
+        places_step : (i : ℕ) → places_on rs i (m ∷ ms) ≡ bit_or (bit_if (eqb i m.line) (place_in rs m.key)) (places_on rs i ms)
         unfolding places_on
-        places-step i = refl
+        places_step i = refl
 
-        pub clash-told : meet (apart_from rows (place_in rs m.key)) (get_or seen m.line 0) ≡ any (clash_by rs rows m) ms
-        clash-told = rw (passed.told m.line l) (meet-clash ms passed.listed)
+        pub clash_told : meet (apart_from rows (place_in rs m.key)) (get_or seen m.line 0) ≡ any (clash_by rs rows m) ms
+        clash_told = rw (passed.told m.line l) (meet_clash ms passed.listed)
 
         -- one entry more
         pub pass : place_in rs m.key < length rs → meet (apart_from rows (place_in rs m.key)) (get_or seen m.line 0) ≡ false
@@ -69,10 +69,10 @@ module _ (rs : List Listed) (rows : List ℕ) where
         pass k e =
             record {
               long = simp length-set passed.long;
-              listed = rw (is-listed k, passed.listed);
-              clear = rw (← clash-told, e, passed.clear);
+              listed = rw (is_listed_lem k, passed.listed);
+              clear = rw (← clash_told, e, passed.clear);
               told = λ i b.
                   test (eqb i m.line)
-                  (λ s. rw (places-step i, s, eqb-true i m.line s, get_or-set_same seen m.line (bit_or (2 ^ place_in rs m.key) (get_or seen m.line 0)) 0 (rw passed.long l), passed.told m.line l))
-                  (λ s. rw (places-step i, s, get_or-set_other seen m.line i (bit_or (2 ^ place_in rs m.key) (get_or seen m.line 0)) 0 (eqb-false i m.line s), passed.told i b));
+                  (λ s. rw (places_step i, s, eqb-true i m.line s, get_or-set_same seen m.line (bit_or (2 ^ place_in rs m.key) (get_or seen m.line 0)) 0 (rw passed.long l), passed.told m.line l))
+                  (λ s. rw (places_step i, s, get_or-set_other seen m.line i (bit_or (2 ^ place_in rs m.key) (get_or seen m.line 0)) 0 (eqb-false i m.line s), passed.told i b));
             }

@@ -6,12 +6,12 @@ use mathlib.Core.List.{List, [], ◌∷◌, map}
 use lib.Dec.{eqb}
 use lib.ListN.{length, length-map, take}
 use lib.Seq.{length-take-le}
-use Rattle.faults.proofs.Keys.{keyed-listed, keyed-long, keyed-place}
+use Rattle.faults.proofs.Keys.{keyed_listed, keyed_long, keyed_place}
 use Rattle.judging.proofs.Judged.{judged}
 use Rattle.judging.specs.Marks.{contradicts_in, is_unlisted}
 use Rattle.faults.specs.Faults.{is_faulty, is_region, keyed, place_in}
 use Rattle.judging.specs.Reach.{clash_by, is_round, link_of, links_of, table_by, tangled_by}
-use Rattle.rules.proofs.Lists.{any-map, place_map}
+use Rattle.rules.proofs.Lists.{any_map, place_map}
 use Rattle.rules.specs.Contradiction.{any_broken, is_astray, is_listed}
 use Rattle.rules.specs.declared.Listed.{Listed}
 use Rattle.rules.specs.declared.Mark.{Mark}
@@ -28,42 +28,42 @@ module _ (rs : List Listed) where
   keys = map (λ r. r.key) rs
 
   same_place : (k : ℕ) → place_in (keyed keys) k ≡ place_in rs k
-  same_place k = keyed-place keys k ∙ place_map (λ x. eqb x k) (is_region k) (λ r. r.key) rs (λ r. refl)
+  same_place k = keyed_place keys k ∙ place_map (λ x. eqb x k) (is_region k) (λ r. r.key) rs (λ r. refl)
 
-  same-listed : (k : ℕ) → is_listed k (keyed keys) ≡ is_listed k rs
-  same-listed k = keyed-listed keys k ∙ any-map (λ x. eqb x k) (is_region k) (λ r. r.key) rs (λ r. refl)
+  same_listed : (k : ℕ) → is_listed k (keyed keys) ≡ is_listed k rs
+  same_listed k = keyed_listed keys k ∙ any_map (λ x. eqb x k) (is_region k) (λ r. r.key) rs (λ r. refl)
 
-  same-long : length (keyed keys) ≡ length rs
-  same-long = keyed-long keys ∙ length-map rs (λ r. r.key)
+  same_long : length (keyed keys) ≡ length rs
+  same_long = keyed_long keys ∙ length-map rs (λ r. r.key)
 
   astray : is_astray (keyed keys) ≡ is_astray rs
-  astray = fun_ext (λ d. rw (same-listed d))
+  astray = fun_ext (λ d. rw (same_listed d))
 
   pub faulty : is_faulty (keyed keys) ≡ is_faulty rs
   faulty = fun_ext (λ r. rw astray)
 
   unlisted : is_unlisted (keyed keys) ≡ is_unlisted rs
-  unlisted = fun_ext (λ m. rw (same-listed m.key))
+  unlisted = fun_ext (λ m. rw (same_listed m.key))
 
   link : link_of (keyed keys) ≡ link_of rs
-  link = fun_ext (λ d. rw (same-long, same_place d))
+  link = fun_ext (λ d. rw (same_long, same_place d))
 
   links : links_of (keyed keys) ≡ links_of rs
   links = fun_ext (λ r. rw link)
 
-  on-circle : (rows : List ℕ) → is_round (keyed keys) rows ≡ is_round rs rows
-  on-circle rows = fun_ext (λ r. rw (same_place r.key))
+  on_circle : (rows : List ℕ) → is_round (keyed keys) rows ≡ is_round rs rows
+  on_circle rows = fun_ext (λ r. rw (same_place r.key))
 
   clash : (rows : List ℕ) → clash_by (keyed keys) rows ≡ clash_by rs rows
   clash rows = fun_ext (λ a. fun_ext (λ b. rw (same_place a.key, same_place b.key)))
 
   pub tangled : (ms : List Mark) → tangled_by (keyed keys) rs ms ≡ tangled_by rs rs ms
   unfolding tangled_by table_by
-  tangled ms = rw (links, unlisted, on-circle (table_by rs rs), clash (table_by rs rs))
+  tangled ms = rw (links, unlisted, on_circle (table_by rs rs), clash (table_by rs rs))
 
 -- the program's tests take the keys' n first, the regions' n first, and come to the whole
-pub judged-keys : (n : ℕ) (ks : List ℕ) (rs : List Listed) (ms : List Mark) → n ≤ length ks → ks ≡ map (λ x. x.key) rs →
+pub judged_keys : (n : ℕ) (ks : List ℕ) (rs : List Listed) (ms : List Mark) → n ≤ length ks → ks ≡ map (λ x. x.key) rs →
     contradicts_in (take n rs) ms
     ≡ (any (is_faulty (keyed (take n ks))) (take (length (take n ks)) rs) || (any_broken (take n rs) || tangled_by (keyed (take n ks)) (take (length (take n ks)) rs) ms))
-judged-keys n ks rs ms h e =
+judged_keys n ks rs ms h e =
     rw (length-take-le n ks h, e, firsts (λ x. x.key) n rs, faulty (take n rs), tangled (take n rs) ms) (judged (take n rs) ms)

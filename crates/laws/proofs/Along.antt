@@ -21,16 +21,16 @@ use Rattle.rules.specs.declared.Reading.{Reading}
 use Rattle.rules.specs.declared.Reading.TheVariants.{Refused, Whole}
 
 -- a refusal tells no commit
-told-nothing : (e : Event) → told_of e 0 ≡ 0
-told-nothing (Setup n l s) = refl
-told-nothing (Begin t) = refl
-told-nothing (End t) = refl
-told-nothing (Read t l w) = refl
-told-nothing (Write t l w mask v) = refl
-told-nothing (LogAck l) = refl
-told-nothing (DataAck l) = refl
-told-nothing (Fence t) = refl
-told-nothing Cut = refl
+told_nothing : (e : Event) → told_of e 0 ≡ 0
+told_nothing (Setup n l s) = refl
+told_nothing (Begin t) = refl
+told_nothing (End t) = refl
+told_nothing (Read t l w) = refl
+told_nothing (Write t l w mask v) = refl
+told_nothing (LogAck l) = refl
+told_nothing (DataAck l) = refl
+told_nothing (Fence t) = refl
+told_nothing Cut = refl
 
 -- P speaks of the board, the accepted events and the commits told so far
 module _ (m : Memory) (P : Board → List Account → ℕ → Type 0)
@@ -50,7 +50,7 @@ module _ (m : Memory) (P : Board → List Account → ℕ → Type 0)
       go : (c : ℕ) → refusal b.tables e ≡ c
           → P (step_by c b e).board (noted (step_by c b e).answer.refusal (Whole e) es) (n + told_of e (step_by c b e).answer.value)
       go zero r = kept b es n e r k p
-      go (suc c) r = no_more b es n (told_of e 0) (told-nothing e) p
+      go (suc c) r = no_more b es n (told_of e 0) (told_nothing e) p
 
   many : (rs : List (List ℕ)) (b : Board) (es : List Account) (n : ℕ) → Kept m b es → P b es n
       → P (run b rs).board (accepted_from b rs es) (n + told_in rs (run b rs).answers)

@@ -7,7 +7,7 @@ use lib.Dec.{eqb}
 use lib.ListN.{length}
 use native.Mathlib.Omega.{arith}
 use Rattle.laws.specs.Images.{Answers, RecoveryAnswers, is_image_refusal}
-use Rattle.rules.proofs.Codec.Refusals.{ImageRefusals, image-refuses, refuses_by}
+use Rattle.rules.proofs.Codec.Refusals.{ImageRefusals, image_refuses, refuses_by}
 use Rattle.rules.specs.Bytes.{num_of}
 use Rattle.rules.specs.Image.{Logged, Persistent}
 use Rattle.rules.specs.Reader.{Reads, Refuses, Verdict, read_image}
@@ -17,34 +17,34 @@ use Rattle.undo.proofs.Laws.{test}
 pub listed : ImageRefusals is_image_refusal
 listed = record { one = refl; two = refl; three = refl; four = refl; six = refl; seven = refl; eight = refl }
 
-pub refuses-well : (bs : List ℕ) → refuses_by is_image_refusal (read_image bs) ≡ true
-refuses-well bs = image-refuses is_image_refusal listed bs
+pub refuses_well : (bs : List ℕ) → refuses_by is_image_refusal (read_image bs) ≡ true
+refuses_well bs = image_refuses is_image_refusal listed bs
 
 -- ---- the step
 
-by-answers : (es : List Logged) (r : Recovering) → Answers (restore_by es r).answer
+by_answers : (es : List Logged) (r : Recovering) → Answers (restore_by es r).answer
 unfolding restore_by
-by-answers [] r = record { known = λ n. absurd (n refl); small = omega arith; silent = λ n. refl }
-by-answers (e ∷ es) r =
+by_answers [] r = record { known = λ n. absurd (n refl); small = omega arith; silent = λ n. refl }
+by_answers (e ∷ es) r =
     record {
       known = λ n. absurd (n refl);
       small = test (eqb (length es) 0) (λ a. rw a (omega arith)) (λ a. rw a (omega arith));
       silent = λ n. absurd (n refl);
     }
 
-pub read-answers : (v : Verdict Persistent) (r : Recovering) → refuses_by is_image_refusal v ≡ true → Answers (restore_read v r).answer
-read-answers (Refuses n) r e = record { known = λ z. e; small = omega arith; silent = λ z. refl }
-read-answers (Reads p) r e = by-answers _ r
+pub read_answers : (v : Verdict Persistent) (r : Recovering) → refuses_by is_image_refusal v ≡ true → Answers (restore_read v r).answer
+read_answers (Refuses n) r e = record { known = λ z. e; small = omega arith; silent = λ z. refl }
+read_answers (Reads p) r e = by_answers _ r
 
-step-answers : (r : Recovering) → Answers (restore r).answer
+step_answers : (r : Recovering) → Answers (restore r).answer
 unfolding restore
-step-answers r = read-answers (read_image r.bytes) r (refuses-well r.bytes)
+step_answers r = read_answers (read_image r.bytes) r (refuses_well r.bytes)
 
-call-answers : (bs at : List ℕ) → Answers (recovery_call bs at).answer
+call_answers : (bs at : List ℕ) → Answers (recovery_call bs at).answer
 unfolding recovery_call
-call-answers bs at =
-    test (eqb (length at) 8) (λ a. rw a (step-answers (record { bytes = bs; at = num_of at })))
+call_answers bs at =
+    test (eqb (length at) 8) (λ a. rw a (step_answers (record { bytes = bs; at = num_of at })))
     (λ a. rw a (record { known = λ z. refl; small = omega arith; silent = λ z. refl }))
 
-pub recovery-answers : RecoveryAnswers
-recovery-answers bs = (λ n. step-answers (record { bytes = bs; at = n }), call-answers bs)
+pub recovery_answers : RecoveryAnswers
+recovery_answers bs = (λ n. step_answers (record { bytes = bs; at = n }), call_answers bs)

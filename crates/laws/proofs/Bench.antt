@@ -8,15 +8,15 @@ use lib.ListN.{drop, length, length-drop, replicate, take}
 use lib.Seq.{take-append_seam}
 use native.Mathlib.Omega.{arith}
 use borrow.Author.Tests.{eqb-false, le-ltb, lt-ltb, ltb-false, ltb-true}
-use Rattle.rules.proofs.Codec.Bytes.{is_line, length-bytes, num-bytes}
-use Rattle.rules.proofs.Codec.Turns.{size-threads}
+use Rattle.rules.proofs.Codec.Bytes.{is_line, length_bytes, num_bytes}
+use Rattle.rules.proofs.Codec.Turns.{size_threads}
 use Rattle.rules.proofs.Codec.Valid.{Valid, fits_entry}
-use Rattle.rules.proofs.Cuts.{cut-is}
-use Rattle.rules.proofs.Laws.{records-bytes}
-use Rattle.rules.proofs.Main.{recovery-is-right}
+use Rattle.rules.proofs.Cuts.{cut_is}
+use Rattle.rules.proofs.Laws.{records_bytes}
+use Rattle.rules.proofs.Main.{recovery_is_right}
 use Rattle.rules.proofs.Recover.Sound.{sound}
-use Rattle.rules.proofs.Recover.Steps.{Standing, acts-stand, cut_stands, start-stands, step-reads, step-stands, walked-length}
-use Rattle.rules.proofs.Recover.Valid.{saved-valid}
+use Rattle.rules.proofs.Recover.Steps.{Standing, acts_stand, cut_stands, start_stands, step_reads, step_stands, walked_length}
+use Rattle.rules.proofs.Recover.Valid.{saved_valid}
 use Rattle.rules.proofs.Sim.All.{every}
 use Rattle.rules.proofs.Sim.State.{Sim, Simulated, by}
 use Rattle.rules.proofs.Sim.Looks.{reach}
@@ -33,7 +33,7 @@ use Rattle.rules.specs.Refusal.{is_set_up}
 use Rattle.rules.specs.Run.{Wrote, wrote_into}
 use Rattle.rules.specs.Tables.{Board, Lent, Memory, thread_of}
 use Rattle.rules.specs.Walk.{walk_entries}
-use Rattle.undo.proofs.Laws.{and-true, test}
+use Rattle.undo.proofs.Laws.{and_true, test}
 use Rattle.undo.specs.Claim.{Reach}
 use Rattle.undo.specs.History as v
 use Rattle.undo.specs.Machine as u
@@ -66,13 +66,13 @@ some_below : (n : ℕ) (es : List Logged) → ((t : ℕ) → count (is_logged_by
 some_below zero es f = let z = none_below es in omega arith
 some_below (suc n) es f = omega (arith, some_below n es f, one_more n es, f n)
 
-all-below : (n l : ℕ) (es : List Logged) → all (fits_entry n l) es ≡ true → count (is_below n) es ≡ length es
+all_below : (n l : ℕ) (es : List Logged) → all (fits_entry n l) es ≡ true → count (is_below n) es ≡ length es
 unfolding count
-all-below n l [] h = refl
-all-below n l (e ∷ es) h =
-    let b = and-true (fits_entry n l e) (all (fits_entry n l) es) h in
-    let c = and-true (is_known_thread n e.key) (ltb e.line l && is_line e.old) b.0 in
-    rw c.0 (ap suc (all-below n l es b.1))
+all_below n l [] h = refl
+all_below n l (e ∷ es) h =
+    let b = and_true (fits_entry n l e) (all (fits_entry n l) es) h in
+    let c = and_true (is_known_thread n e.key) (ltb e.line l && is_line e.old) b.0 in
+    rw c.0 (ap suc (all_below n l es b.1))
 
 -- ---- calls and cuts in step
 
@@ -85,46 +85,46 @@ pub record InStep (r : Recovering) (c : Bench) : Type 0 where
 pub call_same : {r : Recovering} {c : Bench} → InStep r c → next_call c ≡ called_by (restore r)
 unfolding recovery_call
 call_same {r} {c} s =
-    let l = length-bytes 8 r.at in
+    let l = length_bytes 8 r.at in
     let n = s.near in
-    let e : num_of (bytes_of 8 r.at) ≡ r.at = num-bytes 8 r.at (omega arith) in
+    let e : num_of (bytes_of 8 r.at) ≡ r.at = num_bytes 8 r.at (omega arith) in
     rw (s.bytes, s.place, l, e)
 
 module _ {start : ℕ → List ℕ} {b : Board} {es : List Account} {s : u.State (List ℕ)} {h : v.History (List ℕ)} (rc : Reach start s h) (i : Sim b es s h)
     (up : is_set_up b.tables ≡ true) (quiet : contradicts (saved b) ≡ false) where
-  few-walked : length (walk_entries (saved b)) ≤ 256
-  few-walked =
+  few_walked : length (walk_entries (saved b)) ≤ 256
+  few_walked =
       let p = saved b in
-      let z : Valid p = saved-valid rc i up in
-      let w = walked-length rc i up quiet in
-      let a = all-below p.threads p.lines p.log z.entries in
-      omega (arith, some_below p.threads p.log z.room, size-threads p.threads p.lines z.size)
+      let z : Valid p = saved_valid rc i up in
+      let w = walked_length rc i up quiet in
+      let a = all_below p.threads p.lines p.log z.entries in
+      omega (arith, some_below p.threads p.log z.room, size_threads p.threads p.lines z.size)
 
-  step-near : {r : Recovering} → Standing rc i up quiet r → r.at ≤ 256 → (restore r).after.at ≤ 256
+  step_near : {r : Recovering} → Standing rc i up quiet r → r.at ≤ 256 → (restore r).after.at ≤ 256
   unfolding restore_by
-  step-near {r} p n = rw (step-reads rc i up quiet p) (go (drop r.at (walk_entries (saved b))) refl)
+  step_near {r} p n = rw (step_reads rc i up quiet p) (go (drop r.at (walk_entries (saved b))) refl)
     where
       go : (e : List Logged) → drop r.at (walk_entries (saved b)) ≡ e → (restore_by e r).after.at ≤ 256
       go [] k = n
-      go (e ∷ fs) k = let l = length-drop r.at (walk_entries (saved b)) in let q = ap length k in let w = few-walked in omega arith
+      go (e ∷ fs) k = let l = length-drop r.at (walk_entries (saved b)) in let q = ap length k in let w = few_walked in omega arith
 
-  pub act-in-step : {r : Recovering} {c : Bench} (a : Act) → Standing rc i up quiet r → InStep r c → InStep (act r a) (bench_act c a)
+  pub act_in_step : {r : Recovering} {c : Bench} (a : Act) → Standing rc i up quiet r → InStep r c → InStep (act r a) (bench_act c a)
   unfolding act bench_act bytes_of
-  act-in-step Restore p t =
+  act_in_step Restore p t =
       let q = call_same t in
-      record { bytes = ap (λ x. x.image) q; place = ap (λ x. x.place) q; near = step-near p t.near }
-  act-in-step PowerCut p t = record { bytes = t.bytes; place = refl; near = omega arith }
+      record { bytes = ap (λ x. x.image) q; place = ap (λ x. x.place) q; near = step_near p t.near }
+  act_in_step PowerCut p t = record { bytes = t.bytes; place = refl; near = omega arith }
 
-  pub acts-in-step : {r : Recovering} {c : Bench} (as' : List Act) → Standing rc i up quiet r → InStep r c → InStep (acts r as') (bench_acts c as')
+  pub acts_in_step : {r : Recovering} {c : Bench} (as' : List Act) → Standing rc i up quiet r → InStep r c → InStep (acts r as') (bench_acts c as')
   unfolding acts bench_acts act
-  acts-in-step [] p t = t
-  acts-in-step {r = r} {c = c} (Restore ∷ as') p t = acts-in-step {r = (restore r).after} {c = bench_act c Restore} as' (step-stands rc i up quiet p) (act-in-step Restore p t)
-  acts-in-step (PowerCut ∷ as') p t = acts-in-step as' (cut_stands rc i up quiet p) (act-in-step PowerCut p t)
+  acts_in_step [] p t = t
+  acts_in_step {r = r} {c = c} (Restore ∷ as') p t = acts_in_step {r = (restore r).after} {c = bench_act c Restore} as' (step_stands rc i up quiet p) (act_in_step Restore p t)
+  acts_in_step (PowerCut ∷ as') p t = acts_in_step as' (cut_stands rc i up quiet p) (act_in_step PowerCut p t)
 
-pub restores-acts : (n : ℕ) (r : Recovering) → acts r (replicate n Restore) ≡ restores n r
+pub restores_acts : (n : ℕ) (r : Recovering) → acts r (replicate n Restore) ≡ restores n r
 unfolding acts act restores
-restores-acts zero r = refl
-restores-acts (suc n) r = restores-acts n (restore r).after
+restores_acts zero r = refl
+restores_acts (suc n) r = restores_acts n (restore r).after
 
 -- ---- an accepted image call: the buffer begins with the image of a board that is cut
 
@@ -132,10 +132,10 @@ pub record FromCut (b : Board) (w : Wrote) : Type 0 where
   pub cut : b.tables.cut ≡ true
   pub front : take w.answer.value w.buffer ≡ image b
 
-wrote-front : (bs d : List ℕ) → (wrote_into bs (length bs) d).answer.refusal ≡ 0
+wrote_front : (bs d : List ℕ) → (wrote_into bs (length bs) d).answer.refusal ≡ 0
     → take (wrote_into bs (length bs) d).answer.value (wrote_into bs (length bs) d).buffer ≡ bs
 unfolding wrote_into
-wrote-front bs d e =
+wrote_front bs d e =
     test (leb (length bs) (length d)) (λ a. rw a (take-append_seam bs (drop (0 + length bs) d)))
     (λ a. let z : 6 ≡ 0 = rw a at e in absurd (omega arith))
 
@@ -143,19 +143,19 @@ wrote-front bs d e =
 abbrev pub saved_if : Bool → List ℕ → List ℕ → Wrote
 saved_if b bs d = cond b (wrote_into bs (length bs) d) (record { answer = record { refusal = 6; value = 0 }; buffer = d })
 
-pub saved-if : (b : Bool) (bs d : List ℕ) → (saved_if b bs d).answer.refusal ≡ 0 → (b ≡ true) × (take (saved_if b bs d).answer.value (saved_if b bs d).buffer ≡ bs)
-saved-if true bs d z = (refl, wrote-front bs d z)
-saved-if false bs d z = absurd (omega arith)
+pub saved_if_lem : (b : Bool) (bs d : List ℕ) → (saved_if b bs d).answer.refusal ≡ 0 → (b ≡ true) × (take (saved_if b bs d).answer.value (saved_if b bs d).buffer ≡ bs)
+saved_if_lem true bs d z = (refl, wrote_front bs d z)
+saved_if_lem false bs d z = absurd (omega arith)
 
-pub save-accepted : (b : Board) (d : List ℕ) → (save b d).answer.refusal ≡ 0 → FromCut b (save b d)
+pub save_accepted : (b : Board) (d : List ℕ) → (save b d).answer.refusal ≡ 0 → FromCut b (save b d)
 unfolding save
-save-accepted b d e =
-    let a = saved-if (is_set_up b.tables && b.tables.cut) (image b) d e in
-    record { cut = (and-true (is_set_up b.tables) b.tables.cut a.0).1; front = a.1 }
+save_accepted b d e =
+    let a = saved_if_lem (is_set_up b.tables && b.tables.cut) (image b) d e in
+    record { cut = (and_true (is_set_up b.tables) b.tables.cut a.0).1; front = a.1 }
 
-pub zero-place : bytes_of 8 0 ≡ replicate 8 0
+pub zero_place : bytes_of 8 0 ≡ replicate 8 0
 unfolding bytes_of
-zero-place = refl
+zero_place = refl
 
 -- ---- the bench, from the image of a board that is cut
 
@@ -169,29 +169,29 @@ module _ (m : Memory) (rs : List (List ℕ)) (bm : is_byte_memory m ≡ true) (b
     pub now : InStep (recovering m rs as') (bench_acts begun as')
     pub later : InStep (restores n (act (recovering m rs as') PowerCut)) (bench_acts (bench_act (bench_acts begun as') PowerCut) (replicate n Restore))
 
-  runs-along : (as' : List Act) (n : ℕ) → Along as' n
-  runs-along as' n = go (every m rs bm).simulated
+  runs_along : (as' : List Act) (n : ℕ) → Along as' n
+  runs_along as' n = go (every m rs bm).simulated
     where
       go : Simulated m (board_after m rs) (accepted_in m rs) → Along as' n
       go (by t h w i) =
           let rc = reach w in
-          let up = i.shape.cut-setup cut in
+          let up = i.shape.cut_setup cut in
           let quiet = sound rc i (every m rs bm).rest in
-          let p = start-stands rc i up quiet in
-          let there = acts-stand rc i up quiet as' p in
+          let p = start_stands rc i up quiet in
+          let there = acts_stand rc i up quiet as' p in
           let here : InStep (recovering m rs as') (bench_acts begun as')
-          = acts-in-step rc i up quiet as' p (record { bytes = e; place = sym zero-place; near = omega arith }) in
+          = acts_in_step rc i up quiet as' p (record { bytes = e; place = sym zero_place; near = omega arith }) in
           record {
             now = here;
             later = subst (λ r. InStep r (bench_acts (bench_act (bench_acts begun as') PowerCut) (replicate n Restore)))
-                (restores-acts n (act (recovering m rs as') PowerCut))
-                (acts-in-step rc i up quiet (replicate n Restore) (cut_stands rc i up quiet there) (act-in-step rc i up quiet PowerCut there here));
+                (restores_acts n (act (recovering m rs as') PowerCut))
+                (acts_in_step rc i up quiet (replicate n Restore) (cut_stands rc i up quiet there) (act_in_step rc i up quiet PowerCut there here));
           }
 
-  bench-holds : (as' : List Act) → BenchHolds m rs begun as'
-  bench-holds as' =
-      let hold : Holds m rs as' = recovery-is-right m rs as' bm br (sym (cut-is m rs) ∙ cut) in
-      let q : next_call (bench_acts begun as') ≡ called_by (restore (recovering m rs as')) = call_same (runs-along as' 0).now in
+  bench_holds : (as' : List Act) → BenchHolds m rs begun as'
+  bench_holds as' =
+      let hold : Holds m rs as' = recovery_is_right m rs as' bm br (sym (cut_is m rs) ∙ cut) in
+      let q : next_call (bench_acts begun as') ≡ called_by (restore (recovering m rs as')) = call_same (runs_along as' 0).now in
       let n = pass_length m rs - 1 in
       record {
         accepts = ap (λ x. x.answer.refusal) q ∙ hold.accepts;
@@ -199,13 +199,13 @@ module _ (m : Memory) (rs : List (List ℕ)) (bm : is_byte_memory m ≡ true) (b
         finishes =
             subst (λ x. is_finished (next_call (bench_acts (bench_act (bench_acts begun as') PowerCut) (replicate (max 1 (entries_in 0 x) - 1) Restore))).answer ≡ true)
             (sym e)
-            (ap (λ x. is_finished x.answer) (call_same (runs-along as' n).later) ∙ hold.finishes);
+            (ap (λ x. is_finished x.answer) (call_same (runs_along as' n).later) ∙ hold.finishes);
         closed = hold.closed;
       }
 
-pub bench-recovers : BenchRecovers
+pub bench_recovers : BenchRecovers
 unfolding image_call
-bench-recovers file memory d as' bf bm z =
+bench_recovers file memory d as' bf bm z =
     let rs = records_of file in
-    let s = save-accepted (board_after (Lent memory) rs) d z in
-    bench-holds (Lent memory) rs bm (records-bytes 0 file bf) s.cut (lent_image (image_call file memory d)).image s.front as'
+    let s = save_accepted (board_after (Lent memory) rs) d z in
+    bench_holds (Lent memory) rs bm (records_bytes 0 file bf) s.cut (lent_image (image_call file memory d)).image s.front as'

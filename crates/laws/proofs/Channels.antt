@@ -10,17 +10,17 @@ use lib.ListN.{get_or}
 use lib.Seq.{get_or-set_same}
 use native.Mathlib.Omega.{arith}
 use borrow.Author.Tests.{eq-eqb, eqb-false, eqb-true, not-false, not-true}
-use Rattle.laws.proofs.Current.{value-is}
-use Rattle.laws.proofs.Values.{cut-counts}
+use Rattle.laws.proofs.Current.{value_is}
+use Rattle.laws.proofs.Values.{cut_counts}
 use Rattle.laws.specs.Channels.{Entered, InChannels, TwoChannels}
 use Rattle.laws.specs.Laws.{Accepts}
 use Rattle.laws.specs.Reserves.{lives}
 use Rattle.laws.specs.Words.{opens_in}
-use Rattle.rules.proofs.Lists.{count_room, place-lt, place_map, place-true}
-use Rattle.rules.proofs.Places.{homes, place-placed, room-left}
+use Rattle.rules.proofs.Lists.{count_room, place_lt, place_map, place_true}
+use Rattle.rules.proofs.Places.{homes, place_placed, room_left}
 use Rattle.rules.proofs.Sim.All.{every}
 use Rattle.rules.proofs.Sim.State.{Sim, Simulated, by}
-use Rattle.rules.proofs.Tests.{channel-room}
+use Rattle.rules.proofs.Tests.{channel_room}
 use Rattle.rules.specs.Begin.{begin, opened}
 use Rattle.rules.specs.Claim.{board_after, is_byte, is_byte_memory}
 use Rattle.rules.specs.History.{accepted_in, committed, depth_in}
@@ -31,15 +31,15 @@ use Rattle.rules.specs.Step.{apply}
 use Rattle.rules.specs.Tables.{Board, Memory, free_place, is_held, is_key, is_placed, no_region, number_of, thread_at, with_channel, with_regions, with_tables}
 use Rattle.rules.specs.declared.Event.TheVariants.{Begin}
 use Rattle.rules.specs.declared.Region.{Region}
-use Rattle.undo.proofs.Laws.{and-true, test}
+use Rattle.undo.proofs.Laws.{and_true, test}
 use Rattle.undo.specs.Table.{any, keep}
 
 -- every number of a list is of channel 0 or of channel 1
-kept-two : (p : ℕ → Bool) (xs : List ℕ) → count p xs ≡ count p (keep (lives 0) xs) + count p (keep (lives 1) xs)
+kept_two : (p : ℕ → Bool) (xs : List ℕ) → count p xs ≡ count p (keep (lives 0) xs) + count p (keep (lives 1) xs)
 unfolding count
-kept-two p [] = refl
-kept-two p (x ∷ xs) =
-    let ih = kept-two p xs in
+kept_two p [] = refl
+kept_two p (x ∷ xs) =
+    let ih = kept_two p xs in
     test (lives 0 x)
     (λ e. rw (e, eqb-true (number_of x % 2) 0 e) (test (p x) (λ f. rw f (omega arith)) (λ f. rw f ih)))
     (λ e. let n = eqb-false (number_of x % 2) 0 e in
@@ -56,16 +56,16 @@ module _ (m : Memory) (rs : List (List ℕ)) {s : u.State (List ℕ)} {h : v.His
   entered : (r : List ℕ) (t : ℕ) → Accepts m rs r (Begin t) → depth_in t (accepted_in m rs) ≡ 0 → Entered m rs r t
   unfolding apply begin opened
   entered r t a d =
-      let z = value-is b r (Begin t) a.is a.unrefused in
+      let z = value_is b r (Begin t) a.is a.unrefused in
       let d' : eqb (depth_of t b.tables) 0 ≡ true = eq-eqb (depth_of t b.tables) 0 (i.told.depth t ∙ d) in
-      let few : count is_held regions < 32 = room-left regions i.shape.regions ((thread_at t b.tables).last + 1) (channel-room b.tables t z.1 d') in
+      let few : count is_held regions < 32 = room_left regions i.shape.regions ((thread_at t b.tables).last + 1) (channel_room b.tables t z.1 d') in
       let free : any (is_key 0) regions ≡ true
       = count_room is_held (is_key 0) regions (λ x e. not-false (eqb x.key 0) e) (rw i.shape.regions.count few) in
       record {
-        free = rw (← i.shape.regions.count) (place-lt (is_key 0) regions free);
-        none = eqb-true (get_or regions (free_place regions) no_region).key 0 (place-true (is_key 0) regions no_region free);
+        free = rw (← i.shape.regions.count) (place_lt (is_key 0) regions free);
+        none = eqb-true (get_or regions (free_place regions) no_region).key 0 (place_true (is_key 0) regions no_region free);
         there = ap (λ (x : Board). (get_or x.tables.regions (free_place regions) no_region).key) z.2
-            ∙ rw (d', get_or-set_same regions (free_place regions) _ no_region (place-lt (is_key 0) regions free), i.told.last t);
+            ∙ rw (d', get_or-set_same regions (free_place regions) _ no_region (place_lt (is_key 0) regions free), i.told.last t);
       }
 
 -- ---- lookups
@@ -73,7 +73,7 @@ module _ (m : Memory) (rs : List (List ℕ)) {s : u.State (List ℕ)} {h : v.His
 missed : (k : ℕ) (rs : List Region) → all (λ r. not (eqb r.channel (number_of k % 2))) rs ≡ true → any (is_placed k) rs ≡ false
 missed k [] e = refl
 missed k (r ∷ rs) e =
-    let z = and-true (not (eqb r.channel (number_of k % 2))) (all (λ x. not (eqb x.channel (number_of k % 2))) rs) e in
+    let z = and_true (not (eqb r.channel (number_of k % 2))) (all (λ x. not (eqb x.channel (number_of k % 2))) rs) e in
     rw (not-true (eqb r.channel (number_of k % 2)) z.0, missed k rs z.1) (test (is_key k r) (λ f. rw f) (λ f. rw f))
 
 -- ---- the image
@@ -86,24 +86,24 @@ module _ (f : Region → ℕ) where
   same_keys [] = refl
   same_keys (r ∷ rs) = ap (λ ks. r.key ∷ ks) (same_keys rs)
 
-  same-saved : (rs : List Region) (j : ℕ) → saved_region (get_or (map moved rs) j no_region) ≡ saved_region (get_or rs j no_region)
+  same_saved : (rs : List Region) (j : ℕ) → saved_region (get_or (map moved rs) j no_region) ≡ saved_region (get_or rs j no_region)
   unfolding saved_region
-  same-saved [] j = refl
-  same-saved (r ∷ rs) zero = refl
-  same-saved (r ∷ rs) (suc j) = same-saved rs j
+  same_saved [] j = refl
+  same_saved (r ∷ rs) zero = refl
+  same_saved (r ∷ rs) (suc j) = same_saved rs j
 
-  each-saved : (rs : List Region) (ks : List ℕ)
+  each_saved : (rs : List Region) (ks : List ℕ)
       → map (λ k. saved_region (get_or (map moved rs) (place (is_key k) (map moved rs)) no_region)) ks ≡ map (λ k. saved_region (get_or rs (place (is_key k) rs) no_region)) ks
-  each-saved rs [] = refl
-  each-saved rs (k ∷ ks) =
-      rw (place_map (is_key k) (is_key k) moved rs (λ r. refl), same-saved rs (place (is_key k) rs), each-saved rs ks)
+  each_saved rs [] = refl
+  each_saved rs (k ∷ ks) =
+      rw (place_map (is_key k) (is_key k) moved rs (λ r. refl), same_saved rs (place (is_key k) rs), each_saved rs ks)
 
   unsaved : (b : Board) → image (with_tables (with_regions (map moved b.tables.regions) b.tables) b) ≡ image b
   unfolding image saved saved_regions saved_log saved_thread
-  unsaved b = rw (same_keys b.tables.regions, each-saved b.tables.regions (rising (map (λ r. r.key) b.tables.regions)))
+  unsaved b = rw (same_keys b.tables.regions, each_saved b.tables.regions (rising (map (λ r. r.key) b.tables.regions)))
 
-pub two-channels : TwoChannels
-two-channels =
+pub two_channels : TwoChannels
+two_channels =
     record {
       always = λ m rs bm br. go m rs bm br (every m rs bm).simulated;
       missed = λ k rs e. rw (missed k rs e) (test (eqb k 0) (λ z. rw z) (λ z. rw z));
@@ -116,7 +116,7 @@ two-channels =
         record {
           home = λ j n. hs j;
           few = i.shape.regions.channels;
-          found = λ k. place-placed k (board_after m rs).tables.regions hs;
+          found = λ k. place_placed k (board_after m rs).tables.regions hs;
           entered = entered m rs i;
-          both = λ r a. cut-counts m rs bm br r a ∙ kept-two (λ k. not (committed m rs k)) (opens_in (accepted_in m rs));
+          both = λ r a. cut_counts m rs bm br r a ∙ kept_two (λ k. not (committed m rs k)) (opens_in (accepted_in m rs));
         }

@@ -8,15 +8,15 @@ use lib.Dec.{eqb, ltb}
 use lib.ListN.{length, length-map}
 use native.Mathlib.Omega.{arith}
 use borrow.Author.Tests.{eqb-true, ltb-false, ne_eqb}
-use Rattle.rules.proofs.Recover.Rising.{Rises, rises-above}
+use Rattle.rules.proofs.Recover.Rising.{Rises, rises_above}
 use Rattle.rules.proofs.Recover.Saved.{any_of}
 use Rattle.rules.proofs.Recover.Walk.{needed, next_of}
-use Rattle.rules.proofs.Lists.{place-lt}
+use Rattle.rules.proofs.Lists.{place_lt}
 use Rattle.rules.specs.Contradiction.{deps_of, is_circle, reaches, reaches_in}
 use Rattle.rules.specs.declared.Listed.{Listed}
-use Rattle.undo.proofs.Laws.{is_same, never, or-false, or_right, or-true, test}
+use Rattle.undo.proofs.Laws.{is_same, never, or_false, or_right, or_true, test}
 use Rattle.undo.specs.Table.{any, is_in}
-use Rattle.rules.proofs.AnyOrder.{drop_one, one_fewer, still-in}
+use Rattle.rules.proofs.AnyOrder.{drop_one, one_fewer, still_in}
 
 -- ---- more numbers than a list has: one comes twice
 
@@ -24,13 +24,13 @@ abbrev pub repeated : List ℕ → Bool
 repeated [] = false
 repeated (k ∷ ks) = is_in k ks || repeated ks
 
-pub once-fits : (ks js : List ℕ) → ((k : ℕ) → is_in k ks ≡ true → is_in k js ≡ true) → repeated ks ≡ false → length ks ≤ length js
-once-fits [] js f e = omega arith
-once-fits (k ∷ ks) js f e =
-    let o = or-false (is_in k ks) (repeated ks) e in
+pub once_fits : (ks js : List ℕ) → ((k : ℕ) → is_in k ks ≡ true → is_in k js ≡ true) → repeated ks ≡ false → length ks ≤ length js
+once_fits [] js f e = omega arith
+once_fits (k ∷ ks) js f e =
+    let o = or_false (is_in k ks) (repeated ks) e in
     let l = one_fewer k js (f k (rw (is_same k))) in
-    let ih = once-fits ks (drop_one k js)
-    (λ j h. still-in j k js (test (eqb j k) (λ a. never (rw (eqb-true j k a) at h) o.0) (λ a. a)) (f j (or_right (eqb j k) h))) o.1 in
+    let ih = once_fits ks (drop_one k js)
+    (λ j h. still_in j k js (test (eqb j k) (λ a. never (rw (eqb-true j k a) at h) o.0) (λ a. a)) (f j (or_right (eqb j k) h))) o.1 in
     omega arith
 
 -- ---- regions one behind the other, each a dependence of the one before
@@ -53,23 +53,23 @@ found p (x ∷ xs) e =
 
 module _ (rs : List Listed) where
   -- the first reaches all others
-  pub path-reaches : {a : ℕ} {ks : List ℕ} → Path rs (a ∷ ks) → (b n : ℕ) → is_in b ks ≡ true → length ks ≤ n → reaches_in n rs a b ≡ true
+  pub path_reaches : {a : ℕ} {ks : List ℕ} → Path rs (a ∷ ks) → (b n : ℕ) → is_in b ks ≡ true → length ks ≤ n → reaches_in n rs a b ≡ true
   unfolding reaches_in
-  path-reaches single b n e h = absurd (false≢true e)
-  path-reaches (longer d z q) b zero e h = absurd (omega arith)
-  path-reaches (longer {a = a} {k = k} {ks = ks} d z q) b (suc n) e h =
+  path_reaches single b n e h = absurd (false≢true e)
+  path_reaches (longer d z q) b zero e h = absurd (omega arith)
+  path_reaches (longer {a = a} {k = k} {ks = ks} d z q) b (suc n) e h =
       any_of (λ d. not (eqb d 0) && (eqb d b || reaches_in n rs d b)) (deps_of a rs) k d
       (rw z (test (eqb k b) (λ y. rw y)
-      (λ y. or_right (eqb k b) (path-reaches q b n (rw (ne_eqb b k (λ w. never (rw w (is_same k)) y)) at e) (omega arith)))))
+      (λ y. or_right (eqb k b) (path_reaches q b n (rw (ne_eqb b k (λ w. never (rw w (is_same k)) y)) at e) (omega arith)))))
 
   -- where one comes twice, it reaches itself
-  pub path-circles : {ks : List ℕ} (n : ℕ) → Path rs ks → repeated ks ≡ true → length ks ≤ suc n → Found (λ a. reaches_in n rs a a) ks
-  path-circles n single e h = absurd (false≢true e)
-  path-circles n (longer {a = a} {k = k} {ks = ks} d z q) e h =
+  pub path_circles : {ks : List ℕ} (n : ℕ) → Path rs ks → repeated ks ≡ true → length ks ≤ suc n → Found (λ a. reaches_in n rs a a) ks
+  path_circles n single e h = absurd (false≢true e)
+  path_circles n (longer {a = a} {k = k} {ks = ks} d z q) e h =
       ⊎_elim
-      (λ y. record { which = a; within = rw (is_same a); passes = path-reaches (longer d z q) a n y (omega arith) })
-      (λ y. let f = path-circles n q y (omega arith) in record { which = f.which; within = or_right (eqb f.which a) f.within; passes = f.passes })
-      (or-true (is_in a (k ∷ ks)) (repeated (k ∷ ks)) e)
+      (λ y. record { which = a; within = rw (is_same a); passes = path_reaches (longer d z q) a n y (omega arith) })
+      (λ y. let f = path_circles n q y (omega arith) in record { which = f.which; within = or_right (eqb f.which a) f.within; passes = f.passes })
+      (or_true (is_in a (k ∷ ks)) (repeated (k ∷ ks)) e)
 
   abbrev pub deps_in : ℕ → List ℕ
   deps_in k = deps_of k rs
@@ -91,7 +91,7 @@ module _ (rs : List Listed) where
         rest = [];
         steps = refl;
         path = single;
-        within = λ x e. rw (eqb-true x a (⊎_elim (λ y. y) (λ y. absurd (false≢true y)) (or-true (eqb x a) false e))) h;
+        within = λ x e. rw (eqb-true x a (⊎_elim (λ y. y) (λ y. absurd (false≢true y)) (or_true (eqb x a) false e))) h;
       }
   goes_on ks z f a h (suc n) =
       let i = goes_on ks z f a h n in
@@ -104,7 +104,7 @@ module _ (rs : List Listed) where
         steps = omega arith;
         path = longer g.passes (z i.start s) i.path;
         within = λ x e. ⊎_elim (λ y. rw (eqb-true x g.which y) g.within) (λ y. i.within x y)
-            (or-true (eqb x g.which) (is_in x (i.start ∷ i.rest)) e);
+            (or_true (eqb x g.which) (is_in x (i.start ∷ i.rest)) e);
       }
 
 -- ---- a list of regions without a circle
@@ -112,17 +112,17 @@ module _ (rs : List Listed) where
 abbrev pub keys_in : List Listed → List ℕ
 keys_in rs = map (λ r. r.key) rs
 
-no-circle : (rs qs : List Listed) (k : ℕ) → any (is_circle rs) qs ≡ false → is_in k (keys_in qs) ≡ true → reaches rs k k ≡ false
-no-circle rs [] k c e = absurd (false≢true e)
-no-circle rs (q ∷ qs) k c e =
-    let o = or-false (is_circle rs q) (any (is_circle rs) qs) c in
-    ⊎_elim (λ y. rw (eqb-true k q.key y) o.0) (λ y. no-circle rs qs k o.1 y) (or-true (eqb k q.key) (is_in k (keys_in qs)) e)
+no_circle : (rs qs : List Listed) (k : ℕ) → any (is_circle rs) qs ≡ false → is_in k (keys_in qs) ≡ true → reaches rs k k ≡ false
+no_circle rs [] k c e = absurd (false≢true e)
+no_circle rs (q ∷ qs) k c e =
+    let o = or_false (is_circle rs q) (any (is_circle rs) qs) c in
+    ⊎_elim (λ y. rw (eqb-true k q.key y) o.0) (λ y. no_circle rs qs k o.1 y) (or_true (eqb k q.key) (is_in k (keys_in qs)) e)
 
 module _ (rs : List Listed) (calm : any (is_circle rs) rs ≡ false) where
-  all-needed : (ks : List ℕ) → ltb (next_of (deps_in rs) ks) (length ks) ≡ false → (x : ℕ) → is_in x ks ≡ true → needed (deps_in rs) ks x ≡ true
-  all-needed ks q x h =
+  all_needed : (ks : List ℕ) → ltb (next_of (deps_in rs) ks) (length ks) ≡ false → (x : ℕ) → is_in x ks ≡ true → needed (deps_in rs) ks x ≡ true
+  all_needed ks q x h =
       test (needed (deps_in rs) ks x) (λ a. a)
-      (λ a. let lt = place-lt (λ k. not (needed (deps_in rs) ks k)) ks (any_of (λ k. not (needed (deps_in rs) ks k)) ks x h (rw a)) in
+      (λ a. let lt = place_lt (λ k. not (needed (deps_in rs) ks k)) ks (any_of (λ k. not (needed (deps_in rs) ks k)) ks x h (rw a)) in
       let ge = ltb-false (next_of (deps_in rs) ks) (length ks) q in
       absurd (omega arith))
 
@@ -131,11 +131,11 @@ module _ (rs : List Listed) (calm : any (is_circle rs) rs ≡ false) where
   unfolding reaches
   not_stuck ks a r f h q =
       let n = length rs in
-      let i = goes_on rs ks (λ x e. ne_eqb x 0 (λ w. omega (arith, rises-above r x e))) (all-needed ks q) a h n in
+      let i = goes_on rs ks (λ x e. ne_eqb x 0 (λ w. omega (arith, rises_above r x e))) (all_needed ks q) a h n in
       let l = i.steps in
       let m = length-map rs (λ (r : Listed). r.key) in
       let again : repeated (i.start ∷ i.rest) ≡ true
       = test (repeated (i.start ∷ i.rest)) (λ y. y)
-      (λ y. let z = once-fits (i.start ∷ i.rest) (keys_in rs) (λ x e. f x (i.within x e)) y in absurd (omega arith)) in
-      let c = path-circles rs n i.path again (omega arith) in
-      never {b = reaches_in n rs c.which c.which} c.passes (no-circle rs rs c.which calm (f c.which (i.within c.which c.within)))
+      (λ y. let z = once_fits (i.start ∷ i.rest) (keys_in rs) (λ x e. f x (i.within x e)) y in absurd (omega arith)) in
+      let c = path_circles rs n i.path again (omega arith) in
+      never {b = reaches_in n rs c.which c.which} c.passes (no_circle rs rs c.which calm (f c.which (i.within c.which c.within)))

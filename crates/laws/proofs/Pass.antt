@@ -9,19 +9,19 @@ use lib.Seq.{get_or-set_other, get_or-set_same}
 use native.Mathlib.Nat.{zero-add}
 use native.Mathlib.Omega.{arith}
 use borrow.Author.Tests.{eqb-false}
-use Rattle.laws.proofs.Flights.{one-slot}
+use Rattle.laws.proofs.Flights.{one_slot}
 use Rattle.laws.proofs.Masks.{none_first}
 use Rattle.laws.proofs.Reserves.{answered, says}
 use Rattle.laws.specs.Laws.{slot_is}
 use Rattle.laws.specs.Pass.{ByPass, CountedAt, PassTells, by_two, counts_given, is_free, is_of_line, slot_given, slots_of}
-use Rattle.rules.proofs.Lists.{get_or-map, or-none, place-lt}
-use Rattle.rules.proofs.Places.{entry_at, listed-stored, region-stored}
-use Rattle.rules.proofs.Sim.Access.{current-open}
+use Rattle.rules.proofs.Lists.{get_or_map, or_none, place_lt}
+use Rattle.rules.proofs.Places.{entry_at, listed_stored, region_stored}
+use Rattle.rules.proofs.Sim.Access.{current_open}
 use Rattle.rules.proofs.Sim.All.{every}
-use Rattle.rules.proofs.Sim.Parts.{open-listed}
+use Rattle.rules.proofs.Sim.Parts.{open_listed}
 use Rattle.rules.proofs.Sim.State.{Simulated, by}
 use Rattle.rules.proofs.Sim.Looks.{reach}
-use Rattle.rules.proofs.SlotWrites.{search-free, search-named}
+use Rattle.rules.proofs.SlotWrites.{search_free, search_named}
 use Rattle.rules.proofs.Tests.{passed}
 use Rattle.rules.specs.Access.{logged, needs_log, stored, stored_in, write, wrote}
 use Rattle.rules.specs.Flight.{flown}
@@ -47,20 +47,20 @@ use Rattle.undo.specs.Table.{any}
 by_two_lem : (l : ℕ) (ss : List Slot) → slot_for l ss ≡ by_two l ss
 by_two_lem l ss =
     test (any (is_of_line l) ss)
-    (λ e. rw e (search-named l Full 0 ss e ∙ ap At (zero-add _)))
-    (λ e. rw e (search-free l 0 ss e ∙ test (any is_free ss) (λ f. rw f (ap At (zero-add _))) (λ f. rw f)))
+    (λ e. rw e (search_named l Full 0 ss e ∙ ap At (zero-add _)))
+    (λ e. rw e (search_free l 0 ss e ∙ test (any is_free ss) (λ f. rw f (ap At (zero-add _))) (λ f. rw f)))
 
-is-full : (f : Found) → is_full f ≡ true → f ≡ Full
-is-full (At k) e = absurd (false≢true e)
-is-full Full e = refl
+is_full_lem : (f : Found) → is_full f ≡ true → f ≡ Full
+is_full_lem (At k) e = absurd (false≢true e)
+is_full_lem Full e = refl
 
 -- a slot found is one of the slots
 found_below : (l j : ℕ) (ss : List Slot) → slot_for l ss ≡ At j → j < length ss
 found_below l j ss e =
     test (any (is_of_line l) ss)
-    (λ d. at (place-lt (is_of_line l) ss d) (sym (search-named l Full 0 ss d ∙ ap At (zero-add _)) ∙ e))
+    (λ d. at (place_lt (is_of_line l) ss d) (sym (search_named l Full 0 ss d ∙ ap At (zero-add _)) ∙ e))
     (λ d. test (any is_free ss)
-    (λ f. at (place-lt is_free ss f) (rw (d, f) at (sym (by_two_lem l ss) ∙ e)))
+    (λ f. at (place_lt is_free ss f) (rw (d, f) at (sym (by_two_lem l ss) ∙ e)))
     (λ f. absurd (true≢false (ap is_full (rw (d, f) at (sym (by_two_lem l ss) ∙ e))))))
   where
     at : {i : ℕ} → i < length ss → At i ≡ At j → j < length ss
@@ -76,27 +76,27 @@ module _ (ts : Tables) (t l w mask v : ℕ) where
   unfolding refusal tests_of
   none_left e =
       let z : (is_full slot || false) ≡ true = says 20 (tests_of ts (Write t l w mask v)) (λ n. omega arith) e in
-      is-full slot (sym (or-none (is_full slot)) ∙ z)
+      is_full_lem slot (sym (or_none (is_full slot)) ∙ z)
 
   -- where there is none, no test behind 20 is asked
-  not-unlogged : slot ≡ Full → refusal ts (Write t l w mask v) ≢ 21
+  not_unlogged : slot ≡ Full → refusal ts (Write t l w mask v) ≢ 21
   unfolding refusal tests_of
-  not-unlogged f e =
+  not_unlogged f e =
       let z : refusal ts (Write t l w mask v) ≡ first_bad (take 12 (tests_of ts (Write t l w mask v))) = rw f in
       eqb-false (first_bad (take 12 (tests_of ts (Write t l w mask v)))) 21
-      (sym (or-none _) ∙ none_first (21 ∷ []) (take 12 (tests_of ts (Write t l w mask v))) refl refl)
+      (sym (or_none _) ∙ none_first (21 ∷ []) (take 12 (tests_of ts (Write t l w mask v))) refl refl)
       (sym z ∙ e)
 
-  not-accepted : slot ≡ Full → refusal ts (Write t l w mask v) ≢ 0
+  not_accepted : slot ≡ Full → refusal ts (Write t l w mask v) ≢ 0
   unfolding tests_of
-  not-accepted f e = true≢false (sym (ap is_full f) ∙ passed ts (Write t l w mask v) e 20)
+  not_accepted f e = true≢false (sym (ap is_full f) ∙ passed ts (Write t l w mask v) e 20)
 
 -- ---- the slots after an accepted write
 
-flown-slots : (k : ℕ) (b : Board) → listed k b.tables.regions ≡ true
+flown_slots_lem : (k : ℕ) (b : Board) → listed k b.tables.regions ≡ true
     → slots_of k (flown k b) ≡ flown_slots b.tables.lock (region_at k b.tables.regions).ended (slots_of k b)
 unfolding flown
-flown-slots k b in' = ap (λ (x : Region). x.slots) here
+flown_slots_lem k b in' = ap (λ (x : Region). x.slots) here
   where
     rs : List Region
     rs = b.tables.regions
@@ -105,7 +105,7 @@ flown-slots k b in' = ap (λ (x : Region). x.slots) here
     r = with_slots (flown_slots b.tables.lock (region_at k rs).ended (slots_of k b)) (region_at k rs)
 
     here : region_at k (set rs (place_of k rs) r) ≡ r
-    here = region-stored k rs r in' (entry_at k rs in') k ∙ rw (is_same k)
+    here = region_stored k rs r in' (entry_at k rs in') k ∙ rw (is_same k)
 
 module _ (t l : ℕ) (f : List ℕ → List ℕ) (b : Board) (in' : listed (current t b.tables) b.tables.regions ≡ true) where
   abbrev k : ℕ
@@ -122,28 +122,28 @@ module _ (t l : ℕ) (f : List ℕ → List ℕ) (b : Board) (in' : listed (curr
   placed = entry_at k rs in'
 
   stored_at : region_at k (set rs (place_of k rs) r') ≡ r'
-  stored_at = region-stored k rs r' in' placed k ∙ rw (is_same k)
+  stored_at = region_stored k rs r' in' placed k ∙ rw (is_same k)
 
-  still-in : listed k (set rs (place_of k rs) r') ≡ true
-  still-in = listed-stored k rs r' in' placed k ∙ in'
+  still_in : listed k (set rs (place_of k rs) r') ≡ true
+  still_in = listed_stored k rs r' in' placed k ∙ in'
 
   abbrev slots' : List Slot
   slots' = written (renewed l (region_at k rs).recent) l (slots_of k b)
 
-  flown-wrote : (b' : Board) → b'.tables.regions ≡ set rs (place_of k rs) r' → (region_at k rs).ended ≡ false
+  flown_wrote : (b' : Board) → b'.tables.regions ≡ set rs (place_of k rs) r' → (region_at k rs).ended ≡ false
       → slots_of k (flown k b') ≡ flown_slots b'.tables.lock false slots'
   unfolding wrote
-  flown-wrote b' e going =
-      flown-slots k b' (rw e still-in)
+  flown_wrote b' e going =
+      flown_slots_lem k b' (rw e still_in)
       ∙ ap (λ (x : Region). flown_slots b'.tables.lock x.ended x.slots) (ap (region_at k) e ∙ stored_at)
       ∙ ap (λ x. flown_slots b'.tables.lock x slots') going
 
-  write-slots : (region_at k rs).ended ≡ false → slots_of k (write t l f b) ≡ flown_slots (write t l f b).tables.lock false slots'
+  write_slots : (region_at k rs).ended ≡ false → slots_of k (write t l f b) ≡ flown_slots (write t l f b).tables.lock false slots'
   unfolding write stored logged flown
-  write-slots going =
+  write_slots going =
       test (needs_log k l b.tables)
-      (λ d. rw d (flown-wrote (stored k r' l f (logged t k l b)) refl going))
-      (λ d. rw d (flown-wrote (stored k r' l f b) refl going))
+      (λ d. rw d (flown_wrote (stored k r' l f (logged t k l b)) refl going))
+      (λ d. rw d (flown_wrote (stored k r' l f b) refl going))
 
   module _ (going : (region_at k rs).ended ≡ false) (j : ℕ) (e : slot_given k l b ≡ At j) where
     abbrev waiting : Slot
@@ -154,17 +154,17 @@ module _ (t l : ℕ) (f : List ℕ → List ℕ) (b : Board) (in' : listed (curr
     taken = rw e
 
     -- the slot at place i
-    slot-after : (i : ℕ) → get_or (slots_of k (write t l f b)) i no_slot ≡ flown_slot (write t l f b).tables.lock false (get_or (set (counts_given k l b) j waiting) i no_slot)
+    slot_after : (i : ℕ) → get_or (slots_of k (write t l f b)) i no_slot ≡ flown_slot (write t l f b).tables.lock false (get_or (set (counts_given k l b) j waiting) i no_slot)
     unfolding flown_slots
-    slot-after i =
-        ap (λ ss. get_or ss i no_slot) (write-slots going ∙ ap (flown_slots (write t l f b).tables.lock false) taken)
-        ∙ get_or-map (flown_slot (write t l f b).tables.lock false) (set (counts_given k l b) j waiting) i no_slot no_slot refl
+    slot_after i =
+        ap (λ ss. get_or ss i no_slot) (write_slots going ∙ ap (flown_slots (write t l f b).tables.lock false) taken)
+        ∙ get_or_map (flown_slot (write t l f b).tables.lock false) (set (counts_given k l b) j waiting) i no_slot no_slot refl
 
-    found-waits : get_or (slots_of k (write t l f b)) j no_slot ≡ waiting
-    found-waits = slot-after j ∙ rw (get_or-set_same (counts_given k l b) j waiting no_slot (rw (length-map (slots_of k b) (counted_slot (renewed l (region_at k rs).recent))) (found_below l j (slots_of k b) e)))
+    found_waits : get_or (slots_of k (write t l f b)) j no_slot ≡ waiting
+    found_waits = slot_after j ∙ rw (get_or-set_same (counts_given k l b) j waiting no_slot (rw (length-map (slots_of k b) (counted_slot (renewed l (region_at k rs).recent))) (found_below l j (slots_of k b) e)))
 
-    others-count : (i : ℕ) → i ≢ j → CountedAt k l i b (write t l f b)
-    others-count i n = slot-after i ∙ rw (get_or-set_other (counts_given k l b) j i waiting no_slot n)
+    others_count : (i : ℕ) → i ≢ j → CountedAt k l i b (write t l f b)
+    others_count i n = slot_after i ∙ rw (get_or-set_other (counts_given k l b) j i waiting no_slot n)
 
 -- ---- the law
 
@@ -174,14 +174,14 @@ stepped : (b : Board) (r : List ℕ) (t l w mask v : ℕ) → read_record r ≡ 
 unfolding step step_event step_by apply
 stepped b r t l w mask v q e = rw (q, e)
 
-by-pass : {m : Memory} {b : Board} {es : List Account} (r : List ℕ) (t l w mask v : ℕ) → Simulated m b es → read_record r ≡ Whole (Write t l w mask v)
+by_pass : {m : Memory} {b : Board} {es : List Account} (r : List ℕ) (t l w mask v : ℕ) → Simulated m b es → read_record r ≡ Whole (Write t l w mask v)
     → ByPass (current t b.tables) l (step b r).answer.refusal b (step b r).board
 unfolding tests_of
-by-pass {m} {b} {es} r t l w mask v (by s h x sim) q =
+by_pass {m} {b} {es} r t l w mask v (by s h x sim) q =
     record {
-      none = λ e. none_left ts t l w mask v (says-it e);
-      full = λ f. (λ e. not-accepted ts t l w mask v f (says-it e), λ e. not-unlogged ts t l w mask v f (says-it e));
-      found = λ e j g. rw (stepped b r t l w mask v q (says-it e)) (found-waits t l change b (in' (says-it e)) (going (says-it e)) j g);
+      none = λ e. none_left ts t l w mask v (says_it e);
+      full = λ f. (λ e. not_accepted ts t l w mask v f (says_it e), λ e. not_unlogged ts t l w mask v f (says_it e));
+      found = λ e j g. rw (stepped b r t l w mask v q (says_it e)) (found_waits t l change b (in' (says_it e)) (going (says_it e)) j g);
       before = λ e i j g n. other e i j g (λ z. omega arith);
       behind = λ e i j g n. other e i j g (λ z. omega arith);
     }
@@ -192,30 +192,30 @@ by-pass {m} {b} {es} r t l w mask v (by s h x sim) q =
     change : List ℕ → List ℕ
     change = stored_in w mask v
 
-    says-it : {n : ℕ} → (step b r).answer.refusal ≡ n → refusal ts (Write t l w mask v) ≡ n
-    says-it e = sym (answered b r (Write t l w mask v) q) ∙ e
+    says_it : {n : ℕ} → (step b r).answer.refusal ≡ n → refusal ts (Write t l w mask v) ≡ n
+    says_it e = sym (answered b r (Write t l w mask v) q) ∙ e
 
     deep : refusal ts (Write t l w mask v) ≡ 0 → depth_of t ts ≢ 0
     deep e = eqb-false (depth_of t ts) 0 (passed ts (Write t l w mask v) e 12)
 
     in' : refusal ts (Write t l w mask v) ≡ 0 → listed (current t ts) ts.regions ≡ true
-    in' e = open-listed (reach x) sim (current t ts) (current-open t l (reach x) sim (deep e))
+    in' e = open_listed (reach x) sim (current t ts) (current_open t l (reach x) sim (deep e))
 
     going : refusal ts (Write t l w mask v) ≡ 0 → (region_at (current t ts) ts.regions).ended ≡ false
-    going e = sim.ended (current t ts) (in' e) ∙ (current-open t l (reach x) sim (deep e)).goes_on
+    going e = sim.ended (current t ts) (in' e) ∙ (current_open t l (reach x) sim (deep e)).goes_on
 
     other : (step b r).answer.refusal ≡ 0 → (i j : ℕ) → slot_given (current t ts) l b ≡ At j → i ≢ j → CountedAt (current t ts) l i b (step b r).board
     other e i j g n =
-        rw (stepped b r t l w mask v q (says-it e)) (others-count t l change b (in' (says-it e)) (going (says-it e)) j g i n)
+        rw (stepped b r t l w mask v q (says_it e)) (others_count t l change b (in' (says_it e)) (going (says_it e)) j g i n)
 
 apart : {m : Memory} {b : Board} {es : List Account} → Simulated m b es → (i p q : ℕ) → is_free (slot_is i p b) ≡ false → is_free (slot_is i q b) ≡ false
     → (slot_is i p b).line ≡ (slot_is i q b).line → p ≡ q
-apart (by s h x sim) i p q = one-slot (sim.shape.regions.good i).distinct p q
+apart (by s h x sim) i p q = one_slot (sim.shape.regions.good i).distinct p q
 
-pub pass-tells : PassTells
-pass-tells =
+pub pass_tells : PassTells
+pass_tells =
     record {
       slot = by_two_lem;
-      always = λ m rs bm br r t l w mask v. by-pass r t l w mask v (every m rs bm).simulated;
+      always = λ m rs bm br r t l w mask v. by_pass r t l w mask v (every m rs bm).simulated;
       one = λ m rs bm br. apart (every m rs bm).simulated;
     }

@@ -7,13 +7,13 @@ use lib.Dec.{eqb, leb}
 use lib.ListN.{drop, get_or, length, length-drop, length-map}
 use native.Mathlib.Omega.{arith}
 use borrow.Author.Tests.{eqb-false, eqb-true, le-leb, lt-leb}
-use Rattle.laws.proofs.Answers.{refuses-well}
+use Rattle.laws.proofs.Answers.{refuses_well}
 use Rattle.laws.proofs.Circles.{keys_in}
-use Rattle.laws.proofs.Whole.{all-counted, by-keys, keys-rise, walk-counted}
+use Rattle.laws.proofs.Whole.{all_counted, by_keys, keys_rise, walk_counted}
 use Rattle.laws.specs.Images.{FinishedLast, WalkWhole, is_entry, is_image_refusal, logged_is}
-use Rattle.rules.proofs.Codec.Image.{read-records, read-valid}
+use Rattle.rules.proofs.Codec.Image.{read_records, read_valid}
 use Rattle.rules.proofs.Codec.Refusals.{refuses_by}
-use Rattle.rules.proofs.Recover.Entries.{entries-read}
+use Rattle.rules.proofs.Recover.Entries.{entries_read}
 use Rattle.rules.proofs.Codec.Valid.{Valid}
 use Rattle.rules.proofs.Lists.{any_none}
 use Rattle.rules.specs.Claim.{entries_in, is_byte}
@@ -24,7 +24,7 @@ use Rattle.rules.specs.Lists.{all, count}
 use Rattle.rules.specs.Reader.{Reads, Refuses, Verdict, read_image}
 use Rattle.rules.specs.Recovery.{Recovering, is_finished, restore, restore_by, restore_read}
 use Rattle.rules.specs.Walk.{entries_from, walk, walk_entries, walk_from}
-use Rattle.undo.proofs.Laws.{and-true, is_same, never, or-false, test}
+use Rattle.undo.proofs.Laws.{and_true, is_same, never, or_false, test}
 use Rattle.undo.specs.Table.{any}
 
 -- ---- what is not in contradiction
@@ -39,78 +39,78 @@ calm : (p : Persistent) → contradicts p ≡ false → Calm p
 unfolding contradicts
 calm p e =
     let rs = p.regions in
-    let a = or-false (any is_unnumbered rs) _ e in
-    let b = or-false (any is_unknown_state rs) _ a.1 in
-    let c = or-false (any (λ r. not (in_order r.deps)) rs) _ b.1 in
-    let d = or-false (any (λ r. any (is_astray rs) r.deps) rs) _ c.1 in
-    let f = or-false (any (λ e. not (is_listed e.key rs)) p.log) _ d.1 in
-    let g = or-false (any_broken rs) _ f.1 in
-    let h = or-false (any (is_circle rs) rs) _ g.1 in
-    let i = or-false (any is_left_over rs) (any_clash rs p.log) h.1 in
+    let a = or_false (any is_unnumbered rs) _ e in
+    let b = or_false (any is_unknown_state rs) _ a.1 in
+    let c = or_false (any (λ r. not (in_order r.deps)) rs) _ b.1 in
+    let d = or_false (any (λ r. any (is_astray rs) r.deps) rs) _ c.1 in
+    let f = or_false (any (λ e. not (is_listed e.key rs)) p.log) _ d.1 in
+    let g = or_false (any_broken rs) _ f.1 in
+    let h = or_false (any (is_circle rs) rs) _ g.1 in
+    let i = or_false (any is_left_over rs) (any_clash rs p.log) h.1 in
     record { numbered = a.0; entries = f.0; circles = h.0; clashes = i.1 }
 
 -- ---- the walk
 
 module _ (p : Persistent) (v : Valid p) (c : Calm p) where
-  pub walk-whole : (f : Logged → Bool) → count f (walk_entries p) ≡ count f p.log
+  pub walk_whole : (f : Logged → Bool) → count f (walk_entries p) ≡ count f p.log
   unfolding walk_entries walk
-  walk-whole f =
+  walk_whole f =
       let rs = p.regions in
       let es = p.log in
-      let k = by-keys rs v.rising in
+      let k = by_keys rs v.rising in
       let l = length-map rs (λ (r : Listed). r.key) in
       ap (λ qs. count f (entries_from es (walk_from (length rs) qs))) (sym k)
-      ∙ walk-counted rs c.circles es f (length rs) (keys_in rs) (keys-rise rs c.numbered v.rising) (omega arith) (λ x e. e)
-      ∙ all-counted es f rs c.entries
+      ∙ walk_counted rs c.circles es f (length rs) (keys_in rs) (keys_rise rs c.numbered v.rising) (omega arith) (λ x e. e)
+      ∙ all_counted es f rs c.entries
 
 -- ---- each entry is another one
 
-same-clash : (rs : List Listed) (a b : Logged) → is_entry b a ≡ true → clash rs a b ≡ true
-same-clash rs a b e =
-    let x = and-true (eqb b.key a.key) (eqb b.line a.line) e in
+same_clash : (rs : List Listed) (a b : Logged) → is_entry b a ≡ true → clash rs a b ≡ true
+same_clash rs a b e =
+    let x = and_true (eqb b.key a.key) (eqb b.line a.line) e in
     rw (eqb-true b.key a.key x.0, eqb-true b.line a.line x.1, is_same a.key, is_same a.line)
 
-clash-same : (rs : List Listed) (a b : Logged) → is_entry a b ≡ true → clash rs a b ≡ true
-clash-same rs a b e =
-    let x = and-true (eqb a.key b.key) (eqb a.line b.line) e in
+clash_same : (rs : List Listed) (a b : Logged) → is_entry a b ≡ true → clash rs a b ≡ true
+clash_same rs a b e =
+    let x = and_true (eqb a.key b.key) (eqb a.line b.line) e in
     rw (eqb-true a.key b.key x.0, eqb-true a.line b.line x.1, is_same b.key, is_same b.line)
 
-none-same : (rs : List Listed) (e : Logged) (es : List Logged) → any (clash rs e) es ≡ false → count (is_entry e) es ≡ 0
+none_same : (rs : List Listed) (e : Logged) (es : List Logged) → any (clash rs e) es ≡ false → count (is_entry e) es ≡ 0
 unfolding count
-none-same rs e [] n = refl
-none-same rs e (x ∷ es) n =
-    let o = or-false (clash rs e x) (any (clash rs e) es) n in
-    test (is_entry e x) (λ a. never (clash-same rs e x a) o.0) (λ a. rw a (none-same rs e es o.1))
+none_same rs e [] n = refl
+none_same rs e (x ∷ es) n =
+    let o = or_false (clash rs e x) (any (clash rs e) es) n in
+    test (is_entry e x) (λ a. never (clash_same rs e x a) o.0) (λ a. rw a (none_same rs e es o.1))
 
-counted-once : (rs : List Listed) (es : List Logged) (i : ℕ) (d : Logged) → any_clash rs es ≡ false → i < length es → count (is_entry (get_or es i d)) es ≡ 1
+counted_once : (rs : List Listed) (es : List Logged) (i : ℕ) (d : Logged) → any_clash rs es ≡ false → i < length es → count (is_entry (get_or es i d)) es ≡ 1
 unfolding any_clash count
-counted-once rs [] i d n h = absurd (omega arith)
-counted-once rs (e ∷ es) zero d n h =
-    let o = or-false (any (clash rs e) es) (any_clash rs es) n in
-    rw (is_same e.key, is_same e.line) (ap suc (none-same rs e es o.0))
-counted-once rs (e ∷ es) (suc i) d n h =
-    let o = or-false (any (clash rs e) es) (any_clash rs es) n in
+counted_once rs [] i d n h = absurd (omega arith)
+counted_once rs (e ∷ es) zero d n h =
+    let o = or_false (any (clash rs e) es) (any_clash rs es) n in
+    rw (is_same e.key, is_same e.line) (ap suc (none_same rs e es o.0))
+counted_once rs (e ∷ es) (suc i) d n h =
+    let o = or_false (any (clash rs e) es) (any_clash rs es) n in
     let x = get_or es i d in
     let l : i < length es = omega arith in
     test (is_entry x e)
-    (λ a. never (same-clash rs e x a) (any_none (clash rs e) es i d o.0 l))
-    (λ a. rw a (counted-once rs es i d o.1 l))
+    (λ a. never (same_clash rs e x a) (any_none (clash rs e) es i d o.0 l))
+    (λ a. rw a (counted_once rs es i d o.1 l))
 
-pub walk-is-whole : WalkWhole
-walk-is-whole bs p y e =
-    let v = read-valid bs p y e in
-    let c = calm p (read-records bs p e).1 in
+pub walk_is_whole : WalkWhole
+walk_is_whole bs p y e =
+    let v = read_valid bs p y e in
+    let c = calm p (read_records bs p e).1 in
     record {
-      whole = walk-whole p v c;
-      once = λ i h. walk-whole p v c (is_entry (logged_is i p)) ∙ counted-once p.regions p.log i no_logged c.clashes h;
+      whole = walk_whole p v c;
+      once = λ i h. walk_whole p v c (is_entry (logged_is i p)) ∙ counted_once p.regions p.log i no_logged c.clashes h;
     }
 
 -- ---- 'finished'
 
-count-length : {A : Type 0} (xs : List A) → count (λ x. true) xs ≡ length xs
+count_length : {A : Type 0} (xs : List A) → count (λ x. true) xs ≡ length xs
 unfolding count
-count-length [] = refl
-count-length (x ∷ xs) = ap suc (count-length xs)
+count_length [] = refl
+count_length (x ∷ xs) = ap suc (count_length xs)
 
 module _ (bs : List ℕ) (n : ℕ) (y : all is_byte bs ≡ true) where
   abbrev asked : Recovering
@@ -129,14 +129,14 @@ module _ (bs : List ℕ) (n : ℕ) (y : all is_byte bs ≡ true) where
       (λ a. let w = eqb-true (length fs) 0 a in rw a (sym (le-leb (entries_in 0 bs) (n + 1) (omega arith))))
       (λ a. let w = eqb-false (length fs) 0 a in rw a (sym (lt-leb (entries_in 0 bs) (n + 1) (omega arith))))
 
-  by-verdict : (v : Verdict Persistent) → read_image bs ≡ v → refuses_by is_image_refusal v ≡ true → (restore_read v asked).answer.refusal ≡ 0
+  by_verdict : (v : Verdict Persistent) → read_image bs ≡ v → refuses_by is_image_refusal v ≡ true → (restore_read v asked).answer.refusal ≡ 0
       → is_finished (restore_read v asked).answer ≡ leb (entries_in 0 bs) (n + 1)
-  by-verdict (Refuses c) e g z = let x : false ≡ true = rw z at g in never x refl
-  by-verdict (Reads p) e g z =
-      let w = (walk-is-whole bs p y e).whole (λ x. true) in
+  by_verdict (Refuses c) e g z = let x : false ≡ true = rw z at g in never x refl
+  by_verdict (Reads p) e g z =
+      let w = (walk_is_whole bs p y e).whole (λ x. true) in
       left_over (walk_entries p) (drop n (walk_entries p)) refl
-      (sym (count-length (walk_entries p)) ∙ w ∙ count-length p.log ∙ entries-read bs p (read-records bs p e).0)
+      (sym (count_length (walk_entries p)) ∙ w ∙ count_length p.log ∙ entries_read bs p (read_records bs p e).0)
 
-pub finished-is-last : FinishedLast
+pub finished_is_last : FinishedLast
 unfolding restore
-finished-is-last bs n y z = by-verdict bs n y (read_image bs) refl (refuses-well bs) z
+finished_is_last bs n y z = by_verdict bs n y (read_image bs) refl (refuses_well bs) z

@@ -9,27 +9,27 @@ use native.Mathlib.Numerals.{add-one}
 use borrow.Author.Tests.{ltb-true}
 use lib.Seq.{drop_at, drop-cons, drop-drop, get_or-drop, sets, take_at}
 use native.Mathlib.Nat.{add_assoc, add-suc, add-zero}
-use Rattle.lines.proofs.Paste.{rest, sets-join}
+use Rattle.lines.proofs.Paste.{rest, sets_join}
 use Rattle.rules.specs.Bytes.{bytes_of, num_of, words_bytes, words_of}
 use Rattle.rules.specs.Claim.{is_byte}
 use Rattle.rules.specs.Lists.{all}
-use Rattle.rules.proofs.Codec.Bytes.{length-bytes, num-bytes}
+use Rattle.rules.proofs.Codec.Bytes.{length_bytes, num_bytes}
 
 -- words that fit their eight bytes
 pub data Words : ℕ → List ℕ → Type 0 where
-  no-word : Words 0 []
+  no_word : Words 0 []
   a_word : {w n : ℕ} {ws : List ℕ} → w < 256 ^ 8 → Words n ws → Words (suc n) (w ∷ ws)
 
 -- words come back out of their bytes
 pub words_back : {n : ℕ} {ws : List ℕ} → Words n ws → (rest : List ℕ) → words_of n (words_bytes n ws ++ rest) ≡ ws
 unfolding words_bytes words_of
-words_back no-word rest = refl
+words_back no_word rest = refl
 words_back (a_word {w} {n} {ws} h hs) rest =
     rw (
       append_assoc (bytes_of 8 w) (words_bytes n ws) rest,
-      take_at (bytes_of 8 w) (words_bytes n ws ++ rest) 8 (length-bytes 8 w),
-      drop_at (bytes_of 8 w) (words_bytes n ws ++ rest) 8 (length-bytes 8 w),
-      num-bytes 8 w h,
+      take_at (bytes_of 8 w) (words_bytes n ws ++ rest) 8 (length_bytes 8 w),
+      drop_at (bytes_of 8 w) (words_bytes n ws ++ rest) 8 (length_bytes 8 w),
+      num_bytes 8 w h,
       words_back hs rest,
     )
 
@@ -43,18 +43,18 @@ both : (p q : Bool) → p && q ≡ true → (p ≡ true) × (q ≡ true)
 both true q e = (refl, e)
 both false q e = absurd (false≢true e)
 
-pub all-bytes : (bs : List ℕ) → all is_byte bs ≡ true → Bytes bs
-all-bytes [] e = no_byte
-all-bytes (b ∷ bs) e = let h = both (is_byte b) (all is_byte bs) e in a_byte (ltb-true b 256 h.0) (all-bytes bs h.1)
+pub all_bytes : (bs : List ℕ) → all is_byte bs ≡ true → Bytes bs
+all_bytes [] e = no_byte
+all_bytes (b ∷ bs) e = let h = both (is_byte b) (all is_byte bs) e in a_byte (ltb-true b 256 h.0) (all_bytes bs h.1)
 
 -- and bytes out of the number that they hold
-pub bytes-num : {bs : List ℕ} → Bytes bs → bytes_of (length bs) (num_of bs) ≡ bs
+pub bytes_num : {bs : List ℕ} → Bytes bs → bytes_of (length bs) (num_of bs) ≡ bs
 unfolding bytes_of num_of
-bytes-num no_byte = refl
-bytes-num (a_byte {b} {bs} h hs) =
+bytes_num no_byte = refl
+bytes_num (a_byte {b} {bs} h hs) =
     let m : (b + 256 * num_of bs) % 256 ≡ b = omega arith in
     let d : (b + 256 * num_of bs) / 256 ≡ num_of bs = omega arith in
-    rw (m, d, bytes-num hs)
+    rw (m, d, bytes_num hs)
 
 -- one more byte of a number of n bytes
 pub word_more : (d : List ℕ) (at n k x : ℕ) → k < n → sets d (at + k) (bytes_of (n - k) x) ≡ sets (set d (at + k) (x % 256)) (at + (k + 1)) (bytes_of (n - (k + 1)) (x / 256))
@@ -66,23 +66,23 @@ unfolding bytes_of
 word_end d at n k x h = let e : n - k ≡ 0 = omega arith in rw e
 
 -- the number in the bytes from i on: the first byte and the rest
-pub num-cons : (s : List ℕ) (i k : ℕ) → i < length s → num_of (take (suc k) (drop i s)) ≡ get_or s i 0 + 256 * num_of (take k (drop (suc i) s))
+pub num_cons : (s : List ℕ) (i k : ℕ) → i < length s → num_of (take (suc k) (drop i s)) ≡ get_or s i 0 + 256 * num_of (take k (drop (suc i) s))
 unfolding num_of
-num-cons s i k h = rw (drop-cons s i 0 h)
+num_cons s i k h = rw (drop-cons s i 0 h)
 
 next : (s : List ℕ) (at j k : ℕ) → at + j < length s → num_of (take (suc k) (drop (at + j) s)) ≡ get_or s (at + j) 0 + 256 * num_of (take k (drop (at + suc j) s))
-next s at j k h = rw (add-suc at j) (num-cons s (at + j) k h)
+next s at j k h = rw (add-suc at j) (num_cons s (at + j) k h)
 
-pub num-two : (s : List ℕ) (at : ℕ) → at + 2 ≤ length s → num_of (take 2 (drop at s)) ≡ get_or s at 0 + 256 * get_or s (at + 1) 0
+pub num_two : (s : List ℕ) (at : ℕ) → at + 2 ≤ length s → num_of (take 2 (drop at s)) ≡ get_or s at 0 + 256 * get_or s (at + 1) 0
 unfolding num_of
-num-two s at h = rw (num-cons s at 1 (omega arith), ← add-one at, next s at 1 0 (omega arith)) (omega arith)
+num_two s at h = rw (num_cons s at 1 (omega arith), ← add-one at, next s at 1 0 (omega arith)) (omega arith)
 
-pub num-eight : (s : List ℕ) (at : ℕ) → at + 8 ≤ length s → num_of (take 8 (drop at s))
+pub num_eight : (s : List ℕ) (at : ℕ) → at + 8 ≤ length s → num_of (take 8 (drop at s))
     ≡ get_or s at 0 + 256 * (get_or s (at + 1) 0 + 256 * (get_or s (at + 2) 0 + 256 * (get_or s (at + 3) 0 + 256 * (get_or s (at + 4) 0 + 256 * (get_or s (at + 5) 0 + 256 * (get_or s (at + 6) 0 + 256 * (get_or s (at + 7) 0)))))))
 unfolding num_of
-num-eight s at h =
+num_eight s at h =
     rw (
-      num-cons s at 7 (omega arith),
+      num_cons s at 7 (omega arith),
       ← add-one at,
       next s at 1 6 (omega arith),
       next s at 2 5 (omega arith),
@@ -95,18 +95,18 @@ num-eight s at h =
     (omega arith)
 
 -- one more word of n
-pub line-more : (d : List ℕ) (n w : ℕ) (line : List ℕ) → w < n
+pub line_more : (d : List ℕ) (n w : ℕ) (line : List ℕ) → w < n
     → sets d (8 * w) (words_bytes (n - w) (drop w line)) ≡ sets (sets d (8 * w) (bytes_of 8 (get_or line w 0))) (8 * (w + 1)) (words_bytes (n - (w + 1)) (drop (w + 1) line))
 unfolding words_bytes
-line-more d n w line h =
+line_more d n w line h =
     let x = bytes_of 8 (get_or line w 0) in
-    let e : 8 * w + length x ≡ 8 * (w + 1) = rw (length-bytes 8 (get_or line w 0)) (omega arith) in
+    let e : 8 * w + length x ≡ 8 * (w + 1) = rw (length_bytes 8 (get_or line w 0)) (omega arith) in
     let f : n - w ≡ suc (n - (w + 1)) = omega arith in
-    rw (f, get_or-drop w line 0 0, add-zero w, drop-drop 1 w line, sets-join d (8 * w) x (words_bytes (n - (w + 1)) (drop (w + 1) line)), e)
+    rw (f, get_or-drop w line 0 0, add-zero w, drop-drop 1 w line, sets_join d (8 * w) x (words_bytes (n - (w + 1)) (drop (w + 1) line)), e)
 
-pub line-end : (d : List ℕ) (n w : ℕ) (line : List ℕ) → n ≤ w → sets d (8 * w) (words_bytes (n - w) (drop w line)) ≡ d
+pub line_end : (d : List ℕ) (n w : ℕ) (line : List ℕ) → n ≤ w → sets d (8 * w) (words_bytes (n - w) (drop w line)) ≡ d
 unfolding words_bytes
-line-end d n w line h = let f : n - w ≡ 0 = omega arith in rw f
+line_end d n w line h = let f : n - w ≡ 0 = omega arith in rw f
 
 -- the words of a line one by one
 on : (s : List ℕ) (at j n : ℕ) → words_of (suc n) (drop (at + j) s) ≡ num_of (take 8 (drop (at + j) s)) ∷ words_of n (drop (at + (j + 8)) s)
@@ -121,7 +121,7 @@ last : (bs : List ℕ) → words_of 0 bs ≡ []
 unfolding words_of
 last bs = refl
 
-pub line-eight : (s : List ℕ) (at : ℕ) → words_of 8 (drop at s)
+pub line_eight : (s : List ℕ) (at : ℕ) → words_of 8 (drop at s)
     ≡ num_of (take 8 (drop at s)) ∷ num_of (take 8 (drop (at + 8) s)) ∷ num_of (take 8 (drop (at + 16) s)) ∷ num_of (take 8 (drop (at + 24) s))
     ∷ num_of (take 8 (drop (at + 32) s)) ∷ num_of (take 8 (drop (at + 40) s)) ∷ num_of (take 8 (drop (at + 48) s)) ∷ num_of (take 8 (drop (at + 56) s)) ∷ []
-line-eight s at = rw (first s at, on s at 8 6, on s at 16 5, on s at 24 4, on s at 32 3, on s at 40 2, on s at 48 1, on s at 56 0, last (drop (at + 64) s))
+line_eight s at = rw (first s at, on s at 8 6, on s at 16 5, on s at 24 4, on s at 32 3, on s at 40 2, on s at 48 1, on s at 56 0, last (drop (at + 64) s))

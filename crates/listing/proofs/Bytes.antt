@@ -7,32 +7,32 @@ use lib.ListN.{drop, drop_of_length-le, get_or, length}
 use lib.Seq.{drop-cons}
 use native.Mathlib.Numerals.{add-one}
 use Rattle.listing.specs.Layout.{flag}
-use Rattle.output.proofs.Rooms.{puts-join, puts_none}
+use Rattle.output.proofs.Rooms.{puts_join, puts_none}
 use Rattle.output.specs.Room.{Room, puts}
 use Rattle.rules.specs.Bytes.{bytes_of}
 use Rattle.rules.specs.Lists.{flat}
-use Rattle.writing.proofs.Emit.{left-more, left-none}
+use Rattle.writing.proofs.Emit.{left_more, left_none}
 
 -- one more element of a list
 module _ {A : Type 0} (f : A → List ℕ) (r : Room) (xs : List A) (i : ℕ) where
-  pub flat-next : (z : A) → i < length xs → puts r (flat f (drop i xs)) ≡ puts (puts r (f (get_or xs i z))) (flat f (drop (i + 1) xs))
-  flat-next z h = rw (left-more f xs i z h) (puts-join r (f (get_or xs i z)) (flat f (drop (i + 1) xs)))
+  pub flat_next : (z : A) → i < length xs → puts r (flat f (drop i xs)) ≡ puts (puts r (f (get_or xs i z))) (flat f (drop (i + 1) xs))
+  flat_next z h = rw (left_more f xs i z h) (puts_join r (f (get_or xs i z)) (flat f (drop (i + 1) xs)))
 
-  pub flat-end : length xs ≤ i → puts r (flat f (drop i xs)) ≡ r
-  flat-end h = rw (left-none f xs i h) (puts_none r)
+  pub flat_end : length xs ≤ i → puts r (flat f (drop i xs)) ≡ r
+  flat_end h = rw (left_none f xs i h) (puts_none r)
 
 pub map_next : (r : Room) (xs : List Bool) (i : ℕ) → i < length xs → puts r (map flag (drop i xs)) ≡ puts (puts r (flag (get_or xs i false) ∷ [])) (map flag (drop (i + 1) xs))
 unfolding puts
 map_next r xs i h = rw (add-one i, drop-cons xs i false h)
 
-pub map-end : (r : Room) (xs : List Bool) (i : ℕ) → length xs ≤ i → puts r (map flag (drop i xs)) ≡ r
+pub map_end : (r : Room) (xs : List Bool) (i : ℕ) → length xs ≤ i → puts r (map flag (drop i xs)) ≡ r
 unfolding puts
-map-end r xs i h = rw (drop_of_length-le xs h)
+map_end r xs i h = rw (drop_of_length-le xs h)
 
 -- ---- parts one behind the other
 
 pub next : (r : Room) (xs ys : List ℕ) {s t : Room} → s ≡ puts r xs → t ≡ puts s ys → t ≡ puts r (xs ++ ys)
-next r xs ys e f = f ∙ (ap (λ (z : Room). puts z ys) e ∙ sym (puts-join r xs ys))
+next r xs ys e f = f ∙ (ap (λ (z : Room). puts z ys) e ∙ sym (puts_join r xs ys))
 
 -- a byte, said in another way
 pub byte : (r : Room) {s : Room} {x y : ℕ} → s ≡ puts r (x ∷ []) → x ≡ y → s ≡ puts r (y ∷ [])

@@ -12,11 +12,11 @@ use borrow.Author.Tests.{eq-eqb, le-leb, lt-leb}
 use Rattle.listing.proofs.Lengths.{fixed}
 use Rattle.listing.specs.Claim.{Long, long_region, long_thread}
 use Rattle.listing.specs.Layout.{tables_bytes, tables_into}
-use Rattle.output.proofs.Rooms.{puts-filled}
+use Rattle.output.proofs.Rooms.{puts_filled}
 use Rattle.output.specs.Room.{Room, filled, puts, room}
 use Rattle.output.specs.declared.Cursor.{Cursor}
 use Rattle.measures.specs.Loan.{Rows}
-use Rattle.rows.proofs.Laws.{log-length}
+use Rattle.rows.proofs.Laws.{log_length}
 use Rattle.rows.specs.Row.{log_of, region_of, regions_of, thread_numbers, thread_of, threads_of}
 use Rattle.rows.specs.Whole.{tables_of}
 use Rattle.rows.specs.declared.Head.{Head}
@@ -26,30 +26,30 @@ use Rattle.rules.specs.declared.Tables.{Tables}
 
 -- ---- every row is a thread or a region with its lists
 
-thread-row : (w : List ℕ) → length w ≡ thread_numbers → long_thread (thread_of w) ≡ true
+thread_row : (w : List ℕ) → length w ≡ thread_numbers → long_thread (thread_of w) ≡ true
 unfolding thread_of
-thread-row w h = eq-eqb (length (log_of w)) 32 (log-length w h)
+thread_row w h = eq-eqb (length (log_of w)) 32 (log_length w h)
 
 -- if the threads behind thread i are, those from thread i on are
-pub long-next : (ws : List (List ℕ)) (i : ℕ) → i < length ws → length (get_or ws i []) ≡ thread_numbers → all long_thread (threads_of (drop (i + 1) ws)) ≡ true → all long_thread (threads_of (drop i ws)) ≡ true
-long-next ws i h n e = rw (drop-cons ws i [] h, thread-row (get_or ws i []) n) (rw (add-one i) at e)
+pub long_next : (ws : List (List ℕ)) (i : ℕ) → i < length ws → length (get_or ws i []) ≡ thread_numbers → all long_thread (threads_of (drop (i + 1) ws)) ≡ true → all long_thread (threads_of (drop i ws)) ≡ true
+long_next ws i h n e = rw (drop-cons ws i [] h, thread_row (get_or ws i []) n) (rw (add-one i) at e)
 
-pub long-end : (ws : List (List ℕ)) (i : ℕ) → length ws ≤ i → all long_thread (threads_of (drop i ws)) ≡ true
-long-end ws i h = rw (drop_of_length-le ws h) refl
+pub long_end : (ws : List (List ℕ)) (i : ℕ) → length ws ≤ i → all long_thread (threads_of (drop i ws)) ≡ true
+long_end ws i h = rw (drop_of_length-le ws h) refl
 
-pub long-regions : (ws : List (List ℕ)) → all long_region (regions_of ws) ≡ true
+pub long_regions : (ws : List (List ℕ)) → all long_region (regions_of ws) ≡ true
 unfolding region_of
-long-regions [] = refl
-long-regions (w ∷ ws) = long-regions ws
+long_regions [] = refl
+long_regions (w ∷ ws) = long_regions ws
 
-pub long-rows : (h : Head) (ths rs : Rows) (os : List ℕ) (ls : List Bool) → all long_thread (threads_of ths) ≡ true
+pub long_rows : (h : Head) (ths rs : Rows) (os : List ℕ) (ls : List Bool) → all long_thread (threads_of ths) ≡ true
     → length ths ≡ 8 → length rs ≡ 32 → length os ≡ 256 → length ls ≡ 256 → Long (tables_of h ths rs os ls)
-long-rows h ths rs os ls e a b n m =
+long_rows h ths rs os ls e a b n m =
     record {
       threads = eq-eqb (length (threads_of ths)) 8 (length-map ths thread_of ∙ a);
-      each-thread = e;
+      each_thread = e;
       regions = eq-eqb (length (regions_of rs)) 32 (length-map rs region_of ∙ b);
-      each-region = long-regions rs;
+      each_region = long_regions rs;
       owner = eq-eqb (length os) 256 n;
       lock = eq-eqb (length ls) 256 m;
     }
@@ -57,14 +57,14 @@ long-rows h ths rs os ls e a b n m =
 -- ---- the call
 
 module _ (ts : Tables) (long : Long ts) (d : List ℕ) where
-  pub tables-short : length d < 5130 → ◌≡◌ {A = Wrote} (record { answer = record { refusal = 6; value = 0 }; buffer = d }) (tables_into ts d)
+  pub tables_short : length d < 5130 → ◌≡◌ {A = Wrote} (record { answer = record { refusal = 6; value = 0 }; buffer = d }) (tables_into ts d)
   unfolding tables_into wrote_into
-  tables-short h = rw (lt-leb (length (tables_bytes ts)) (length d) (omega (arith, fixed ts long)))
+  tables_short h = rw (lt-leb (length (tables_bytes ts)) (length d) (omega (arith, fixed ts long)))
 
-  pub tables-whole : (d' : List ℕ) (c : Cursor) → room d' c ≡ puts (room d (record { at = 0; short = false })) (tables_bytes ts) → 5130 ≤ length d
+  pub tables_whole : (d' : List ℕ) (c : Cursor) → room d' c ≡ puts (room d (record { at = 0; short = false })) (tables_bytes ts) → 5130 ≤ length d
       → ◌≡◌ {A = Wrote} (record { answer = record { refusal = 0; value = 5130 }; buffer = d' }) (tables_into ts d)
   unfolding tables_into wrote_into room filled
-  tables-whole d' c e h =
+  tables_whole d' c e h =
       let l : length (tables_bytes ts) ≤ length d = omega (arith, fixed ts long) in
-      let b : d' ≡ tables_bytes ts ++ drop (length (tables_bytes ts)) d = ap (λ (r : Room). r.buffer) (e ∙ puts-filled d (tables_bytes ts)) ∙ rw (take_all (length d) (tables_bytes ts) l) in
+      let b : d' ≡ tables_bytes ts ++ drop (length (tables_bytes ts)) d = ap (λ (r : Room). r.buffer) (e ∙ puts_filled d (tables_bytes ts)) ∙ rw (take_all (length d) (tables_bytes ts) l) in
       rw (le-leb (length (tables_bytes ts)) (length d) l, zero-add, b, fixed ts long)

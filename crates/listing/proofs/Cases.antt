@@ -7,4 +7,4 @@ use Rattle.rules.specs.Lists.{flat}
 
 pub worked : Worked
 unfolding entry_bytes front_bytes head_bytes region_bytes slot_bytes tables_bytes thread_bytes bytes_of flat
-worked = record { of-region = refl; of_entry = refl; of-flight = refl; of-thread = refl; of-tables = refl }
+worked = record { of_region = refl; of_entry = refl; of_flight = refl; of_thread = refl; of_tables = refl }

@@ -28,9 +28,9 @@ long_region r = is_long most_deps r.deps && (is_long ripe_count r.recent && is_l
 
 pub record Long (ts : Tables) : Type 0 where
   pub threads : is_long most_threads ts.threads ≡ true
-  pub each-thread : all long_thread ts.threads ≡ true
+  pub each_thread : all long_thread ts.threads ≡ true
   pub regions : is_long most_regions ts.regions ≡ true
-  pub each-region : all long_region ts.regions ≡ true
+  pub each_region : all long_region ts.regions ≡ true
   pub owner : is_long most_lines ts.owner ≡ true
   pub lock : is_long most_lines ts.lock ≡ true
 
@@ -59,8 +59,8 @@ pub record Fits (ts : Tables) : Type 0 where
   pub parties : fits 8 ts.size.shares.parties ≡ true
   pub reserves : fits 2 ts.size.shares.reserves ≡ true
   pub clock : fits 4 ts.clock ≡ true
-  pub each-thread : all thread_fits ts.threads ≡ true
-  pub each-region : all region_fits ts.regions ≡ true
+  pub each_thread : all thread_fits ts.threads ≡ true
+  pub each_region : all region_fits ts.regions ≡ true
   pub owner : all (fits 4) ts.owner ≡ true
 
 -- tables with the same bytes are the same, but for two fields that the layout leaves out: whether the starting memory is zero, and how much of it was lent
@@ -112,18 +112,18 @@ small =
     }
 
 pub record Worked : Type 0 where
-  pub of-region : region_bytes ended
+  pub of_region : region_bytes ended
       ≡ 3 ∷ 1 ∷ 2 ∷ 0 ∷ 1 ∷ 1 ∷ 0 ∷ 2 ∷ 3 ∷ 0 ∷ 0
       ∷ 1 ∷ 0 ∷ 0 ∷ 0 ∷ 4 ∷ 0 ∷ 5 ∷ 0 ∷ 0 ∷ 0 ∷ 0 ∷ 0 ∷ 0 ∷ 0 ∷ 0 ∷ 0
       ∷ 9 ∷ 8 ∷ 7 ∷ 6
       ∷ 9 ∷ 1 ∷ 3 ∷ 8 ∷ 2 ∷ 0 ∷ replicate 18 0
   pub of_entry : entry_bytes (logged true) ≡ 3 ∷ 1 ∷ 2 ∷ 0 ∷ 9 ∷ 2 ∷ 1 ∷ []
-  pub of-flight : entry_bytes (logged false) ≡ 3 ∷ 1 ∷ 2 ∷ 0 ∷ 9 ∷ 2 ∷ 0 ∷ []
-  pub of-thread : thread_bytes running
+  pub of_flight : entry_bytes (logged false) ≡ 3 ∷ 1 ∷ 2 ∷ 0 ∷ 9 ∷ 2 ∷ 0 ∷ []
+  pub of_thread : thread_bytes running
       ≡ 2 ∷ 3 ∷ 1
       ∷ 1 ∷ 0 ∷ 0 ∷ 0 ∷ 0 ∷ 0 ∷ 0 ∷ 0 ∷ 0 ∷ 1 ∷ (replicate 22 0
       ++ (3 ∷ 1 ∷ 2 ∷ 0 ∷ 9 ∷ 2 ∷ 1 ∷ []))
-  pub of-tables : tables_bytes small
+  pub of_tables : tables_bytes small
       ≡ 3 ∷ 0 ∷ 1 ∷ 0 ∷ 1 ∷ 1 ∷ 0 ∷ 0 ∷ 0 ∷ 0 ∷ 0 ∷ 5 ∷ 9 ∷ 1 ∷ 2 ∷ 3 ∷ 0 ∷ 0
       ∷ 2 ∷ 3 ∷ 1
       ∷ 3 ∷ 1 ∷ 2 ∷ 0 ∷ 1 ∷ 0 ∷ 0 ∷ 0 ∷ 0 ∷ 0 ∷ 0

@@ -14,10 +14,10 @@ use Rattle.undo.proofs.Laws.{test}
 use Rattle.undo.specs.Table.{any}
 
 module _ {A : Type 0} (p : A → Bool) where
-  pub count-le : (xs : List A) → count p xs ≤ length xs
+  pub count_le : (xs : List A) → count p xs ≤ length xs
   unfolding count
-  count-le [] = omega arith
-  count-le (x ∷ xs) = let ih = count-le xs in test (p x) (λ e. rw e (omega arith)) (λ e. rw e (omega arith))
+  count_le [] = omega arith
+  count_le (x ∷ xs) = let ih = count_le xs in test (p x) (λ e. rw e (omega arith)) (λ e. rw e (omega arith))
 
   -- some element passes where the place of the first is inside the list
   pub any_place : (xs : List A) → any p xs ≡ ltb (place p xs) (length xs)
@@ -33,36 +33,36 @@ module _ {A : Type 0} (p : A → Bool) where
   unfolding place
   place_end i xs h = rw (drop_of_length-le xs h) (omega arith)
 
-  pub any-end : (i : ℕ) (xs : List A) → length xs ≤ i → any p (drop i xs) ≡ false
-  any-end i xs h = rw (drop_of_length-le xs h)
+  pub any_end : (i : ℕ) (xs : List A) → length xs ≤ i → any p (drop i xs) ≡ false
+  any_end i xs h = rw (drop_of_length-le xs h)
 
-  pub count-end : (c i : ℕ) (xs : List A) → length xs ≤ i → c + count p (drop i xs) ≡ c
+  pub count_end : (c i : ℕ) (xs : List A) → length xs ≤ i → c + count p (drop i xs) ≡ c
   unfolding count
-  count-end c i xs h = rw (drop_of_length-le xs h) (omega arith)
+  count_end c i xs h = rw (drop_of_length-le xs h) (omega arith)
 
   module _ (i : ℕ) (xs : List A) (d : A) (h : i < length xs) where
-    pub place-hit : p (get_or xs i d) ≡ true → i + place p (drop i xs) ≡ i
+    pub place_hit : p (get_or xs i d) ≡ true → i + place p (drop i xs) ≡ i
     unfolding place
-    place-hit e = rw (drop-cons xs i d h, e) (omega arith)
+    place_hit e = rw (drop-cons xs i d h, e) (omega arith)
 
-    pub place-on : p (get_or xs i d) ≡ false → (i + 1) + place p (drop (i + 1) xs) ≡ i + place p (drop i xs)
+    pub place_on : p (get_or xs i d) ≡ false → (i + 1) + place p (drop (i + 1) xs) ≡ i + place p (drop i xs)
     unfolding place
-    place-on e = rw (add-one i, drop-cons xs i d h, e) (omega arith)
+    place_on e = rw (add-one i, drop-cons xs i d h, e) (omega arith)
 
-    pub any-hit : p (get_or xs i d) ≡ true → any p (drop i xs) ≡ true
-    any-hit e = rw (drop-cons xs i d h, e)
+    pub any_hit : p (get_or xs i d) ≡ true → any p (drop i xs) ≡ true
+    any_hit e = rw (drop-cons xs i d h, e)
 
-    pub any-on : p (get_or xs i d) ≡ false → any p (drop (i + 1) xs) ≡ any p (drop i xs)
-    any-on e = rw (add-one i, drop-cons xs i d h, e)
+    pub any_on : p (get_or xs i d) ≡ false → any p (drop (i + 1) xs) ≡ any p (drop i xs)
+    any_on e = rw (add-one i, drop-cons xs i d h, e)
 
-    pub count-on : (c : ℕ) → (c + cond (p (get_or xs i d)) 1 0) + count p (drop (i + 1) xs) ≡ c + count p (drop i xs)
+    pub count_on : (c : ℕ) → (c + cond (p (get_or xs i d)) 1 0) + count p (drop (i + 1) xs) ≡ c + count p (drop i xs)
     unfolding count
-    count-on c = test (p (get_or xs i d)) (λ e. rw (add-one i, drop-cons xs i d h, e) (omega arith)) (λ e. rw (add-one i, drop-cons xs i d h, e) (omega arith))
+    count_on c = test (p (get_or xs i d)) (λ e. rw (add-one i, drop-cons xs i d h, e) (omega arith)) (λ e. rw (add-one i, drop-cons xs i d h, e) (omega arith))
 
 -- a test counts at most one
-pub one-le : (b : Bool) → cond b 1 0 ≤ 1
-one-le true = omega arith
-one-le false = omega arith
+pub one_le : (b : Bool) → cond b 1 0 ≤ 1
+one_le true = omega arith
+one_le false = omega arith
 
 -- ---- lists of four
 

@@ -21,31 +21,31 @@ digits_more (suc (suc f)) n h z =
     let ih = digits_more (suc f) (n / 10) ((div-lt_iff_lt-mul t).1 g) (omega arith) in
     rw ih
 
-pub decimal-small : (n : ℕ) → n < 10 → decimal n ≡ (48 + n % 10) ∷ []
+pub decimal_small : (n : ℕ) → n < 10 → decimal n ≡ (48 + n % 10) ∷ []
 unfolding decimal digits
-decimal-small n h = let e : n % 10 ≡ n = omega arith in rw (lt-ltb n 10 h, e)
+decimal_small n h = let e : n % 10 ≡ n = omega arith in rw (lt-ltb n 10 h, e)
 
-last-digit : (n : ℕ) → 10 ≤ n → digits 20 n ≡ digits 19 (n / 10) ++ ((48 + n % 10) ∷ [])
+last_digit : (n : ℕ) → 10 ≤ n → digits 20 n ≡ digits 19 (n / 10) ++ ((48 + n % 10) ∷ [])
 unfolding digits
-last-digit n l = rw (le-ltb n 10 l)
+last_digit n l = rw (le-ltb n 10 l)
 
 -- the digits of a number: those of its tenth, then the last one
-pub decimal-more : (n : ℕ) → n < 18446744073709551616 → 10 ≤ n → decimal n ≡ decimal (n / 10) ++ ((48 + n % 10) ∷ [])
+pub decimal_more : (n : ℕ) → n < 18446744073709551616 → 10 ≤ n → decimal n ≡ decimal (n / 10) ++ ((48 + n % 10) ∷ [])
 unfolding decimal
-decimal-more n h l = last-digit n l ∙ rw (digits_more 19 (n / 10) (omega arith) (omega arith))
+decimal_more n h l = last_digit n l ∙ rw (digits_more 19 (n / 10) (omega arith) (omega arith))
 
-pub either-short : (b : Bool) (x y : List ℕ) (m : ℕ) → length x ≤ m → length y ≤ m → length (cond b x y) ≤ m
-either-short true x y m h k = h
-either-short false x y m h k = k
+pub either_short : (b : Bool) (x y : List ℕ) (m : ℕ) → length x ≤ m → length y ≤ m → length (cond b x y) ≤ m
+either_short true x y m h k = h
+either_short false x y m h k = k
 
-digits-short : (f n : ℕ) → length (digits f n) ≤ f
+digits_short : (f n : ℕ) → length (digits f n) ≤ f
 unfolding digits
-digits-short zero n = omega arith
-digits-short (suc f) n =
-    either-short (ltb n 10) ((48 + n) ∷ []) (digits f (n / 10) ++ ((48 + n % 10) ∷ [])) (suc f) (omega arith)
-    (omega (arith, length-append (digits f (n / 10)) ((48 + n % 10) ∷ []), digits-short f (n / 10)))
+digits_short zero n = omega arith
+digits_short (suc f) n =
+    either_short (ltb n 10) ((48 + n) ∷ []) (digits f (n / 10) ++ ((48 + n % 10) ∷ [])) (suc f) (omega arith)
+    (omega (arith, length-append (digits f (n / 10)) ((48 + n % 10) ∷ []), digits_short f (n / 10)))
 
 -- a number below 2^64 has at most twenty digits
-pub decimal-short : (n : ℕ) → length (decimal n) ≤ 20
+pub decimal_short : (n : ℕ) → length (decimal n) ≤ 20
 unfolding decimal
-decimal-short n = digits-short 20 n
+decimal_short n = digits_short 20 n

@@ -19,28 +19,28 @@ pub put_in : (d : List ℕ) (c : Cursor) (b : ℕ) → c.at < length d → puts 
 unfolding puts put room
 put_in d c b h = rw (lt-ltb _ _ h)
 
-pub put-out : (d : List ℕ) (c : Cursor) (b : ℕ) → length d ≤ c.at → puts (room d c) (b ∷ []) ≡ room d (record { at = c.at; short = true })
+pub put_out : (d : List ℕ) (c : Cursor) (b : ℕ) → length d ≤ c.at → puts (room d c) (b ∷ []) ≡ room d (record { at = c.at; short = true })
 unfolding puts put room
-put-out d c b h = rw (le-ltb _ _ h)
+put_out d c b h = rw (le-ltb _ _ h)
 
-pub puts-join : (r : Room) (xs ys : List ℕ) → puts r (xs ++ ys) ≡ puts (puts r xs) ys
+pub puts_join : (r : Room) (xs ys : List ℕ) → puts r (xs ++ ys) ≡ puts (puts r xs) ys
 unfolding puts
-puts-join r [] ys = refl
-puts-join r (x ∷ xs) ys = puts-join (put r x) xs ys
+puts_join r [] ys = refl
+puts_join r (x ∷ xs) ys = puts_join (put r x) xs ys
 
 pub puts_none : (r : Room) → puts r [] ≡ r
 unfolding puts
 puts_none r = refl
 
 -- one element of a list, and what is left of it
-pub puts-next : (r : Room) (s : List ℕ) (i : ℕ) → i < length s → puts r (drop i s) ≡ puts (puts r (get_or s i 0 ∷ [])) (drop (i + 1) s)
+pub puts_next : (r : Room) (s : List ℕ) (i : ℕ) → i < length s → puts r (drop i s) ≡ puts (puts r (get_or s i 0 ∷ [])) (drop (i + 1) s)
 unfolding puts
-puts-next r s i h = rw (add-one i, drop-cons s i 0 h)
+puts_next r s i h = rw (add-one i, drop-cons s i 0 h)
 
 -- nothing is left
-pub puts-end : (r : Room) (s : List ℕ) (i : ℕ) → length s ≤ i → puts r (drop i s) ≡ r
+pub puts_end : (r : Room) (s : List ℕ) (i : ℕ) → length s ≤ i → puts r (drop i s) ≡ r
 unfolding puts
-puts-end r s i h = rw (drop_of_length-le s h)
+puts_end r s i h = rw (drop_of_length-le s h)
 
 -- a full buffer takes nothing more
 full : (d : List ℕ) (at : ℕ) (bs : List ℕ) → length d ≤ at → puts (room d (record { at = at; short = true })) bs ≡ room d (record { at = at; short = true })
@@ -54,62 +54,62 @@ behind p d bs =
     room (p ++ (take (length d) bs ++ drop (length bs) d))
     (cond (leb (length bs) (length d)) (record { at = length p + length bs; short = false }) (record { at = length p + length d; short = true }))
 
-nothing-more : (p d : List ℕ) → behind p d [] ≡ room (p ++ d) (record { at = length p; short = false })
+nothing_more : (p d : List ℕ) → behind p d [] ≡ room (p ++ d) (record { at = length p; short = false })
 unfolding behind
-nothing-more p d = rw (take-nil (length d), le-leb 0 (length d) (omega arith), add-zero)
+nothing_more p d = rw (take-nil (length d), le-leb 0 (length d) (omega arith), add-zero)
 
 no_room : (p : List ℕ) (b : ℕ) (bs : List ℕ) → behind p [] (b ∷ bs) ≡ room p (record { at = length p; short = true })
 unfolding behind
 no_room p b bs = rw (lt-leb (suc (length bs)) 0 (omega arith), append-nil, add-zero)
 
-leb-suc : (n m : ℕ) → leb (suc n) (suc m) ≡ leb n m
-leb-suc n m = test (leb n m) (λ e. rw (le-leb (suc n) (suc m) (omega (arith, leb-true n m e)), e)) (λ e. rw (lt-leb (suc n) (suc m) (omega (arith, leb-false n m e)), e))
+leb_suc : (n m : ℕ) → leb (suc n) (suc m) ≡ leb n m
+leb_suc n m = test (leb n m) (λ e. rw (le-leb (suc n) (suc m) (omega (arith, leb-true n m e)), e)) (λ e. rw (lt-leb (suc n) (suc m) (omega (arith, leb-false n m e)), e))
 
 one_more : (p : List ℕ) (x : ℕ) (d : List ℕ) (b : ℕ) (bs : List ℕ) → behind p (x ∷ d) (b ∷ bs) ≡ behind (p ++ (b ∷ [])) d bs
 unfolding behind
 one_more p x d b bs =
     let n : length (p ++ (b ∷ [])) ≡ suc (length p) = rw length-append (omega arith) in
-    rw (leb-suc (length bs) (length d), append_assoc p (b ∷ []) (take (length d) bs ++ drop (length bs) d), n, add-suc, add-suc, suc-add, suc-add)
+    rw (leb_suc (length bs) (length d), append_assoc p (b ∷ []) (take (length d) bs ++ drop (length bs) d), n, add-suc, add-suc, suc-add, suc-add)
 
-put-seam : (p : List ℕ) (x : ℕ) (d : List ℕ) (b : ℕ) → put (room (p ++ (x ∷ d)) (record { at = length p; short = false })) b ≡ room ((p ++ (b ∷ [])) ++ d) (record { at = length (p ++ (b ∷ [])); short = false })
+put_seam : (p : List ℕ) (x : ℕ) (d : List ℕ) (b : ℕ) → put (room (p ++ (x ∷ d)) (record { at = length p; short = false })) b ≡ room ((p ++ (b ∷ [])) ++ d) (record { at = length (p ++ (b ∷ [])); short = false })
 unfolding put room
-put-seam p x d b =
+put_seam p x d b =
     let l : length p < length (p ++ (x ∷ d)) = rw length-append (omega arith) in
     let n : length (p ++ (b ∷ [])) ≡ length p + 1 = rw length-append in
     rw (lt-ltb (length p) (length (p ++ (x ∷ d))) l, set-append_seam p x d b, append_assoc p (b ∷ []) d, n)
 
-put-over : (p : List ℕ) (b : ℕ) → put (room (p ++ []) (record { at = length p; short = false })) b ≡ room p (record { at = length p; short = true })
+put_over : (p : List ℕ) (b : ℕ) → put (room (p ++ []) (record { at = length p; short = false })) b ≡ room p (record { at = length p; short = true })
 unfolding put room
-put-over p b = rw (append-nil, le-ltb (length p) (length p) (omega arith))
+put_over p b = rw (append-nil, le-ltb (length p) (length p) (omega arith))
 
 fill : (p d bs : List ℕ) → puts (room (p ++ d) (record { at = length p; short = false })) bs ≡ behind p d bs
 unfolding puts
-fill p d [] = sym (nothing-more p d)
-fill p [] (b ∷ bs) = rw (put-over p b, no_room p b bs) (full p (length p) bs (omega arith))
-fill p (x ∷ d) (b ∷ bs) = rw (put-seam p x d b, one_more p x d b bs) (fill (p ++ (b ∷ [])) d bs)
+fill p d [] = sym (nothing_more p d)
+fill p [] (b ∷ bs) = rw (put_over p b, no_room p b bs) (full p (length p) bs (omega arith))
+fill p (x ∷ d) (b ∷ bs) = rw (put_seam p x d b, one_more p x d b bs) (fill (p ++ (b ∷ [])) d bs)
 
 -- a buffer filled from its front
-pub puts-filled : (d bs : List ℕ) → puts (room d (record { at = 0; short = false })) bs ≡ filled d bs
+pub puts_filled : (d bs : List ℕ) → puts (room d (record { at = 0; short = false })) bs ≡ filled d bs
 unfolding filled behind
-puts-filled d bs = fill [] d bs ∙ rw (zero-add, zero-add)
+puts_filled d bs = fill [] d bs ∙ rw (zero-add, zero-add)
 
 -- what is put into an empty buffer that has room for it stands at its front
-filled-front : (d d' bs : List ℕ) (c : Cursor) → room d' c ≡ filled d bs → length bs ≤ length d → take c.at d' ≡ bs
+filled_front : (d d' bs : List ℕ) (c : Cursor) → room d' c ≡ filled d bs → length bs ≤ length d → take c.at d' ≡ bs
 unfolding room filled
-filled-front d d' bs c e h =
+filled_front d d' bs c e h =
     let f : room d' c ≡ room (take (length d) bs ++ drop (length bs) d) (record { at = length bs; short = false }) = rw (le-leb (length bs) (length d) h) at e in
     let x : d' ≡ bs ++ drop (length bs) d = ap (λ (r : Room). r.buffer) f ∙ rw (take_all (length d) bs h) in
     let y : c.at ≡ length bs = ap (λ (r : Room). r.cursor.at) f in
     rw (x, y) (take-append_seam bs (drop (length bs) d))
 
 pub put_front : (d d' bs : List ℕ) (c : Cursor) → room d' c ≡ puts (room d (record { at = 0; short = false })) bs → length bs ≤ length d → take c.at d' ≡ bs
-put_front d d' bs c e h = filled-front d d' bs c (e ∙ puts-filled d bs) h
+put_front d d' bs c e h = filled_front d d' bs c (e ∙ puts_filled d bs) h
 
 -- one more byte of a number of w bytes
 pub le_next : (r : Room) (w k x : ℕ) → k < w → puts r (bytes_of (w - k) x) ≡ puts (puts r (x % 256 ∷ [])) (bytes_of (w - (k + 1)) (x / 256))
 unfolding bytes_of puts
 le_next r w k x h = let e : w - k ≡ suc (w - suc k) = omega arith in rw (e, add-one k)
 
-pub le-end : (r : Room) (w k x : ℕ) → w ≤ k → puts r (bytes_of (w - k) x) ≡ r
+pub le_end : (r : Room) (w k x : ℕ) → w ≤ k → puts r (bytes_of (w - k) x) ≡ r
 unfolding bytes_of puts
-le-end r w k x h = let e : w - k ≡ 0 = omega arith in rw e
+le_end r w k x h = let e : w - k ≡ 0 = omega arith in rw e

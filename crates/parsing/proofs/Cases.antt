@@ -12,6 +12,6 @@ unfolding fault_of or_else lines_fault lines_of line_fault words_fault words_in 
 cases = (refl, (refl, (refl, (refl, refl))))
 
 -- "cut", CR and newline; TAB, "end 9 #" and newline; " end #"
-pub third-line : fault_of (99 ∷ 117 ∷ 116 ∷ 13 ∷ 10 ∷ 9 ∷ 101 ∷ 110 ∷ 100 ∷ 32 ∷ 57 ∷ 32 ∷ 35 ∷ 10 ∷ 32 ∷ 101 ∷ 110 ∷ 100 ∷ 32 ∷ 35 ∷ []) ≡ fault missing_number 19
+pub third_line : fault_of (99 ∷ 117 ∷ 116 ∷ 13 ∷ 10 ∷ 9 ∷ 101 ∷ 110 ∷ 100 ∷ 32 ∷ 57 ∷ 32 ∷ 35 ∷ 10 ∷ 32 ∷ 101 ∷ 110 ∷ 100 ∷ 32 ∷ 35 ∷ []) ≡ fault missing_number 19
 unfolding fault_of or_else lines_fault lines_of line_fault words_fault words_in kind_fault kind_of same other_line place stops word_start word_end field_fault word_fault fault_by number_in number_from with_digit most_of width_at complete kind_at
-third-line = refl
+third_line = refl

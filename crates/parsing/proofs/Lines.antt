@@ -26,37 +26,37 @@ last_snoc (x ∷ xs) c =
     (λ e. let ih = last_snoc xs c in rw (ih, e))
 
 -- from the end on
-pub last-at : (l : List ℕ) (i : ℕ) → i < length l → last_line (take (suc i) l) ≡ cond (eqb (get_or l i 0) 10) (suc i) (last_line (take i l))
-last-at l i h = rw (take-suc l i 0 h, last_snoc (take i l) (get_or l i 0), length-take-le i l (omega arith))
+pub last_at : (l : List ℕ) (i : ℕ) → i < length l → last_line (take (suc i) l) ≡ cond (eqb (get_or l i 0) 10) (suc i) (last_line (take i l))
+last_at l i h = rw (take-suc l i 0 h, last_snoc (take i l) (get_or l i 0), length-take-le i l (omega arith))
 
 pub last_none : last_line [] ≡ 0
 unfolding last_line
 last_none = refl
 
-pub last-in : (l : List ℕ) → last_line l ≤ length l
+pub last_in : (l : List ℕ) → last_line l ≤ length l
 unfolding last_line
-last-in [] = omega arith
-last-in (c ∷ cs) = test (eqb c 10 || ltb 0 (last_line cs)) (λ e. rw e (omega (arith, last-in cs))) (λ e. rw e (omega arith))
+last_in [] = omega arith
+last_in (c ∷ cs) = test (eqb c 10 || ltb 0 (last_line cs)) (λ e. rw e (omega (arith, last_in cs))) (λ e. rw e (omega arith))
 
 -- ---- whole lines stand whatever comes behind them
 
-glue-on : (c : ℕ) (ls ms : List (List ℕ)) → 0 < length ls → glued c (ls ++ ms) ≡ glued c ls ++ ms
-glue-on c [] ms h = absurd (omega arith)
-glue-on c (l ∷ ls) ms h = refl
+glue_on : (c : ℕ) (ls ms : List (List ℕ)) → 0 < length ls → glued c (ls ++ ms) ≡ glued c ls ++ ms
+glue_on c [] ms h = absurd (omega arith)
+glue_on c (l ∷ ls) ms h = refl
 
-some-lines : (c : ℕ) (cs : List ℕ) → 0 < length (lines_of (c ∷ cs))
+some_lines : (c : ℕ) (cs : List ℕ) → 0 < length (lines_of (c ∷ cs))
 unfolding lines_of
-some-lines c [] = test (eqb c 10) (λ e. rw e (omega arith)) (λ e. rw e (omega arith))
-some-lines c (d ∷ ds) = let ih = some-lines d ds in test (eqb c 10) (λ e. rw e (omega arith)) (λ e. rw e (glued-some c (lines_of (d ∷ ds))))
+some_lines c [] = test (eqb c 10) (λ e. rw e (omega arith)) (λ e. rw e (omega arith))
+some_lines c (d ∷ ds) = let ih = some_lines d ds in test (eqb c 10) (λ e. rw e (omega arith)) (λ e. rw e (glued_some c (lines_of (d ∷ ds))))
   where
-    glued-some : (c : ℕ) (ls : List (List ℕ)) → 0 < length (glued c ls)
-    glued-some c [] = omega arith
-    glued-some c (l ∷ ls) = omega arith
+    glued_some : (c : ℕ) (ls : List (List ℕ)) → 0 < length (glued c ls)
+    glued_some c [] = omega arith
+    glued_some c (l ∷ ls) = omega arith
 
-lines-taken : (m : ℕ) (l : List ℕ) → 0 < m → m ≤ length l → 0 < length (lines_of (take m l))
-lines-taken zero l h k = absurd (omega arith)
-lines-taken (suc m) [] h k = absurd (omega arith)
-lines-taken (suc m) (c ∷ cs) h k = some-lines c (take m cs)
+lines_taken : (m : ℕ) (l : List ℕ) → 0 < m → m ≤ length l → 0 < length (lines_of (take m l))
+lines_taken zero l h k = absurd (omega arith)
+lines_taken (suc m) [] h k = absurd (omega arith)
+lines_taken (suc m) (c ∷ cs) h k = some_lines c (take m cs)
 
 lines_split : (a f : List ℕ) → lines_of (a ++ f) ≡ lines_of (take (last_line a) a) ++ lines_of (drop (last_line a) a ++ f)
 unfolding lines_of last_line
@@ -67,23 +67,23 @@ lines_split (c ∷ cs) f =
     test (ltb 0 m)
     (λ p. test (eqb c 10)
     (λ e. rw (e, ih, e))
-    (λ e. rw (e, p, e, ih) (glue-on c (lines_of (take m cs)) _ (lines-taken m cs (ltb-true 0 m p) (last-in cs)))))
+    (λ e. rw (e, p, e, ih) (glue_on c (lines_of (take m cs)) _ (lines_taken m cs (ltb-true 0 m p) (last_in cs)))))
     (λ p. let z : last_line cs ≡ 0 = omega (arith, ltb-false 0 m p) in
     test (eqb c 10)
     (λ e. rw (e, z, e))
     (λ e. rw (e, p, e)))
 
-good-append : (ls ms : List (List ℕ)) → good_of (ls ++ ms) ≡ good_of ls ++ cond (lines_read ls).ok (good_of ms) []
+good_append : (ls ms : List (List ℕ)) → good_of (ls ++ ms) ≡ good_of ls ++ cond (lines_read ls).ok (good_of ms) []
 unfolding good_of good_then lines_read line_then read_as
-good-append [] ms = refl
-good-append (l ∷ ls) ms =
+good_append [] ms = refl
+good_append (l ∷ ls) ms =
     test (words_read (words_in l)).ok
-    (λ e. rw (e, good-append ls ms, append_assoc))
+    (λ e. rw (e, good_append ls ms, append_assoc))
     (λ e. rw e)
 
-pub lines-in-pieces : LinesInPieces
+pub lines_in_pieces : LinesInPieces
 unfolding LinesInPieces good_bytes bytes_of_text
-lines-in-pieces a f = rw (lines_split a f) (good-append (lines_of (take (last_line a) a)) (lines_of (drop (last_line a) a ++ f)))
+lines_in_pieces a f = rw (lines_split a f) (good_append (lines_of (take (last_line a) a)) (lines_of (drop (last_line a) a ++ f)))
 
 -- ---- the bytes of the lines in the form stand at the front of what is read
 
@@ -96,9 +96,9 @@ bytes_good (l ∷ ls) =
     (λ e. (ih.0, rw (e, ih.1, append_assoc)))
     (λ e. ((words_read (words_in l)).bytes, rw e))
 
-pub good-front : (text d d' : List ℕ) (r : TextRead) → TextReadAs (bytes_of_text text) (good_bytes text) d d' r → r.cursor.short ≡ false → take r.good d' ≡ good_bytes text
+pub good_front : (text d d' : List ℕ) (r : TextRead) → TextReadAs (bytes_of_text text) (good_bytes text) d d' r → r.cursor.short ≡ false → take r.good d' ≡ good_bytes text
 unfolding good_bytes bytes_of_text room filled
-good-front text d d' r t s =
+good_front text d d' r t s =
     let ls = good_of (lines_of text) in
     let bs = (lines_read (lines_of text)).bytes in
     let o = bytes_good (lines_of text) in
@@ -106,7 +106,7 @@ good-front text d d' r t s =
     (λ q. let l : length bs ≤ length d = leb-true (length bs) (length d) q in
     let x : d' ≡ bs ++ drop (length bs) d = ap (λ (w : Room). w.buffer) t.written ∙ rw (take_all (length d) bs l) in
     let k : length ls ≤ length d = omega (arith, ap length o.1, length-append ls o.0) in
-    let g : r.good ≡ length ls = t.good-end ∙ rw (le-leb (length ls) (length d) k) in
+    let g : r.good ≡ length ls = t.good_end ∙ rw (le-leb (length ls) (length d) k) in
     let y : d' ≡ ls ++ (o.0 ++ drop (length bs) d) = x ∙ (ap (λ (z : List ℕ). z ++ drop (length bs) d) o.1 ∙ append_assoc ls o.0 (drop (length bs) d)) in
     rw (g, y) (take-append_seam ls (o.0 ++ drop (length bs) d)))
     (λ q. absurd (false≢true (sym s ∙ (ap (λ (w : Room). w.cursor.short) t.written ∙ rw q))))
@@ -118,11 +118,11 @@ last_found l zero z h e = absurd (omega arith)
 last_found l (suc i) z h e =
     let m : suc i - 1 ≡ i = omega arith in
     let f : get_or l i 0 ≡ 10 = rw m at e in
-    last-at l i (omega arith) ∙ rw f
+    last_at l i (omega arith) ∙ rw f
 
-pub last-back : (l : List ℕ) (i : ℕ) → 0 < i → i ≤ length l → (get_or l (i - 1) 0 ≡ 10 → ⊥) → last_line (take i l) ≡ last_line (take (i - 1) l)
-last-back l zero z h e = absurd (omega arith)
-last-back l (suc i) z h e =
+pub last_back : (l : List ℕ) (i : ℕ) → 0 < i → i ≤ length l → (get_or l (i - 1) 0 ≡ 10 → ⊥) → last_line (take i l) ≡ last_line (take (i - 1) l)
+last_back l zero z h e = absurd (omega arith)
+last_back l (suc i) z h e =
     let m : suc i - 1 ≡ i = omega arith in
     let f : get_or l i 0 ≡ 10 → ⊥ = rw m at e in
-    last-at l i (omega arith) ∙ rw (ne_eqb (get_or l i 0) 10 f, m)
+    last_at l i (omega arith) ∙ rw (ne_eqb (get_or l i 0) 10 f, m)

@@ -9,10 +9,10 @@ use Rattle.rules.specs.Kinds.{kinds}
 use Rattle.rules.specs.Lists.{place}
 
 module _ (w : List ℕ) (k : ℕ) (e : k ≡ place (is_name w) kinds) where
-  pub is-kind : k < length kinds → k ≡ kind_of w
+  pub is_kind : k < length kinds → k ≡ kind_of w
   unfolding kind_of
-  is-kind h = rw (← e, lt-ltb k (length kinds) h)
+  is_kind h = rw (← e, lt-ltb k (length kinds) h)
 
-  pub is-other : length kinds ≤ k → other_line w ≡ kind_of w
+  pub is_other : length kinds ≤ k → other_line w ≡ kind_of w
   unfolding kind_of
-  is-other h = rw (← e, le-ltb k (length kinds) h)
+  is_other h = rw (← e, le-ltb k (length kinds) h)

@@ -9,10 +9,10 @@ use native.Mathlib.Omega.{arith}
 use borrow.Author.Tests.{ne_eqb}
 use lib.Seq.{drop-cons, drop-drop}
 use native.Mathlib.Nat.{zero-add}
-use Rattle.rules.proofs.Lists.{place-le}
+use Rattle.rules.proofs.Lists.{place_le}
 use Rattle.rules.specs.Bytes.{bytes_of}
 use Rattle.rules.specs.Lists.{place}
-use Rattle.output.proofs.Rooms.{puts-filled, puts-join}
+use Rattle.output.proofs.Rooms.{puts_filled, puts_join}
 use Rattle.parsing.specs.Read.{Got, Text, behind, bytes_of_text, complete, field, fields_from, glued, good_bytes, good_of, good_then, got, kind_bytes, kind_of, kind_then, line_then, lines_of, lines_read, no_word, number_in, read_as, stops, width_at, words_in, words_read}
 use Rattle.parsing.specs.Results.{ReadsAs, TextReadAs}
 use Rattle.output.specs.Room.{Room, filled, puts, room}
@@ -28,18 +28,18 @@ pub record Left (g g₀ : Got) (r r₀ : Room) : Type 0 where
   pub same_ok : g.ok ≡ g₀.ok
 
 module _ (k f : ℕ) (l : List ℕ) where
-  pub fields-none : words_in l ≡ [] → fields_from k f (words_in l) ≡ got [] (complete k f)
+  pub fields_none : words_in l ≡ [] → fields_from k f (words_in l) ≡ got [] (complete k f)
   unfolding fields_from
-  fields-none e = rw e
+  fields_none e = rw e
 
   module _ (w : List ℕ) (ws : List (List ℕ)) (e : words_in l ≡ w ∷ ws) where
-    pub fields-not : number_in (width_at k f) w ≡ Not → fields_from k f (words_in l) ≡ got [] false
+    pub fields_not : number_in (width_at k f) w ≡ Not → fields_from k f (words_in l) ≡ got [] false
     unfolding fields_from field
-    fields-not n = rw (e, n)
+    fields_not n = rw (e, n)
 
-    pub fields-is : (v : ℕ) → number_in (width_at k f) w ≡ Is v → fields_from k f (words_in l) ≡ behind (bytes_of (width_at k f) v) (fields_from k (suc f) ws)
+    pub fields_is : (v : ℕ) → number_in (width_at k f) w ≡ Is v → fields_from k f (words_in l) ≡ behind (bytes_of (width_at k f) v) (fields_from k (suc f) ws)
     unfolding fields_from field
-    fields-is v n = rw (e, n)
+    fields_is v n = rw (e, n)
 
 -- the end of a line, in the form or not
 pub left_end : (g g₀ : Got) (r r₀ : Room) (ok : Bool) → g ≡ got [] ok → Left g g₀ r r₀ → (r ≡ puts r₀ g₀.bytes) × (ok ≡ g₀.ok)
@@ -47,43 +47,43 @@ unfolding got puts
 left_end g g₀ r r₀ ok e h = (let b = rw e at h.same_bytes in b, let o = rw e at h.same_ok in o)
 
 -- a field more
-pub left-more : (g g₀ h : Got) (r r₀ : Room) (bs : List ℕ) → g ≡ behind bs h → Left g g₀ r r₀ → Left h g₀ (puts r bs) r₀
+pub left_more : (g g₀ h : Got) (r r₀ : Room) (bs : List ℕ) → g ≡ behind bs h → Left g g₀ r r₀ → Left h g₀ (puts r bs) r₀
 unfolding got behind
-left-more g g₀ h r r₀ bs e l = record { same_bytes = sym (puts-join r bs h.bytes) ∙ (rw e at l.same_bytes); same_ok = rw e at l.same_ok }
+left_more g g₀ h r r₀ bs e l = record { same_bytes = sym (puts_join r bs h.bytes) ∙ (rw e at l.same_bytes); same_ok = rw e at l.same_ok }
 
 -- ---- a line by its words
 
 module _ (line : List ℕ) where
-  pub line-none : words_in line ≡ [] → words_read (words_in line) ≡ got [] true
+  pub line_none : words_in line ≡ [] → words_read (words_in line) ≡ got [] true
   unfolding words_read
-  line-none e = rw e
+  line_none e = rw e
 
   module _ (w : List ℕ) (ws : List (List ℕ)) (e : words_in line ≡ w ∷ ws) where
-    pub line-unknown : kind_of w ≡ no_word → words_read (words_in line) ≡ got [] false
+    pub line_unknown : kind_of w ≡ no_word → words_read (words_in line) ≡ got [] false
     unfolding words_read kind_then
-    line-unknown k = rw (e, k)
+    line_unknown k = rw (e, k)
 
-    pub line-kind : (kind_of w ≡ no_word → ⊥) → words_read (words_in line) ≡ behind (kind_bytes (kind_of w)) (fields_from (kind_of w) 0 ws)
+    pub line_kind : (kind_of w ≡ no_word → ⊥) → words_read (words_in line) ≡ behind (kind_bytes (kind_of w)) (fields_from (kind_of w) 0 ws)
     unfolding words_read kind_then
-    line-kind k = rw (e, ne_eqb (kind_of w) no_word k)
+    line_kind k = rw (e, ne_eqb (kind_of w) no_word k)
 
 pub reads_none : (g : Got) (d : List ℕ) (c : Cursor) (ok : Bool) → g ≡ got [] ok → ReadsAs g d d c (record { cursor = c; ok = ok })
 unfolding got puts
 reads_none g d c ok e = record { written = rw e; told = rw e }
 
-pub reads-behind : (g h : Got) (bs d m x : List ℕ) (c q : Cursor) (r : LineRead) → g ≡ behind bs h → room m q ≡ puts (room d c) bs → ReadsAs h m x q r → ReadsAs g d x c r
+pub reads_behind : (g h : Got) (bs d m x : List ℕ) (c q : Cursor) (r : LineRead) → g ≡ behind bs h → room m q ≡ puts (room d c) bs → ReadsAs h m x q r → ReadsAs g d x c r
 unfolding got behind
-reads-behind g h bs d m x c q r e p l = record { written = rw (e, puts-join, ← p) l.written; told = rw e l.told }
+reads_behind g h bs d m x c q r e p l = record { written = rw (e, puts_join, ← p) l.written; told = rw e l.told }
 
 -- ---- a text by its lines
 
-pub glued-line : (c : ℕ) (l : List ℕ) (ls : List (List ℕ)) (m : List (List ℕ)) → m ≡ l ∷ ls → glued c m ≡ (c ∷ l) ∷ ls
-glued-line c l ls m e = rw e
+pub glued_line : (c : ℕ) (l : List ℕ) (ls : List (List ℕ)) (m : List (List ℕ)) → m ≡ l ∷ ls → glued c m ≡ (c ∷ l) ∷ ls
+glued_line c l ls m e = rw e
 
 lines_at : (c : ℕ) (cs : List ℕ) → lines_of (c ∷ cs) ≡ take (place (stops 2) (c ∷ cs)) (c ∷ cs) ∷ lines_of (drop (suc (place (stops 2) (c ∷ cs))) (c ∷ cs))
 unfolding lines_of place stops
 lines_at c [] = test (eqb c 10) (λ e. rw e) (λ e. rw e)
-lines_at c (d ∷ ds) = let ih = lines_at d ds in test (eqb c 10) (λ e. rw e) (λ e. rw e (glued-line c _ _ _ ih))
+lines_at c (d ∷ ds) = let ih = lines_at d ds in test (eqb c 10) (λ e. rw e) (λ e. rw e (glued_line c _ _ _ ih))
 
 -- the line at a place, and those behind it
 pub lines_next : (text : List ℕ) (at end : ℕ) → at < length text → end ≡ at + place (stops 2) (drop at text) → lines_of (drop at text) ≡ take (end - at) (drop at text) ∷ lines_of (drop (end + 1) text)
@@ -95,70 +95,70 @@ lines_next text at end h e =
     let s : lines_of l ≡ take n l ∷ lines_of (drop (suc n) l) = rw (drop-cons text at 0 h) (lines_at (get_or text at 0) (drop (suc at) text)) in
     rw (m, u, ← drop-drop (suc n) at text, s)
 
-pub text-line : (text : List ℕ) (at end : ℕ) → at < length text → end ≡ at + place (stops 2) (drop at text) → bytes_of_text (drop at text) ≡ line_then (words_read (words_in (take (end - at) (drop at text)))) (bytes_of_text (drop (end + 1) text))
+pub text_line : (text : List ℕ) (at end : ℕ) → at < length text → end ≡ at + place (stops 2) (drop at text) → bytes_of_text (drop at text) ≡ line_then (words_read (words_in (take (end - at) (drop at text)))) (bytes_of_text (drop (end + 1) text))
 unfolding bytes_of_text lines_read
-text-line text at end h e = rw (lines_next text at end h e)
+text_line text at end h e = rw (lines_next text at end h e)
 
 -- the same of the lines in the form
-pub good-line : (text : List ℕ) (at end : ℕ) → at < length text → end ≡ at + place (stops 2) (drop at text) → good_bytes (drop at text) ≡ good_then (words_read (words_in (take (end - at) (drop at text)))) (good_bytes (drop (end + 1) text))
+pub good_line : (text : List ℕ) (at end : ℕ) → at < length text → end ≡ at + place (stops 2) (drop at text) → good_bytes (drop at text) ≡ good_then (words_read (words_in (take (end - at) (drop at text)))) (good_bytes (drop (end + 1) text))
 unfolding good_bytes good_of
-good-line text at end h e = rw (lines_next text at end h e)
+good_line text at end h e = rw (lines_next text at end h e)
 
 pub good_none : (text : List ℕ) (at : ℕ) → length text ≤ at → good_bytes (drop at text) ≡ []
 unfolding good_bytes lines_of good_of
 good_none text at h = rw (drop_of_length-le text h)
 
-pub good-not : (g : Got) (bs : List ℕ) → g.ok ≡ false → good_then g bs ≡ []
+pub good_not : (g : Got) (bs : List ℕ) → g.ok ≡ false → good_then g bs ≡ []
 unfolding good_then
-good-not g bs e = rw e
+good_not g bs e = rw e
 
-pub good-on : (g : Got) (bs : List ℕ) → g.ok ≡ true → good_then g bs ≡ g.bytes ++ bs
+pub good_on : (g : Got) (bs : List ℕ) → g.ok ≡ true → good_then g bs ≡ g.bytes ++ bs
 unfolding good_then
-good-on g bs e = rw e
+good_on g bs e = rw e
 
 -- where no line in the form is left, they are put
-pub good-stop : (d x bs ls : List ℕ) (q : Cursor) → bs ≡ [] → puts (room x q) bs ≡ puts (room d (record { at = 0; short = false })) ls → q.at ≡ (filled d ls).cursor.at
+pub good_stop : (d x bs ls : List ℕ) (q : Cursor) → bs ≡ [] → puts (room x q) bs ≡ puts (room d (record { at = 0; short = false })) ls → q.at ≡ (filled d ls).cursor.at
 unfolding puts room
-good-stop d x bs ls q e h = ap (λ (r : Room). r.cursor.at) ((rw e at h) ∙ puts-filled d ls)
+good_stop d x bs ls q e h = ap (λ (r : Room). r.cursor.at) ((rw e at h) ∙ puts_filled d ls)
 
 pub record LeftText (t t₀ : Text) (r r₀ : Room) (n : ℕ) : Type 0 where
   pub same_bytes : puts r t.bytes ≡ puts r₀ t₀.bytes
   pub same_lines : n + t.lines ≡ t₀.lines
   pub same_ok : t.ok ≡ t₀.ok
 
-pub text-none : (text : List ℕ) (at : ℕ) → length text ≤ at → bytes_of_text (drop at text) ≡ read_as [] 0 true
+pub text_none : (text : List ℕ) (at : ℕ) → length text ≤ at → bytes_of_text (drop at text) ≡ read_as [] 0 true
 unfolding bytes_of_text lines_of lines_read
-text-none text at h = rw (drop_of_length-le text h)
+text_none text at h = rw (drop_of_length-le text h)
 
-pub then-not : (g : Got) (t : Text) → g.ok ≡ false → line_then g t ≡ read_as g.bytes 0 false
+pub then_not : (g : Got) (t : Text) → g.ok ≡ false → line_then g t ≡ read_as g.bytes 0 false
 unfolding line_then
-then-not g t e = rw e
+then_not g t e = rw e
 
-pub then-on : (g : Got) (t : Text) → g.ok ≡ true → line_then g t ≡ read_as (g.bytes ++ t.bytes) (suc t.lines) t.ok
+pub then_on : (g : Got) (t : Text) → g.ok ≡ true → line_then g t ≡ read_as (g.bytes ++ t.bytes) (suc t.lines) t.ok
 unfolding line_then
-then-on g t e = rw e
+then_on g t e = rw e
 
-pub text-stop : (t t₀ : Text) (r : Room) (d : List ℕ) (n : ℕ) (bs : List ℕ) (ok : Bool) (x : List ℕ) (q : Cursor) (ls : List ℕ) (g : ℕ) → t ≡ read_as bs 0 ok → LeftText t t₀ r (room d (record { at = 0; short = false })) n → room x q ≡ puts r bs → g ≡ (filled d ls).cursor.at → TextReadAs t₀ ls d x (record { cursor = q; good = g; lines = n; ok = ok })
+pub text_stop : (t t₀ : Text) (r : Room) (d : List ℕ) (n : ℕ) (bs : List ℕ) (ok : Bool) (x : List ℕ) (q : Cursor) (ls : List ℕ) (g : ℕ) → t ≡ read_as bs 0 ok → LeftText t t₀ r (room d (record { at = 0; short = false })) n → room x q ≡ puts r bs → g ≡ (filled d ls).cursor.at → TextReadAs t₀ ls d x (record { cursor = q; good = g; lines = n; ok = ok })
 unfolding read_as
-text-stop t t₀ r d n bs ok x q ls g e l p z =
+text_stop t t₀ r d n bs ok x q ls g e l p z =
     record {
-      good-end = z;
-      written = p ∙ ((rw e at l.same_bytes) ∙ puts-filled d t₀.bytes);
+      good_end = z;
+      written = p ∙ ((rw e at l.same_bytes) ∙ puts_filled d t₀.bytes);
       counted = let k = rw e at l.same_lines in omega arith;
       told = rw e at l.same_ok;
     }
 
-pub text-step : (t t₀ u : Text) (r r₀ : Room) (n : ℕ) (bs : List ℕ) → t ≡ read_as (bs ++ u.bytes) (suc u.lines) u.ok → LeftText t t₀ r r₀ n → LeftText u t₀ (puts r bs) r₀ (n + 1)
+pub text_step : (t t₀ u : Text) (r r₀ : Room) (n : ℕ) (bs : List ℕ) → t ≡ read_as (bs ++ u.bytes) (suc u.lines) u.ok → LeftText t t₀ r r₀ n → LeftText u t₀ (puts r bs) r₀ (n + 1)
 unfolding read_as
-text-step t t₀ u r r₀ n bs e l =
+text_step t t₀ u r r₀ n bs e l =
     record {
-      same_bytes = sym (puts-join r bs u.bytes) ∙ (rw e at l.same_bytes);
+      same_bytes = sym (puts_join r bs u.bytes) ∙ (rw e at l.same_bytes);
       same_lines = let k = rw e at l.same_lines in omega arith;
       same_ok = rw e at l.same_ok;
     }
 
-pub end-in : (text : List ℕ) (at end : ℕ) → at < length text → end ≡ at + place (stops 2) (drop at text) → end ≤ length text
-end-in text at end h e = omega (arith, place-le (stops 2) (drop at text), length-drop at text)
+pub end_in : (text : List ℕ) (at end : ℕ) → at < length text → end ≡ at + place (stops 2) (drop at text) → end ≤ length text
+end_in text at end h e = omega (arith, place_le (stops 2) (drop at text), length-drop at text)
 
-pub left-all : (t : Text) (r : Room) → LeftText t t r r 0
-left-all t r = record { same_bytes = refl; same_lines = zero-add t.lines; same_ok = refl }
+pub left_all : (t : Text) (r : Room) → LeftText t t r r 0
+left_all t r = record { same_bytes = refl; same_lines = zero-add t.lines; same_ok = refl }

@@ -32,6 +32,6 @@ pub record ReadsAs (g : Got) (entry exit : List ℕ) (c : Cursor) (r : LineRead)
 -- a text is read as g into a buffer, as much of its bytes as there is room for; `good` is the place behind the bytes of the lines in the form, `ls`
 pub record TextReadAs (g : Text) (ls : List ℕ) (entry exit : List ℕ) (r : TextRead) : Type 0 where
   pub written : room exit r.cursor ≡ filled entry g.bytes
-  pub good-end : r.good ≡ (filled entry ls).cursor.at
+  pub good_end : r.good ≡ (filled entry ls).cursor.at
   pub counted : r.lines ≡ g.lines
   pub told : r.ok ≡ g.ok

@@ -9,7 +9,7 @@ use lib.IntN.{ℤ}
 use lib.Seq.{length-take-le, take_all, take_at}
 use native.Mathlib.Omega.{arith}
 use borrow.Author.Tests.{leb-false, leb-true, lt-leb}
-use Rattle.output.proofs.Rooms.{put_front, puts-filled, puts-join}
+use Rattle.output.proofs.Rooms.{put_front, puts_filled, puts_join}
 use Rattle.output.specs.Room.{Room, filled, puts, room}
 use Rattle.output.specs.declared.Cursor.{Cursor}
 use Rattle.undo.proofs.Laws.{test}
@@ -28,15 +28,15 @@ cut_off d d' bs c e h =
     rw (x, y) (take_at (take (length d) bs) (drop (length bs) d) (length d) (length-take-le (length d) bs (omega arith)))
 
 -- what is put into an empty buffer stands at its front, as much as it has room for
-put-most : (d d' bs : List ℕ) (c : Cursor) → room d' c ≡ puts (room d front) bs → take c.at d' ≡ take (length d) bs
-put-most d d' bs c e =
+put_most : (d d' bs : List ℕ) (c : Cursor) → room d' c ≡ puts (room d front) bs → take c.at d' ≡ take (length d) bs
+put_most d d' bs c e =
     test (leb (length bs) (length d))
     (λ h. let l = leb-true (length bs) (length d) h in rw (take_all (length d) bs l) (put_front d d' bs c e l))
-    (λ h. cut_off d d' bs c (e ∙ puts-filled d bs) (leb-false (length bs) (length d) h))
+    (λ h. cut_off d d' bs c (e ∙ puts_filled d bs) (leb-false (length bs) (length d) h))
 
 -- the name, and what can't be done behind it
-pub put-message : (failed : ℤ) (name what : List ℕ) → what ≡ failure failed → (d₁ d₂ : List ℕ) (c₁ c₂ : Cursor) → room d₁ c₁ ≡ puts (room (replicate 64 0) front) name
+pub put_message : (failed : ℤ) (name what : List ℕ) → what ≡ failure failed → (d₁ d₂ : List ℕ) (c₁ c₂ : Cursor) → room d₁ c₁ ≡ puts (room (replicate 64 0) front) name
     → room d₂ c₂ ≡ puts (room d₁ c₁) what → take c₂.at d₂ ≡ message failed name
 unfolding message
-put-message failed name what w d₁ d₂ c₁ c₂ e₁ e₂ =
-    put-most (replicate 64 0) d₂ (name ++ failure failed) c₂ (e₂ ∙ rw (e₁, w, puts-join (room (replicate 64 0) front) name (failure failed)))
+put_message failed name what w d₁ d₂ c₁ c₂ e₁ e₂ =
+    put_most (replicate 64 0) d₂ (name ++ failure failed) c₂ (e₂ ∙ rw (e₁, w, puts_join (room (replicate 64 0) front) name (failure failed)))

@@ -35,12 +35,12 @@ store d at k h =
     let j : k < length d = omega arith in
     rw (add-one k, drop-cons d k 0 j, set_at (take k x) (get_or d k 0) (drop (suc k) d) (get_or x k 0) k l, take-suc x k 0 i, append_assoc (take k x) (get_or x k 0 ∷ []) (drop (suc k) d))
 
-pub shifted-more : (d : List ℕ) (at k : ℕ) → at + k < length d → set (shifted d at k) k (get_or (shifted d at k) (at + k) 0) ≡ shifted d at (k + 1)
-shifted-more d at k h = rw (shifted_at d at k h) (store d at k h)
+pub shifted_more : (d : List ℕ) (at k : ℕ) → at + k < length d → set (shifted d at k) k (get_or (shifted d at k) (at + k) 0) ≡ shifted d at (k + 1)
+shifted_more d at k h = rw (shifted_at d at k h) (store d at k h)
 
-pub moved-short : (d : List ℕ) (at n : ℕ) → length d < n → moved d at n ≡ 0
+pub moved_short : (d : List ℕ) (at n : ℕ) → length d < n → moved d at n ≡ 0
 unfolding moved
-moved-short d at n h = rw (lt-leb n (length d) h)
+moved_short d at n h = rw (lt-leb n (length d) h)
 
 pub moved_all : (d : List ℕ) (at n : ℕ) → n ≤ length d → moved d at n ≡ n - at
 unfolding moved
@@ -48,22 +48,22 @@ moved_all d at n h = rw (le-leb n (length d) h)
 
 -- ---- what stands at the front of a buffer then
 
-drop-take : (a n : ℕ) (l : List ℕ) → drop a (take n l) ≡ take (n - a) (drop a l)
-drop-take zero n l = let e : n - 0 ≡ n = omega arith in rw e
-drop-take (suc a) zero l = let e : 0 - suc a ≡ 0 = omega arith in rw e
-drop-take (suc a) (suc n) [] = sym (take-nil (suc n - suc a))
-drop-take (suc a) (suc n) (x ∷ l) = let e : suc n - suc a ≡ n - a = omega arith in rw e (drop-take a n l)
+drop_take : (a n : ℕ) (l : List ℕ) → drop a (take n l) ≡ take (n - a) (drop a l)
+drop_take zero n l = let e : n - 0 ≡ n = omega arith in rw e
+drop_take (suc a) zero l = let e : 0 - suc a ≡ 0 = omega arith in rw e
+drop_take (suc a) (suc n) [] = sym (take-nil (suc n - suc a))
+drop_take (suc a) (suc n) (x ∷ l) = let e : suc n - suc a ≡ n - a = omega arith in rw e (drop_take a n l)
 
 -- what was moved: the bytes from `at` on of the first n
-pub shifted-front : (d : List ℕ) (at n : ℕ) → n ≤ length d → take (moved d at n) (shifted d at (moved d at n)) ≡ drop at (take n d)
+pub shifted_front : (d : List ℕ) (at n : ℕ) → n ≤ length d → take (moved d at n) (shifted d at (moved d at n)) ≡ drop at (take n d)
 unfolding shifted
-shifted-front d at n h =
+shifted_front d at n h =
     let l : length (take (n - at) (drop at d)) ≡ n - at = simp (length-take, length-drop) (omega arith) in
-    rw (moved_all d at n h, take_at (take (n - at) (drop at d)) (drop (n - at) d) (n - at) l, drop-take at n d)
+    rw (moved_all d at n h, take_at (take (n - at) (drop at d)) (drop (n - at) d) (n - at) l, drop_take at n d)
 
 -- what counts of a refilled buffer begins with what was held
-pub refilled-front : (d d' : List ℕ) (have r : ℕ) → Refilled d d' have r → length d' ≡ length d → take have (take r d') ≡ take have d
-refilled-front d d' have r f e =
+pub refilled_front : (d d' : List ℕ) (have r : ℕ) → Refilled d d' have r → length d' ≡ length d → take have (take r d') ≡ take have d
+refilled_front d d' have r f e =
     test (leb have (length d))
     (λ h. take-take have r d' (f.grows (leb-true have (length d) h)) ∙ f.stays)
     (λ h. let k : length d ≤ have = omega (arith, leb-false have (length d) h) in

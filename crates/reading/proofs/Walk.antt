@@ -9,11 +9,11 @@ use native.Mathlib.Omega.{arith}
 use native.Mathlib.Nat.{zero-add}
 use borrow.Author.Tests.{eqb-false, eqb-true}
 use lib.Seq.{drop-cons, take_at}
-use Rattle.headed.proofs.Header.{held-long}
+use Rattle.headed.proofs.Header.{held_long}
 use Rattle.headed.specs.Reader.{Progress, fields_in, headed_body, held_in, is_kind_of, is_placed_in, records_in, records_read_as, state_read, turn_in, unread}
-use Rattle.lines.proofs.Paste.{sets-join, sets-paste}
-use Rattle.rules.proofs.Codec.Only.{no-entries}
-use Rattle.rules.proofs.Codec.Records.{Passed, along-read, is_last, is_on, last-same, next-same, not-reads, read_or, turn_last, turn-next, turn-passed, turn-stop}
+use Rattle.lines.proofs.Paste.{sets_join, sets_paste}
+use Rattle.rules.proofs.Codec.Only.{no_entries}
+use Rattle.rules.proofs.Codec.Records.{Passed, along_read, is_last, is_on, last_same, next_same, not_reads, read_or, turn_last, turn_next, turn_passed, turn_stop}
 use Rattle.rules.specs.Bytes.{line_at}
 use Rattle.rules.specs.Image.{Persistent, with_listed}
 use Rattle.rules.specs.Lists.{all, count}
@@ -30,21 +30,21 @@ use Rattle.reading.specs.declared.Item.{Item}
 use Rattle.reading.specs.declared.Item.TheVariants.{End, Entries, Head, Line, Refused, Region}
 use Rattle.reading.specs.declared.Spot.{Spot}
 use Rattle.reading.specs.declared.Tally.{Tally}
-use Rattle.reading.proofs.Counts.{Few, count_of, few-more, few-none, last-listed, length_more, log-room, record-count, record-last}
-use Rattle.reading.proofs.Spots.{Stand, none, record-stands, rest-behind, stand-inside, stand-join, stand-marks, stand-moved}
-use Rattle.reading.proofs.Tests.{item-empty, kind-low, log-body, some-held}
-use Rattle.reading.proofs.Turns.{Entered, Shown, added, end, entries, head, is-end, is-entries, is-head, is-line, is-region, is_taken, item-shown, line, refuses, region, turn-item, turn_from}
+use Rattle.reading.proofs.Counts.{Few, count_of, few_more, few_none, last_listed_lem, length_more, log_room, record_count, record_last}
+use Rattle.reading.proofs.Spots.{Stand, none, record_stands, rest_behind, stand_inside, stand_join, stand_marks, stand_moved}
+use Rattle.reading.proofs.Tests.{item_empty, kind_low, log_body, some_held}
+use Rattle.reading.proofs.Turns.{Entered, Shown, added, end, entries, head, is_end, is_entries, is_head, is_line, is_region, is_taken, item_shown, line, refuses, region, turn_item, turn_from}
 
 -- ---- tables
 
 pub filled_more : {A : Type 0} (n : ℕ) (z : A) (xs : List A) (x : A) → set (filled n z xs) (length xs) x ≡ filled n z (xs ++ (x ∷ []))
-filled_more n z xs x = sym (sets-join (replicate n z) 0 xs (x ∷ []) ∙ rw (zero-add (length xs)))
+filled_more n z xs x = sym (sets_join (replicate n z) 0 xs (x ∷ []) ∙ rw (zero-add (length xs)))
 
 -- what a table holds stands at its front
-pub take-filled : {A : Type 0} (n : ℕ) (z : A) (xs : List A) → length xs ≤ n → take (length xs) (filled n z xs) ≡ xs
-take-filled n z xs h =
+pub take_filled : {A : Type 0} (n : ℕ) (z : A) (xs : List A) → length xs ≤ n → take (length xs) (filled n z xs) ≡ xs
+take_filled n z xs h =
     let d : 0 + length xs ≤ length (replicate n z) = rw (length-replicate n z) (omega arith) in
-    rw (sets-paste (replicate n z) 0 xs d) (take_at xs _ (length xs) refl)
+    rw (sets_paste (replicate n z) 0 xs d) (take_at xs _ (length xs) refl)
 
 -- ---- what holds of all that was read, up to a place of the bytes
 
@@ -64,15 +64,15 @@ pub record Kept (ws : List ℕ) (s : Progress) (at : ℕ) : Type 0 where
   -- the log stands behind the head, the lines and the regions
   pub stand : (s.state.threads ≡ 0 → ⊥) → Stand ws (first_spot s.state) s.state.log (spot_at at)
 
-kept-none : (ws : List ℕ) → Kept ws unread 0
-kept-none ws =
+kept_none : (ws : List ℕ) → Kept ws unread 0
+kept_none ws =
     record {
       threads = omega arith;
       start = λ z. record { regions = refl; kind = refl; place = refl };
       seen = omega arith;
       early = λ h. refl;
       held = omega arith;
-      few = few-none;
+      few = few_none;
       stand = λ n. absurd (n refl);
     }
 
@@ -94,10 +94,10 @@ module _ {ws : List ℕ} {s : Progress} {at : ℕ} (g : Kept ws s at) where
   counted {b} {k} e =
       let c : count_for (tally_of s) k ≡ count (is_logged_by (thread_of k)) s.state.log = sym (count_of s.state.log k g.few e.climbs) in
       let t : thread_of k < 8 = omega (arith, e.known, g.threads) in
-      record { known = t; count = c; place = omega (arith, log-room s.state.log k g.few e.climbs, e.room) }
+      record { known = t; count = c; place = omega (arith, log_room s.state.log k g.few e.climbs, e.room) }
 
-  kept-head : (t l : ℕ) → kind ≡ 32 → s.state.threads ≡ 0 → 1 ≤ t → t ≤ 8 → Kept ws (added s body (Head t l)) (at + 1 + headed_body kind)
-  kept-head t l e z lo hi =
+  kept_head : (t l : ℕ) → kind ≡ 32 → s.state.threads ≡ 0 → 1 ≤ t → t ≤ 8 → Kept ws (added s body (Head t l)) (at + 1 + headed_body kind)
+  kept_head t l e z lo hi =
       let o : at + 1 + headed_body kind ≡ 4 = rw e (omega (arith, (g.start z).place)) in
       record {
         threads = hi;
@@ -105,7 +105,7 @@ module _ {ws : List ℕ} {s : Progress} {at : ℕ} (g : Kept ws s at) where
         seen = omega arith;
         early = λ h. refl;
         held = omega arith;
-        few = few-none;
+        few = few_none;
         stand = λ n. rw o none;
       }
 
@@ -120,13 +120,13 @@ module _ {ws : List ℕ} {s : Progress} {at : ℕ} (g : Kept ws s at) where
         early = λ h. g.early m;
         held = g.held;
         few = g.few;
-        stand = λ n. stand-moved (log_start (length s.state.medium) r) at (log_start (length (s.state.medium ++ (line_at body 0 ∷ []))) r) (at + 1 + headed_body kind)
+        stand = λ n. stand_moved (log_start (length s.state.medium) r) at (log_start (length (s.state.medium ++ (line_at body 0 ∷ []))) r) (at + 1 + headed_body kind)
             (g.stand n) (g.early m) (λ q. rw (l, e) (omega arith));
       }
 
-  kept-region : (x : Listed) → kind ≡ 34 → (s.state.threads ≡ 0 → ⊥) → eqb (length s.state.log) 0 ≡ true → length s.state.regions < 32
+  kept_region : (x : Listed) → kind ≡ 34 → (s.state.threads ≡ 0 → ⊥) → eqb (length s.state.log) 0 ≡ true → length s.state.regions < 32
       → Kept ws (record { state = with_listed (s.state.regions ++ (x ∷ [])) s.state; kind = s.kind }) (at + 1 + headed_body kind)
-  kept-region x e n z m =
+  kept_region x e n z m =
       let r = length s.state.medium in
       let l = length_more s.state.regions x in
       record {
@@ -136,16 +136,16 @@ module _ {ws : List ℕ} {s : Progress} {at : ℕ} (g : Kept ws s at) where
         early = g.early;
         held = rw l (omega arith);
         few = g.few;
-        stand = λ n. stand-moved (log_start r (length s.state.regions)) at (log_start r (length (s.state.regions ++ (x ∷ [])))) (at + 1 + headed_body kind)
-            (g.stand n) (no-entries s.state.log z) (λ q. rw (l, e) (omega arith));
+        stand = λ n. stand_moved (log_start r (length s.state.regions)) at (log_start r (length (s.state.regions ++ (x ∷ [])))) (at + 1 + headed_body kind)
+            (g.stand n) (no_entries s.state.log z) (λ q. rw (l, e) (omega arith));
       }
 
-  kept-entries : (k d : ℕ) → headed_body kind ≤ length body → Entered (tally_of s) kind body k d → Kept ws (added s body (Entries k d)) (at + 1 + headed_body kind)
+  kept_entries : (k d : ℕ) → headed_body kind ≤ length body → Entered (tally_of s) kind body k d → Kept ws (added s body (Entries k d)) (at + 1 + headed_body kind)
   unfolding tally_of
-  kept-entries k d h e =
+  kept_entries k d h e =
       let c = counted e in
       let m = holds kind in
-      let o : at + 4 + 65 * m ≡ at + 1 + headed_body kind = rw (log-body kind e.held) (omega arith) in
+      let o : at + 4 + 65 * m ≡ at + 1 + headed_body kind = rw (log_body kind e.held) (omega arith) in
       let room : count (is_logged_by (thread_of (key_at body 0))) s.state.log + m ≤ 32 = rw (← e.key, ← c.count) e.room in
       let inside : at + 4 + 65 * m ≤ length ws = omega (arith, length-drop (suc at) ws) in
       rw e.kind
@@ -155,17 +155,17 @@ module _ {ws : List ℕ} {s : Progress} {at : ℕ} (g : Kept ws s at) where
         seen = g.seen;
         early = λ j. absurd (omega (arith, e.late));
         held = g.held;
-        few = few-more s.state.log m m body g.few (rw (← e.key) e.climbs) (rw (← e.key) c.known) (some-held kind) room;
-        stand = λ n. rw (← o) (stand-join (g.stand n) (record-stands ws at (some-held kind) inside));
+        few = few_more s.state.log m m body g.few (rw (← e.key) e.climbs) (rw (← e.key) c.known) (some_held kind) room;
+        stand = λ n. rw (← o) (stand_join (g.stand n) (record_stands ws at (some_held kind) inside));
       })
 
   kept_more : {i : Item} {q : Progress} → headed_body kind ≤ length body → Shown (tally_of s) kind body i → turn_from s body i ≡ Next q → Kept ws q (at + 1 + headed_body kind)
   unfolding tally_of
   kept_more h refuses e = absurd (false≢true (ap is_on e))
-  kept_more h (head {t} {l} b z lo hi) e = rw (← next-same e) (kept-head t l b z lo hi)
-  kept_more h (line b n m) e = rw (← next-same e) (kept_line b n m)
-  kept_more h (region b n l m) e = rw (← next-same e) (kept-region _ b n l m)
-  kept_more h (entries {k} {d} b) e = rw (← next-same e) (kept-entries k d h b)
+  kept_more h (head {t} {l} b z lo hi) e = rw (← next_same e) (kept_head t l b z lo hi)
+  kept_more h (line b n m) e = rw (← next_same e) (kept_line b n m)
+  kept_more h (region b n l m) e = rw (← next_same e) (kept_region _ b n l m)
+  kept_more h (entries {k} {d} b) e = rw (← next_same e) (kept_entries k d h b)
   kept_more h (end n) e = absurd (true≢false (ap is_last e))
 
   -- the end
@@ -176,39 +176,39 @@ module _ {ws : List ℕ} {s : Progress} {at : ℕ} (g : Kept ws s at) where
   ended_here (line b n m) e = absurd (false≢true (ap is_last e))
   ended_here (region b n l m) e = absurd (false≢true (ap is_last e))
   ended_here (entries b) e = absurd (false≢true (ap is_last e))
-  ended_here (end n) e = (last-same e, n)
+  ended_here (end n) e = (last_same e, n)
 
   -- one turn
   module _ (headed : Bool) (q : Progress) where
     abbrev passed : turn_in headed s (kind ∷ body) ≡ Next q → Passed (is_kind_of headed) is_placed_in headed_body fields_in s kind body (Next q)
-    passed t = turn-passed (is_kind_of headed) is_placed_in headed_body fields_in s kind body (Next q) refl t
+    passed t = turn_passed (is_kind_of headed) is_placed_in headed_body fields_in s kind body (Next q) refl t
 
     kept_next : turn_in headed s (kind ∷ body) ≡ Next q → Kept ws q (at + 1 + headed_body kind)
-    kept_next t = kept_more (passed t).long (item-shown (tally_of s) body headed kind) (sym (turn-item s body headed kind g.few) ∙ t)
+    kept_next t = kept_more (passed t).long (item_shown (tally_of s) body headed kind) (sym (turn_item s body headed kind g.few) ∙ t)
 
-    kept-last : turn_in headed s (kind ∷ body) ≡ Last q → (s ≡ q) × (s.state.threads ≡ 0 → ⊥)
-    kept-last t = ended_here (item-shown (tally_of s) body headed kind) (sym (turn-item s body headed kind g.few) ∙ t)
+    kept_last : turn_in headed s (kind ∷ body) ≡ Last q → (s ≡ q) × (s.state.threads ≡ 0 → ⊥)
+    kept_last t = ended_here (item_shown (tally_of s) body headed kind) (sym (turn_item s body headed kind g.few) ∙ t)
 
 -- ---- what the next record is judged by
 
-after-head : (s : Progress) (bs : List ℕ) (t l : ℕ) → s.kind ≡ 0 → after_head t l ≡ tally_of (added s bs (Head t l))
+after_head_lem : (s : Progress) (bs : List ℕ) (t l : ℕ) → s.kind ≡ 0 → after_head t l ≡ tally_of (added s bs (Head t l))
 unfolding tally_of count
-after-head s bs t l z = rw z
+after_head_lem s bs t l z = rw z
 
 after_line_lem : (s : Progress) (bs : List ℕ) → after_line (tally_of s) ≡ tally_of (added s bs Line)
 unfolding tally_of
 after_line_lem s bs = rw (length_more s.state.medium)
 
-after-region : (s : Progress) (bs : List ℕ) (k q a b c d : ℕ) → after_region (tally_of s) k ≡ tally_of (added s bs (Region k q a b c d))
+after_region_lem : (s : Progress) (bs : List ℕ) (k q a b c d : ℕ) → after_region (tally_of s) k ≡ tally_of (added s bs (Region k q a b c d))
 unfolding tally_of
-after-region s bs k q a b c d = rw (last-listed s.state.regions, length_more s.state.regions)
+after_region_lem s bs k q a b c d = rw (last_listed_lem s.state.regions, length_more s.state.regions)
 
-after-entries : (s : Progress) (b k d : ℕ) (bs : List ℕ) → Entered (tally_of s) b bs k d → Counted s b k → after_entries (tally_of s) k d ≡ tally_of (added s bs (Entries k d))
+after_entries_lem : (s : Progress) (b k d : ℕ) (bs : List ℕ) → Entered (tally_of s) b bs k d → Counted s b k → after_entries (tally_of s) k d ≡ tally_of (added s bs (Entries k d))
 unfolding tally_of
-after-entries s b k d bs e c =
+after_entries_lem s b k d bs e c =
     let m = holds d in
     let es = s.state.log in
-    rw (c.count, e.key, record-last m bs es m (some-held d), length-append es (held_in m bs), held-long m bs 0 m, record-count m bs (thread_of (key_at bs 0)) es m, is_same (thread_of (key_at bs 0)))
+    rw (c.count, e.key, record_last m bs es m (some_held d), length-append es (held_in m bs), held_long m bs 0 m, record_count m bs (thread_of (key_at bs 0)) es m, is_same (thread_of (key_at bs 0)))
 
 -- ---- what is read of an image
 
@@ -237,21 +237,21 @@ module _ (headed : Bool) (ws : List ℕ) where
       let e = front at b bs f.here in
       let k : get_or ws at 0 ≡ b = cc in
       let r : drop (suc at) ws ≡ bs = cc in
-      record { at = at + 1 + headed_body (get_or ws at 0); here = rw (← rest-behind ws at (headed_body (get_or ws at 0)), k, r); kept = kept_next f.kept headed q (ap (turn_in headed s) e ∙ t) }
+      record { at = at + 1 + headed_body (get_or ws at 0); here = rw (← rest_behind ws at (headed_body (get_or ws at 0)), k, r); kept = kept_next f.kept headed q (ap (turn_in headed s) e ∙ t) }
 
   finished : (s q : Progress) (b : ℕ) (bs : List ℕ) → Far ws s (b ∷ bs) → turn_in headed s (b ∷ bs) ≡ Last q → Laid ws q.state
-  finished s q b bs f t = let a = kept-last f.kept headed q (ap (turn_in headed s) (front f.at b bs f.here) ∙ t) in rw (← a.0) (laid f.kept a.1)
+  finished s q b bs f t = let a = kept_last f.kept headed q (ap (turn_in headed s) (front f.at b bs f.here) ∙ t) in rw (← a.0) (laid f.kept a.1)
 
-  pub read-laid : (p : Persistent) → records_read_as headed ws ≡ Reads p → Laid ws p
+  pub read_laid : (p : Persistent) → records_read_as headed ws ≡ Reads p → Laid ws p
   unfolding records_read_as
-  read-laid p e = go (records_in headed unread 0 ws) refl e
+  read_laid p e = go (records_in headed unread 0 ws) refl e
     where
       go : (v : Verdict Progress) → records_in headed unread 0 ws ≡ v → state_read v ≡ Reads p → Laid ws p
-      go (Refuses n) q e = not-reads e
+      go (Refuses n) q e = not_reads e
       go (Reads s) q e =
           subst (Laid ws) (ap (read_or s.state) e)
-          (along-read (turn_in headed) headed_body (Far ws) (λ r. Laid ws r.state) further finished ws 0 unread s
-          (record { at = 0; here = refl; kept = kept-none ws }) q)
+          (along_read (turn_in headed) headed_body (Far ws) (λ r. Laid ws r.state) further finished ws 0 unread s
+          (record { at = 0; here = refl; kept = kept_none ws }) q)
 
 -- ---- where the loop stands
 
@@ -269,15 +269,15 @@ pub record Went (headed : Bool) (src : List ℕ) (s : Tally) (rs : List Listed) 
   pub within : at + 1 + headed_body (get_or src at 0) ≤ length src
   pub on : Reached headed src s rs (at + 1 + headed_body (get_or src at 0))
 
-pub reached-none : (headed : Bool) (src : List ℕ) → Reached headed src (after_head 0 0) (replicate 32 free_listed) 0
+pub reached_none : (headed : Bool) (src : List ℕ) → Reached headed src (after_head 0 0) (replicate 32 free_listed) 0
 unfolding tally_of count
-reached-none headed src = record { state = unread; kept = kept-none src; tally = refl; regions = refl; inside = omega arith; reads = refl }
+reached_none headed src = record { state = unread; kept = kept_none src; tally = refl; regions = refl; inside = omega arith; reads = refl }
 
 -- the reading stops at a record that is refused
-stop-read : (headed : Bool) (s : Progress) (bs : List ℕ) (n : ℕ) → Few s.state.log → item_of headed (tally_of s) bs ≡ Refused n → records_in headed s 0 bs ≡ Refuses n
+stop_read : (headed : Bool) (s : Progress) (bs : List ℕ) (n : ℕ) → Few s.state.log → item_of headed (tally_of s) bs ≡ Refused n → records_in headed s 0 bs ≡ Refuses n
 unfolding item_of read_by
-stop-read headed s [] n few e = cc
-stop-read headed s (k ∷ bs) n few e = turn-stop (turn_in headed) headed_body s n k bs (turn-item s bs headed k few ∙ ap (turn_from s bs) e)
+stop_read headed s [] n few e = cc
+stop_read headed s (k ∷ bs) n few e = turn_stop (turn_in headed) headed_body s n k bs (turn_item s bs headed k few ∙ ap (turn_from s bs) e)
 
 module _ {headed : Bool} {src : List ℕ} {s : Tally} {rs : List Listed} {at : ℕ} (r : Reached headed src s rs at) where
   abbrev rest : List ℕ
@@ -289,7 +289,7 @@ module _ {headed : Bool} {src : List ℕ} {s : Tally} {rs : List Listed} {at : �
 
   pub stopped : (n : ℕ) → item_of headed s (drop at src) ≡ Refused n → records_read_as headed src ≡ Refuses n
   unfolding records_read_as
-  stopped n e = ap state_read (sym r.reads ∙ stop-read headed r.state (drop at src) n r.kept.few (same_item e))
+  stopped n e = ap state_read (sym r.reads ∙ stop_read headed r.state (drop at src) n r.kept.few (same_item e))
 
   -- ---- a record that is taken
 
@@ -297,15 +297,15 @@ module _ {headed : Bool} {src : List ℕ} {s : Tally} {rs : List Listed} {at : �
     there : at < length src
     there =
         test (eqb (length (drop at src)) 0)
-        (λ z. never taken (ap is_taken (sym e ∙ item-empty headed s (drop at src) (eqb-true (length (drop at src)) 0 z))))
+        (λ z. never taken (ap is_taken (sym e ∙ item_empty headed s (drop at src) (eqb-true (length (drop at src)) 0 z))))
         (λ z. omega (arith, length-drop at src, eqb-false (length (drop at src)) 0 z))
 
     pub shown : Shown s (get_or src at 0) rest i
-    shown = subst (Shown s (get_or src at 0) rest) (ap (item_of headed s) (sym (drop-cons src at 0 there)) ∙ e) (item-shown s rest headed (get_or src at 0))
+    shown = subst (Shown s (get_or src at 0) rest) (ap (item_of headed s) (sym (drop-cons src at 0 there)) ∙ e) (item_shown s rest headed (get_or src at 0))
 
     turned : turn_in headed r.state (get_or src at 0 ∷ rest) ≡ turn_from r.state rest i
     turned =
-        turn-item r.state rest headed (get_or src at 0) r.kept.few
+        turn_item r.state rest headed (get_or src at 0) r.kept.few
         ∙ ap (turn_from r.state rest) (ap (item_of headed (tally_of r.state)) (sym (drop-cons src at 0 there)) ∙ same_item e)
 
     went : {t : Tally} {qs : List Listed} → turn_from r.state rest i ≡ Next (added r.state rest i) → t ≡ tally_of (added r.state rest i)
@@ -316,7 +316,7 @@ module _ {headed : Bool} {src : List ℕ} {s : Tally} {rs : List Listed} {at : �
         let p = passed r.kept headed q (turned ∙ n) in
         let m : at + 1 + headed_body k ≤ length src = omega (arith, p.long, there, length-drop (suc at) src) in
         record {
-          low = kind-low headed k p.known;
+          low = kind_low headed k p.known;
           within = m;
           on =
               record {
@@ -325,61 +325,61 @@ module _ {headed : Bool} {src : List ℕ} {s : Tally} {rs : List Listed} {at : �
                 tally = a;
                 regions = b;
                 inside = m;
-                reads = sym (turn-next (turn_in headed) headed_body r.state q k rest (turned ∙ n) ∙ ap (records_in headed q 0) (rest-behind src at (headed_body k)))
+                reads = sym (turn_next (turn_in headed) headed_body r.state q k rest (turned ∙ n) ∙ ap (records_in headed q 0) (rest_behind src at (headed_body k)))
                     ∙ (ap (records_in headed r.state 0) (sym (drop-cons src at 0 there)) ∙ r.reads);
               };
         }
 
   -- ---- each kind of record, at the loop's place
 
-  pub went-head : (t l : ℕ) → item_of headed s (drop at src) ≡ Head t l → Went headed src (after_head t l) rs at
+  pub went_head : (t l : ℕ) → item_of headed s (drop at src) ≡ Head t l → Went headed src (after_head t l) rs at
   unfolding tally_of
-  went-head t l e =
-      let z = r.kept.start (rw r.tally at (is-head (shown (Head t l) e refl))) in
-      went (Head t l) e refl refl (after-head r.state rest t l z.kind) (r.regions ∙ ap (filled 32 free_listed) z.regions)
+  went_head t l e =
+      let z = r.kept.start (rw r.tally at (is_head (shown (Head t l) e refl))) in
+      went (Head t l) e refl refl (after_head_lem r.state rest t l z.kind) (r.regions ∙ ap (filled 32 free_listed) z.regions)
 
-  pub line-room : item_of headed s (drop at src) ≡ Line → s.seen < s.lines
-  line-room e = is-line (shown Line e refl)
+  pub line_room : item_of headed s (drop at src) ≡ Line → s.seen < s.lines
+  line_room e = is_line (shown Line e refl)
 
   pub went_line : item_of headed s (drop at src) ≡ Line → Went headed src (after_line s) rs at
   went_line e = went Line e refl refl (ap after_line r.tally ∙ after_line_lem r.state rest) r.regions
 
   module _ (k q a b c d : ℕ) (e : item_of headed s (drop at src) ≡ Region k q a b c d) where
-    pub region-room : s.held < 32
-    region-room = is-region (shown (Region k q a b c d) e refl)
+    pub region_room : s.held < 32
+    region_room = is_region (shown (Region k q a b c d) e refl)
 
-    pub went-region : Went headed src (after_region s k) (set rs s.held (record { key = k; state = q; deps = a ∷ b ∷ c ∷ d ∷ [] })) at
+    pub went_region : Went headed src (after_region s k) (set rs s.held (record { key = k; state = q; deps = a ∷ b ∷ c ∷ d ∷ [] })) at
     unfolding tally_of
-    went-region =
-        went (Region k q a b c d) e refl refl (ap (λ t. after_region t k) r.tally ∙ after-region r.state rest k q a b c d)
+    went_region =
+        went (Region k q a b c d) e refl refl (ap (λ t. after_region t k) r.tally ∙ after_region_lem r.state rest k q a b c d)
         (rw (r.regions, r.tally) (filled_more 32 free_listed r.state.state.regions (record { key = k; state = q; deps = a ∷ b ∷ c ∷ d ∷ [] })))
 
   module _ (k d : ℕ) (e : item_of headed s (drop at src) ≡ Entries k d) where
     entered : Entered (tally_of r.state) (get_or src at 0) rest k d
-    entered = rw r.tally at (is-entries (shown (Entries k d) e refl))
+    entered = rw r.tally at (is_entries (shown (Entries k d) e refl))
 
-    pub entries-room : (s.logged ≤ 256) × (count_for s k ≤ 32)
+    pub entries_room : (s.logged ≤ 256) × (count_for s k ≤ 32)
     unfolding tally_of
-    entries-room = let f = entered in let c = counted r.kept f in rw r.tally (omega (arith, c.place), omega (arith, f.room))
+    entries_room = let f = entered in let c = counted r.kept f in rw r.tally (omega (arith, c.place), omega (arith, f.room))
 
-    pub went-entries : Went headed src (after_entries s k d) rs at
-    went-entries =
-        went (Entries k d) e refl refl (ap (λ t. after_entries t k d) r.tally ∙ after-entries r.state (get_or src at 0) k d rest entered (counted r.kept entered)) r.regions
+    pub went_entries : Went headed src (after_entries s k d) rs at
+    went_entries =
+        went (Entries k d) e refl refl (ap (λ t. after_entries t k d) r.tally ∙ after_entries_lem r.state (get_or src at 0) k d rest entered (counted r.kept entered)) r.regions
 
   -- ---- the end
 
   module _ (e : item_of headed s (drop at src) ≡ End) where
     all_read : Laid src r.state.state
     unfolding tally_of
-    all_read = laid r.kept (rw r.tally at (is-end (shown End e refl)))
+    all_read = laid r.kept (rw r.tally at (is_end (shown End e refl)))
 
-    pub start-room : (s.seen ≤ s.lines) × (s.held ≤ 32)
+    pub start_room : (s.seen ≤ s.lines) × (s.held ≤ 32)
     unfolding tally_of
-    start-room = rw r.tally (r.kept.seen, r.kept.held)
+    start_room = rw r.tally (r.kept.seen, r.kept.held)
 
-    pub marks-inside : (all (is_inside src) (spots_from s.logged src (spot_at (log_start s.seen s.held))) ≡ true) × (s.logged ≤ 256)
+    pub marks_inside : (all (is_inside src) (spots_from s.logged src (spot_at (log_start s.seen s.held))) ≡ true) × (s.logged ≤ 256)
     unfolding tally_of
-    marks-inside = rw r.tally (stand-inside all_read.stand, all_read.few.1)
+    marks_inside = rw r.tally (stand_inside all_read.stand, all_read.few.1)
 
     pub ended : {log : List Mark} → log ≡ filled 256 no_mark (map (mark_on src) (spots_from s.logged src (spot_at (log_start s.seen s.held))))
         → record { refusal = 0; scan = tabled s rs log } ≡ read_of src (records_read_as headed src)
@@ -388,4 +388,4 @@ module _ {headed : Bool} {src : List ℕ} {s : Tally} {rs : List Listed} {at : �
         let x : records_in headed unread 0 src ≡ Reads r.state
         = sym r.reads ∙ (ap (records_in headed r.state 0) (drop-cons src at 0 (there End e refl))
         ∙ turn_last (turn_in headed) headed_body r.state r.state (get_or src at 0) rest (turned End e refl)) in
-        rw (x, q, r.tally, r.regions, stand-marks all_read.stand)
+        rw (x, q, r.tally, r.regions, stand_marks all_read.stand)

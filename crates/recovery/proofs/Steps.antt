@@ -7,12 +7,12 @@ use lib.ListN.{drop, length, length-drop}
 use native.Mathlib.Omega.{arith}
 use Rattle.headed.specs.Reader.{read_as}
 use Rattle.headed.specs.Recovery.{restore_as}
-use Rattle.reading.proofs.Walk.{read-laid}
-use Rattle.recovery.proofs.Accepted.{read-records}
-use Rattle.recovery.proofs.Places.{accepted-image, line-inside}
-use Rattle.recovery.proofs.Leaves.{walk-few}
+use Rattle.reading.proofs.Walk.{read_laid}
+use Rattle.recovery.proofs.Accepted.{read_records}
+use Rattle.recovery.proofs.Places.{accepted_image, line_inside}
+use Rattle.recovery.proofs.Leaves.{walk_few}
 use Rattle.recovery.specs.Places.{entry_read, next_of}
-use Rattle.rules.proofs.Recover.Steps.{fits-left}
+use Rattle.rules.proofs.Recover.Steps.{fits_left}
 use Rattle.rules.specs.Bytes.{line_bytes, paste}
 use Rattle.rules.specs.Claim.{is_byte}
 use Rattle.rules.specs.Image.{Logged, Persistent}
@@ -36,8 +36,8 @@ finds (Reads p) at = go (drop at (walk_entries p)) refl
     go (x ∷ es) k = entry p x es refl k
 
 -- the entry's numbers are those of what a step finds
-pub entry-told : (v : Verdict Persistent) (at : ℕ) → answered (next_of v at).refusal (256 * (next_of v at).key + (next_of v at).line) ≡ entry_read v at
-entry-told v at = go (finds v at)
+pub entry_told : (v : Verdict Persistent) (at : ℕ) → answered (next_of v at).refusal (256 * (next_of v at).key + (next_of v at).line) ≡ entry_read v at
+entry_told v at = go (finds v at)
   where
     go : Finds v at → answered (next_of v at).refusal (256 * (next_of v at).key + (next_of v at).line) ≡ entry_read v at
     go (refused n q) = rw q
@@ -58,14 +58,14 @@ module _ (headed : Bool) (bs : List ℕ) (at : ℕ) where
       go (past p q k) = rw (q, k)
       go (entry p x xs q k) = absurd (false≢true (sym (rw (q, k) at e)))
 
-  pub step-goes : (next_of (read_as headed bs) at).there ≡ true
+  pub step_goes : (next_of (read_as headed bs) at).there ≡ true
       → record {
         after = record { bytes = paste bs (line_start (next_of (read_as headed bs) at).line) (line_bytes (next_of (read_as headed bs) at).old); at = at + 1 };
         answer = answered 0 (next_of (read_as headed bs) at).more;
       }
       ≡ restore_as headed there
   unfolding restore_as restore_by
-  step-goes e = go (finds (read_as headed bs) at)
+  step_goes e = go (finds (read_as headed bs) at)
     where
       go : Finds (read_as headed bs) at
           → record {
@@ -81,20 +81,20 @@ module _ (headed : Bool) (bs : List ℕ) (at : ℕ) where
 
   module _ (bytes : all is_byte bs ≡ true) (e : (next_of (read_as headed bs) at).there ≡ true) where
     -- its place is below 8192
-    pub next-soon : at < 8192
-    next-soon = go (finds (read_as headed bs) at)
+    pub next_soon : at < 8192
+    next_soon = go (finds (read_as headed bs) at)
       where
         go : Finds (read_as headed bs) at → at < 8192
         go (refused n q) = absurd (false≢true (rw q at e))
         go (past p q k) = absurd (false≢true (rw (q, k) at e))
-        go (entry p x xs q k) = omega (arith, length-drop at (walk_entries p), ap length k, walk-few p (read-laid headed bs p (read-records headed bs p q)).few)
+        go (entry p x xs q k) = omega (arith, length-drop at (walk_entries p), ap length k, walk_few p (read_laid headed bs p (read_records headed bs p q)).few)
 
     -- its line is inside the image
-    pub next-room : line_start (next_of (read_as headed bs) at).line + 64 ≤ length bs
-    next-room = go (finds (read_as headed bs) at)
+    pub next_room : line_start (next_of (read_as headed bs) at).line + 64 ≤ length bs
+    next_room = go (finds (read_as headed bs) at)
       where
         go : Finds (read_as headed bs) at → line_start (next_of (read_as headed bs) at).line + 64 ≤ length bs
         go (refused n q) = absurd (false≢true (rw q at e))
         go (past p q k) = absurd (false≢true (rw (q, k) at e))
         go (entry p x xs q k) =
-            let i = accepted-image headed bs p bytes (read-records headed bs p q) in rw (q, k) (line-inside i x.line (fits-left p i.valid at k).0)
+            let i = accepted_image headed bs p bytes (read_records headed bs p q) in rw (q, k) (line_inside i x.line (fits_left p i.valid at k).0)

@@ -6,7 +6,7 @@ use mathlib.Core.Path.{◌∙◌, ◌≡◌, refl, sym}
 use lib.Dec.{eqb, leb}
 use native.Mathlib.Omega.{arith}
 use borrow.Author.Tests.{leb-false, leb-true}
-use Rattle.undo.proofs.Laws.{and-true, test}
+use Rattle.undo.proofs.Laws.{and_true, test}
 use Rattle.rules.specs.Refusal.{Test, first_bad, in_range}
 use Rattle.refusals.specs.Order.{before, from}
 use Rattle.rules.proofs.Tests.{numbered, unnumbered}
@@ -29,7 +29,7 @@ went n (x ∷ xs) h z =
     (λ e. rw e)
     (λ e. test x.bad
     (λ b. unnumbered x xs h (rw (e, b) at z))
-    (λ b. rw (e, b) (went n xs (and-true (not (eqb x.code 0)) (numbered xs) h).1 (rw (e, b) at z))))
+    (λ b. rw (e, b) (went n xs (and_true (not (eqb x.code 0)) (numbered xs) h).1 (rw (e, b) at z))))
 
 -- r is what the tests before number n say: a refusal there is the refusal, and without one it goes on from n
 module _ (n r : ℕ) (ts : List Test) (e : r ≡ first_bad (before n ts)) where
@@ -41,8 +41,8 @@ module _ (n r : ℕ) (ts : List Test) (e : r ≡ first_bad (before n ts)) where
 
 -- ---- a thread of a board that is set up is one of eight
 
-at-most-8 : (n l : ℕ) → in_range n l ≡ true → n ≤ 8
-at-most-8 n l e = leb-true _ _ (and-true (leb 1 n) (leb n 8) (and-true (leb 1 n && leb n 8) (leb 1 l && leb l 256) e).0).1
+at_most_8 : (n l : ℕ) → in_range n l ≡ true → n ≤ 8
+at_most_8 n l e = leb-true _ _ (and_true (leb 1 n) (leb n 8) (and_true (leb 1 n && leb n 8) (leb 1 l && leb l 256) e).0).1
 
-pub thread-below : (n l t : ℕ) → not (in_range n l) ≡ false → leb n t ≡ false → t < 8
-thread-below n l t a b = test (in_range n l) (λ e. omega (arith, at-most-8 n l e, leb-false n t b)) (λ e. absurd (false≢true (sym (rw e at a))))
+pub thread_below : (n l t : ℕ) → not (in_range n l) ≡ false → leb n t ≡ false → t < 8
+thread_below n l t a b = test (in_range n l) (λ e. omega (arith, at_most_8 n l e, leb-false n t b)) (λ e. absurd (false≢true (sym (rw e at a))))

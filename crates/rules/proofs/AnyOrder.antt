@@ -13,10 +13,10 @@ use Rattle.rules.specs.Lists.{all, count}
 use Rattle.rules.specs.Tables.{is_held, is_key, no_region, with_deps, with_regions}
 use Rattle.rules.specs.declared.Region.{Region}
 use Rattle.rules.specs.declared.Tables.{Tables}
-use Rattle.undo.proofs.Laws.{and-true, flip, is_same, never, or-false, or_right, or-true, test}
+use Rattle.undo.proofs.Laws.{and_true, flip, is_same, never, or_false, or_right, or_true, test}
 use Rattle.undo.specs.Table.{any, is_in}
-use Rattle.rules.proofs.Sim.Done.{earliest-none, without-zero}
-use Rattle.rules.proofs.Lists.{eq-both}
+use Rattle.rules.proofs.Sim.Done.{earliest_none, without_zero}
+use Rattle.rules.proofs.Lists.{eq_both}
 
 -- ---- commits in any order
 
@@ -43,49 +43,49 @@ map_same : {A : Type 0} (f : A → A) → ((x : A) → f x ≡ x) → (xs : List
 map_same f e [] = refl
 map_same f e (x ∷ xs) = ap₂ ◌∷◌ (e x) (map_same f e xs)
 
-wipe-zero : (ks : List ℕ) → wipe ks 0 ≡ 0
-wipe-zero ks = test (is_in 0 ks) (λ e. rw e) (λ e. rw e)
+wipe_zero : (ks : List ℕ) → wipe ks 0 ≡ 0
+wipe_zero ks = test (is_in 0 ks) (λ e. rw e) (λ e. rw e)
 
-gone-none : (ks : List ℕ) → gone ks no_region ≡ no_region
+gone_none : (ks : List ℕ) → gone ks no_region ≡ no_region
 unfolding gone
-gone-none ks = test (is_in 0 ks) (λ e. rw e) (λ e. rw e)
+gone_none ks = test (is_in 0 ks) (λ e. rw e) (λ e. rw e)
 
 after_none : (k : ℕ) → after_commit k no_region ≡ no_region
 unfolding after_commit
 after_none k = test (eqb 0 k) (λ e. rw e) (λ e. rw e)
 
-gone-nothing : (r : Region) → gone [] r ≡ r
+gone_nothing : (r : Region) → gone [] r ≡ r
 unfolding gone
-gone-nothing r = ap (λ ds. with_deps ds r) (map_same (wipe []) (λ d. refl) r.deps)
+gone_nothing r = ap (λ ds. with_deps ds r) (map_same (wipe []) (λ d. refl) r.deps)
 
 -- one more commit, as the last or as the first
-wipe-last : (k : ℕ) (ks : List ℕ) (d : ℕ) → without_dep k (wipe ks d) ≡ wipe (k ∷ ks) d
-wipe-last k ks d =
+wipe_last : (k : ℕ) (ks : List ℕ) (d : ℕ) → without_dep k (wipe ks d) ≡ wipe (k ∷ ks) d
+wipe_last k ks d =
     test (is_in d ks)
-    (λ e. rw e (without-zero k ∙ test (eqb d k) (λ f. rw f) (λ f. rw f)))
+    (λ e. rw e (without_zero k ∙ test (eqb d k) (λ f. rw f) (λ f. rw f)))
     (λ e. rw e (test (eqb d k) (λ f. rw f) (λ f. rw f)))
 
-wipe-first : (k : ℕ) (ks : List ℕ) (d : ℕ) → wipe ks (without_dep k d) ≡ wipe (k ∷ ks) d
-wipe-first k ks d = test (eqb d k) (λ f. rw f (wipe-zero ks)) (λ f. rw f)
+wipe_first : (k : ℕ) (ks : List ℕ) (d : ℕ) → wipe ks (without_dep k d) ≡ wipe (k ∷ ks) d
+wipe_first k ks d = test (eqb d k) (λ f. rw f (wipe_zero ks)) (λ f. rw f)
 
-gone-last : (k : ℕ) (ks : List ℕ) (r : Region) → after_commit k (gone ks r) ≡ gone (k ∷ ks) r
+gone_last : (k : ℕ) (ks : List ℕ) (r : Region) → after_commit k (gone ks r) ≡ gone (k ∷ ks) r
 unfolding gone after_commit
-gone-last k ks r =
+gone_last k ks r =
     test (is_in r.key ks)
     (λ e. rw e (after_none k ∙ test (eqb r.key k) (λ f. rw f) (λ f. rw f)))
-    (λ e. rw e (test (eqb r.key k) (λ f. rw f) (λ f. rw f (ap (λ ds. with_deps ds r) (map_with (without_dep k) (wipe ks) (wipe (k ∷ ks)) (wipe-last k ks) r.deps)))))
+    (λ e. rw e (test (eqb r.key k) (λ f. rw f) (λ f. rw f (ap (λ ds. with_deps ds r) (map_with (without_dep k) (wipe ks) (wipe (k ∷ ks)) (wipe_last k ks) r.deps)))))
 
-gone-first : (k : ℕ) (ks : List ℕ) (r : Region) → gone ks (after_commit k r) ≡ gone (k ∷ ks) r
+gone_first : (k : ℕ) (ks : List ℕ) (r : Region) → gone ks (after_commit k r) ≡ gone (k ∷ ks) r
 unfolding gone after_commit
-gone-first k ks r =
+gone_first k ks r =
     test (eqb r.key k)
-    (λ f. rw f (gone-none ks))
-    (λ f. rw f (test (is_in r.key ks) (λ e. rw e) (λ e. rw e (ap (λ ds. with_deps ds r) (map_with (wipe ks) (without_dep k) (wipe (k ∷ ks)) (wipe-first k ks) r.deps)))))
+    (λ f. rw f (gone_none ks))
+    (λ f. rw f (test (is_in r.key ks) (λ e. rw e) (λ e. rw e (ap (λ ds. with_deps ds r) (map_with (wipe ks) (without_dep k) (wipe (k ∷ ks)) (wipe_first k ks) r.deps)))))
 
 -- what a chain leaves
 pub left_over : {rs qs : List Region} {ks : List ℕ} → Chain rs ks qs → qs ≡ map (gone ks) rs
-left_over {rs} stop = sym (map_same (gone []) gone-nothing rs)
-left_over {rs} (next {k = k} {ks = ks} p c) = left_over c ∙ map_with (gone ks) (after_commit k) (gone (k ∷ ks)) (gone-first k ks) rs
+left_over {rs} stop = sym (map_same (gone []) gone_nothing rs)
+left_over {rs} (next {k = k} {ks = ks} p c) = left_over c ∙ map_with (gone ks) (after_commit k) (gone (k ∷ ks)) (gone_first k ks) rs
 
 -- ---- a region that can commit after some commits can do so after more of them, unless it is one of those
 
@@ -96,27 +96,27 @@ module _ (cs js : List ℕ) (sub : (k : ℕ) → is_in k cs ≡ true → is_in k
       (λ f. rw f)
       (λ f. rw f (test (is_in d cs) (λ g. never (sub d g) f) (λ g. rw g at e)))
 
-  all-wiped : (ds : List ℕ) → all (eqb 0) (map (wipe cs) ds) ≡ true → all (eqb 0) (map (wipe js) ds) ≡ true
-  all-wiped [] e = e
-  all-wiped (d ∷ ds) e =
-      let p = and-true (eqb 0 (wipe cs d)) (all (eqb 0) (map (wipe cs) ds)) e in
-      rw (wiped d p.0) (all-wiped ds p.1)
+  all_wiped : (ds : List ℕ) → all (eqb 0) (map (wipe cs) ds) ≡ true → all (eqb 0) (map (wipe js) ds) ≡ true
+  all_wiped [] e = e
+  all_wiped (d ∷ ds) e =
+      let p = and_true (eqb 0 (wipe cs d)) (all (eqb 0) (map (wipe cs) ds)) e in
+      rw (wiped d p.0) (all_wiped ds p.1)
 
   -- it is none of the first ones, so its key is still there
-  still-there : (r : Region) → commits (gone cs r) ≡ true → is_in r.key cs ≡ false
+  still_there : (r : Region) → commits (gone cs r) ≡ true → is_in r.key cs ≡ false
   unfolding gone commits
-  still-there r e = test (is_in r.key cs) (λ f. never (rw f at e) refl) (λ f. f)
+  still_there r e = test (is_in r.key cs) (λ f. never (rw f at e) refl) (λ f. f)
 
   ripe : (r : Region) → commits (gone cs r) ≡ true → is_in r.key js ≡ false → commits (gone js r) ≡ true
   unfolding gone commits
   ripe r e f =
-      let p = and-true (is_held r) (r.done && all (eqb 0) (map (wipe cs) r.deps)) (rw (still-there r e) at e) in
-      let q = and-true r.done (all (eqb 0) (map (wipe cs) r.deps)) p.1 in
-      rw (f, p.0, q.0) (all-wiped r.deps q.1)
+      let p = and_true (is_held r) (r.done && all (eqb 0) (map (wipe cs) r.deps)) (rw (still_there r e) at e) in
+      let q = and_true r.done (all (eqb 0) (map (wipe cs) r.deps)) p.1 in
+      rw (f, p.0, q.0) (all_wiped r.deps q.1)
 
-  key-there : (r : Region) → commits (gone cs r) ≡ true → (gone cs r).key ≡ r.key
+  key_there : (r : Region) → commits (gone cs r) ≡ true → (gone cs r).key ≡ r.key
   unfolding gone
-  key-there r e = rw (still-there r e)
+  key_there r e = rw (still_there r e)
 
   -- so a chain whose end leaves nothing to commit has it
   picked : (k : ℕ) → is_in k js ≡ false → (rs : List Region) → any (commits_as k) (map (gone cs) rs) ≡ true → any commits (map (gone js) rs) ≡ true
@@ -124,27 +124,27 @@ module _ (cs js : List ℕ) (sub : (k : ℕ) → is_in k cs ≡ true → is_in k
   picked k f (r ∷ rs) e =
       ⊎_elim
       (λ a.
-      let p = and-true (is_key k (gone cs r)) (commits (gone cs r)) a in
-      let s : r.key ≡ k = sym (key-there r p.1) ∙ eqb-true (gone cs r).key k p.0 in
+      let p = and_true (is_key k (gone cs r)) (commits (gone cs r)) a in
+      let s : r.key ≡ k = sym (key_there r p.1) ∙ eqb-true (gone cs r).key k p.0 in
       let y : commits (gone js r) ≡ true = ripe r p.1 (ap (λ x. is_in x js) s ∙ f) in
       rw y)
       (λ a. or_right (commits (gone js r)) (picked k f rs a))
-      (or-true (commits_as k (gone cs r)) (any (commits_as k) (map (gone cs) rs)) e)
+      (or_true (commits_as k (gone cs r)) (any (commits_as k) (map (gone cs) rs)) e)
 
 -- every region of a chain is in one that ends where no region can commit
 within : (rs : List Region) (js cs : List ℕ) → any commits (map (gone js) rs) ≡ false → ((k : ℕ) → is_in k cs ≡ true → is_in k js ≡ true) → {ss qs : List Region} {ks : List ℕ} → Chain ss ks qs → ss ≡ map (gone cs) rs → (k : ℕ) → is_in k ks ≡ true → is_in k js ≡ true
 within rs js cs rest sub stop e k h = never h refl
 within rs js cs rest sub (next {k = j} {ks = ks} p c) e k h =
     let there : is_in j js ≡ true = test (is_in j js) (λ f. f) (λ f. never (picked cs js sub j f rs (rw e at p)) rest) in
-    let more : (i : ℕ) → is_in i (j ∷ cs) ≡ true → is_in i js ≡ true = λ i a. ⊎_elim (λ b. ap (λ x. is_in x js) (eqb-true i j b) ∙ there) (λ b. sub i b) (or-true (eqb i j) (is_in i cs) a) in
+    let more : (i : ℕ) → is_in i (j ∷ cs) ≡ true → is_in i js ≡ true = λ i a. ⊎_elim (λ b. ap (λ x. is_in x js) (eqb-true i j b) ∙ there) (λ b. sub i b) (or_true (eqb i j) (is_in i cs) a) in
     ⊎_elim
     (λ b. ap (λ x. is_in x js) (eqb-true k j b) ∙ there)
-    (λ b. within rs js (j ∷ cs) rest more c (ap (map (after_commit j)) e ∙ map_with (after_commit j) (gone cs) (gone (j ∷ cs)) (gone-last j cs) rs) k b)
-    (or-true (eqb k j) (is_in k ks) h)
+    (λ b. within rs js (j ∷ cs) rest more c (ap (map (after_commit j)) e ∙ map_with (after_commit j) (gone cs) (gone (j ∷ cs)) (gone_last j cs) rs) k b)
+    (or_true (eqb k j) (is_in k ks) h)
 
 included : {rs qs ps : List Region} {ks js : List ℕ} → Chain rs ks qs → Chain rs js ps → any commits ps ≡ false → (k : ℕ) → is_in k ks ≡ true → is_in k js ≡ true
 included {rs} {js = js} c d rest k h =
-    within rs js [] (ap (any commits) (sym (left_over d)) ∙ rest) (λ i a. never a refl) c (sym (map_same (gone []) gone-nothing rs)) k h
+    within rs js [] (ap (any commits) (sym (left_over d)) ∙ rest) (λ i a. never a refl) c (sym (map_same (gone []) gone_nothing rs)) k h
 
 -- no region commits twice, so that a chain has as many keys as regions
 
@@ -152,7 +152,7 @@ left_out : (k j : ℕ) (rs : List Region) → eqb k 0 ≡ false → any (is_key 
 unfolding after_commit
 left_out k j [] z e = refl
 left_out k j (r ∷ rs) z e =
-    let p = or-false (is_key k r) (any (is_key k) rs) e in
+    let p = or_false (is_key k r) (any (is_key k) rs) e in
     test (eqb r.key j) (λ f. rw (f, flip k 0 z) (left_out k j rs z p.1)) (λ f. rw (f, p.0) (left_out k j rs z p.1))
 
 taken_out : (k : ℕ) (rs : List Region) → eqb k 0 ≡ false → any (is_key k) (map (after_commit k) rs) ≡ false
@@ -166,17 +166,17 @@ unfolding commits
 chosen k [] e = never e refl
 chosen k (r ∷ rs) e =
     ⊎_elim
-    (λ a. let p = and-true (is_key k r) (commits r) a in
-    let h = not-true (eqb r.key 0) (and-true (is_held r) (r.done && all (eqb 0) r.deps) p.1).0 in
+    (λ a. let p = and_true (is_key k r) (commits r) a in
+    let h = not-true (eqb r.key 0) (and_true (is_held r) (r.done && all (eqb 0) r.deps) p.1).0 in
     (rw p.0, rw (← eqb-true r.key k p.0) h))
     (λ a. let z = chosen k rs a in (or_right (is_key k r) z.0, z.1))
-    (or-true (commits_as k r) (any (commits_as k) rs) e)
+    (or_true (commits_as k r) (any (commits_as k) rs) e)
 
-not-again : {rs qs : List Region} {ks : List ℕ} (k : ℕ) → eqb k 0 ≡ false → any (is_key k) rs ≡ false → Chain rs ks qs → is_in k ks ≡ false
-not-again k z e stop = refl
-not-again {rs} k z e (next {k = j} {ks = ks} p c) =
+not_again : {rs qs : List Region} {ks : List ℕ} (k : ℕ) → eqb k 0 ≡ false → any (is_key k) rs ≡ false → Chain rs ks qs → is_in k ks ≡ false
+not_again k z e stop = refl
+not_again {rs} k z e (next {k = j} {ks = ks} p c) =
     let y : eqb k j ≡ false = test (eqb k j) (λ f. never (rw (← eqb-true k j f) at (chosen j rs p).0) e) (λ f. f) in
-    rw y (not-again k z (left_out k j rs z e) c)
+    rw y (not_again k z (left_out k j rs z e) c)
 
 -- a list without its first k
 abbrev pub drop_one : ℕ → List ℕ → List ℕ
@@ -187,22 +187,22 @@ pub one_fewer : (k : ℕ) (xs : List ℕ) → is_in k xs ≡ true → length xs 
 one_fewer k [] e = never e refl
 one_fewer k (x ∷ xs) e = test (eqb k x) (λ f. rw f) (λ f. rw f (ap suc (one_fewer k xs (rw f at e))))
 
-pub still-in : (j k : ℕ) (xs : List ℕ) → eqb j k ≡ false → is_in j xs ≡ true → is_in j (drop_one k xs) ≡ true
-still-in j k [] n e = e
-still-in j k (x ∷ xs) n e =
+pub still_in : (j k : ℕ) (xs : List ℕ) → eqb j k ≡ false → is_in j xs ≡ true → is_in j (drop_one k xs) ≡ true
+still_in j k [] n e = e
+still_in j k (x ∷ xs) n e =
     test (eqb k x)
     (λ f. let y : eqb j x ≡ false = rw (← eqb-true k x f) n in rw f (rw y at e))
-    (λ f. rw f (test (eqb j x) (λ g. rw g) (λ g. rw g (still-in j k xs n (rw g at e)))))
+    (λ f. rw f (test (eqb j x) (λ g. rw g) (λ g. rw g (still_in j k xs n (rw g at e)))))
 
 -- a chain whose keys are all in a list is not longer than it
 no_longer : {rs qs : List Region} {ks : List ℕ} (js : List ℕ) → Chain rs ks qs → ((k : ℕ) → is_in k ks ≡ true → is_in k js ≡ true) → length ks ≤ length js
 no_longer js stop sub = omega arith
 no_longer {rs} js (next {k = k} {ks = ks} p c) sub =
     let z = chosen k rs p in
-    let out : is_in k ks ≡ false = not-again k z.1 (taken_out k rs z.1) c in
+    let out : is_in k ks ≡ false = not_again k z.1 (taken_out k rs z.1) c in
     let there = one_fewer k js (sub k (rw (is_same k))) in
     let ih = no_longer (drop_one k js) c
-    (λ j e. still-in j k js (test (eqb j k) (λ f. never (rw (eqb-true j k f) at e) out) (λ f. f)) (sub j (or_right (eqb j k) e))) in
+    (λ j e. still_in j k js (test (eqb j k) (λ f. never (rw (eqb-true j k f) at e) out) (λ f. f)) (sub j (or_right (eqb j k) e))) in
     omega arith
 
 -- what has committed when no region can commit any more does not depend on the order of choice, and neither does how many
@@ -211,7 +211,7 @@ pub any_order : {rs qs ps : List Region} {ks js : List ℕ} → Chain rs ks qs �
 any_order {ks = ks} {js = js} c p d q =
     let a = no_longer js c (included c d q) in
     let b = no_longer ks d (included d c p) in
-    (λ k. eq-both (is_in k ks) (is_in k js) (included c d q k) (included d c p k), omega arith)
+    (λ k. eq_both (is_in k ks) (is_in k js) (included c d q k) (included d c p k), omega arith)
 
 -- ---- the commits of a step are such a chain, and none is left: "until no region can commit"
 
@@ -225,19 +225,19 @@ found best (r ∷ rs) =
     test (commits r && (not (commits best) || ltb r.stamp best.stamp))
     (λ t.
     let s : earliest_from (earlier best r) rs ≡ r = q ∙ rw t in
-    inr (rw (s, is_same r.key, (and-true (commits r) (not (commits best) || ltb r.stamp best.stamp) t).0)))
+    inr (rw (s, is_same r.key, (and_true (commits r) (not (commits best) || ltb r.stamp best.stamp) t).0)))
     (λ t. inl (q ∙ rw t)))
     (λ a. inr (or_right (commits_as (earliest_from (earlier best r) rs).key r) a))
     (found (earlier best r) rs)
 
-earliest-in : (rs : List Region) → commits (earliest rs) ≡ true → any (commits_as (earliest rs).key) rs ≡ true
+earliest_in : (rs : List Region) → commits (earliest rs) ≡ true → any (commits_as (earliest rs).key) rs ≡ true
 unfolding commits
-earliest-in rs e = ⊎_elim (λ q. never e (ap commits q)) (λ a. a) (found no_region rs)
+earliest_in rs e = ⊎_elim (λ q. never e (ap commits q)) (λ a. a) (found no_region rs)
 
 -- if it cannot commit, no region can
-earlier-rest : (best r : Region) → commits (earlier best r) ≡ false → (commits best ≡ false) × (commits r ≡ false)
+earlier_rest : (best r : Region) → commits (earlier best r) ≡ false → (commits best ≡ false) × (commits r ≡ false)
 unfolding earlier
-earlier-rest best r e =
+earlier_rest best r e =
     test (commits r)
     (λ c.
     test (commits best)
@@ -246,45 +246,45 @@ earlier-rest best r e =
     (λ c. (rw c at e, c))
 
 -- each commit takes a place of the list
-held-most : (k : ℕ) (rs : List Region) → count is_held (map (after_commit k) rs) ≤ count is_held rs
+held_most : (k : ℕ) (rs : List Region) → count is_held (map (after_commit k) rs) ≤ count is_held rs
 unfolding count after_commit
-held-most k [] = omega arith
-held-most k (r ∷ rs) =
-    let h = held-most k rs in
+held_most k [] = omega arith
+held_most k (r ∷ rs) =
+    let h = held_most k rs in
     test (eqb r.key k)
     (λ f. test (eqb r.key 0) (λ g. rw (f, g) h) (λ g. rw (f, g) (omega arith)))
     (λ f. test (eqb r.key 0) (λ g. rw (f, g) h) (λ g. rw (f, g) (omega arith)))
 
-held-less : (k : ℕ) (rs : List Region) → any (commits_as k) rs ≡ true → count is_held (map (after_commit k) rs) < count is_held rs
+held_less : (k : ℕ) (rs : List Region) → any (commits_as k) rs ≡ true → count is_held (map (after_commit k) rs) < count is_held rs
 unfolding count after_commit commits
-held-less k [] e = never e refl
-held-less k (r ∷ rs) e =
-    let h = held-most k rs in
+held_less k [] e = never e refl
+held_less k (r ∷ rs) e =
+    let h = held_most k rs in
     ⊎_elim
     (λ a.
-    let p = and-true (is_key k r) (commits r) a in
-    let g = not-true (eqb r.key 0) (and-true (is_held r) (r.done && all (eqb 0) r.deps) p.1).0 in
+    let p = and_true (is_key k r) (commits r) a in
+    let g = not-true (eqb r.key 0) (and_true (is_held r) (r.done && all (eqb 0) r.deps) p.1).0 in
     rw (p.0, g) (omega arith))
     (λ a.
-    let l = held-less k rs a in
+    let l = held_less k rs a in
     test (eqb r.key k)
     (λ f. test (eqb r.key 0) (λ g. rw (f, g) l) (λ g. rw (f, g) (omega arith)))
     (λ f. test (eqb r.key 0) (λ g. rw (f, g) l) (λ g. rw (f, g) (omega arith))))
-    (or-true (commits_as k r) (any (commits_as k) rs) e)
+    (or_true (commits_as k r) (any (commits_as k) rs) e)
 
-none-held : (rs : List Region) → count is_held rs ≤ 0 → any commits rs ≡ false
+none_held : (rs : List Region) → count is_held rs ≤ 0 → any commits rs ≡ false
 unfolding count commits
-none-held [] h = refl
-none-held (r ∷ rs) h =
+none_held [] h = refl
+none_held (r ∷ rs) h =
     test (eqb r.key 0)
-    (λ g. rw g (none-held rs (rw g at h)))
+    (λ g. rw g (none_held rs (rw g at h)))
     (λ g. absurd (let z : suc (count is_held rs) ≤ 0 = rw g at h in omega arith))
 
-count-length : {A : Type 0} (p : A → Bool) (xs : List A) → count p xs ≤ length xs
+count_length : {A : Type 0} (p : A → Bool) (xs : List A) → count p xs ≤ length xs
 unfolding count
-count-length p [] = omega arith
-count-length p (x ∷ xs) =
-    let h = count-length p xs in
+count_length p [] = omega arith
+count_length p (x ∷ xs) =
+    let h = count_length p xs in
     test (p x) (λ e. rw e (omega arith)) (λ e. rw e (omega arith))
 
 -- the commits of some regions: a chain, and no region that can commit is left
@@ -292,34 +292,34 @@ pub record Ends (rs : List Region) (s : Settled) : Type 0 where
   pub chain : Chain rs s.keys s.tables.regions
   pub rest : any commits s.tables.regions ≡ false
 
-settle-yes : (n : ℕ) (ts : Tables) → commits (earliest ts.regions) ≡ true
+settle_yes : (n : ℕ) (ts : Tables) → commits (earliest ts.regions) ≡ true
     → settle (suc n) ts ≡ before (earliest ts.regions).key (settle n (commit (earliest ts.regions).key ts))
 unfolding settle
-settle-yes n ts e = rw (e, settle)
+settle_yes n ts e = rw (e, settle)
 
-settle-no : (n : ℕ) (ts : Tables) → commits (earliest ts.regions) ≡ false → settle (suc n) ts ≡ record { tables = ts; keys = [] }
+settle_no : (n : ℕ) (ts : Tables) → commits (earliest ts.regions) ≡ false → settle (suc n) ts ≡ record { tables = ts; keys = [] }
 unfolding settle
-settle-no n ts e = rw (e, settle)
+settle_no n ts e = rw (e, settle)
 
 ends : (n : ℕ) (ts : Tables) → count is_held ts.regions ≤ n → Ends ts.regions (settle n ts)
 unfolding settle commit
-ends zero ts h = record { chain = stop; rest = none-held ts.regions h }
+ends zero ts h = record { chain = stop; rest = none_held ts.regions h }
 ends (suc n) ts h =
     test (commits (earliest ts.regions))
     (λ e.
     let k = (earliest ts.regions).key in
-    let l = held-less k ts.regions (earliest-in ts.regions e) in
+    let l = held_less k ts.regions (earliest_in ts.regions e) in
     let i = ends n (commit k ts) (omega arith) in
-    rw (settle-yes n ts e) (record { chain = next (earliest-in ts.regions e) i.chain; rest = i.rest }))
-    (λ e. rw (settle-no n ts e) (record { chain = stop; rest = (earliest-none no_region ts.regions e).1 }))
+    rw (settle_yes n ts e) (record { chain = next (earliest_in ts.regions e) i.chain; rest = i.rest }))
+    (λ e. rw (settle_no n ts e) (record { chain = stop; rest = (earliest_none no_region ts.regions e).1 }))
 
-pub settled-ends : (ts : Tables) → Ends (map done_region ts.regions) (settled ts)
+pub settled_ends : (ts : Tables) → Ends (map done_region ts.regions) (settled ts)
 unfolding settled
-settled-ends ts =
-    let h = count-length is_held (map done_region ts.regions) in
+settled_ends ts =
+    let h = count_length is_held (map done_region ts.regions) in
     ends (length ts.regions) (with_regions (map done_region ts.regions) ts) (omega (arith, length-map ts.regions done_region))
 
 -- what commits in a step does not depend on the order of choice among the committable, and neither does the value, which is its number
-pub step-order : (ts : Tables) {ps : List Region} {js : List ℕ} → Chain (map done_region ts.regions) js ps → any commits ps ≡ false
+pub step_order : (ts : Tables) {ps : List Region} {js : List ℕ} → Chain (map done_region ts.regions) js ps → any commits ps ≡ false
     → ((k : ℕ) → is_in k js ≡ is_in k (settled ts).keys) × (length js ≡ length (settled ts).keys)
-step-order ts c p = any_order c p (settled-ends ts).chain (settled-ends ts).rest
+step_order ts c p = any_order c p (settled_ends ts).chain (settled_ends ts).rest

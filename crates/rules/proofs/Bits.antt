@@ -12,8 +12,8 @@ use borrow.Author.Tests.{eq-eqb, eqb-false, eqb-true, ltb-false, ltb-true}
 use Rattle.rules.specs.Access.{is_set}
 use Rattle.undo.proofs.Laws.{test}
 
-pub bit-zero : (b : ℕ) → is_set b 0 ≡ false
-bit-zero b = rw (zero-div (2 ^ b))
+pub bit_zero : (b : ℕ) → is_set b 0 ≡ false
+bit_zero b = rw (zero-div (2 ^ b))
 
 -- two digits
 pub low_or : (s t : ℕ) → s < 2 → t < 2 → eqb (bit_or s t) 1 ≡ (eqb s 1 || eqb t 1)
@@ -23,14 +23,14 @@ low_or (suc zero) (suc zero) h k = refl
 low_or (suc zero) (suc (suc t)) h k = absurd (omega arith)
 low_or (suc (suc s)) t h k = absurd (omega arith)
 
-pub bit-or : (x y b : ℕ) → is_set b (bit_or x y) ≡ (is_set b x || is_set b y)
-bit-or x y b =
+pub bit_or_lem : (x y b : ℕ) → is_set b (bit_or x y) ≡ (is_set b x || is_set b y)
+bit_or_lem x y b =
     ap (λ z. eqb (z % 2) 1) (or_shr x y b)
     ∙ ap (λ z. eqb z 1) (or_mod (x / 2 ^ b) (y / 2 ^ b) 1)
     ∙ low_or (x / 2 ^ b % 2) (y / 2 ^ b % 2) (mod-lt (x / 2 ^ b) (omega arith)) (mod-lt (y / 2 ^ b) (omega arith))
 
-pub bit-pow : (q b : ℕ) → is_set b (2 ^ q) ≡ eqb q b
-bit-pow q b = test (eqb q b) (λ e. rw (eqb-true q b e, eq-eqb b b refl, div_self (pow_pos b))) (λ e. other (ltb q b) refl e)
+pub bit_pow : (q b : ℕ) → is_set b (2 ^ q) ≡ eqb q b
+bit_pow q b = test (eqb q b) (λ e. rw (eqb-true q b e, eq-eqb b b refl, div_self (pow_pos b))) (λ e. other (ltb q b) refl e)
   where
     higher : (k : ℕ) → q ≡ k + 1 + b → is_set b (2 ^ q) ≡ false
     higher k s = rw (s, pow-add 2 (k + 1) b, mul-div_cancel (2 ^ (k + 1)) (pow_pos b), pow-add 2 k 1, mul-mod_left (2 ^ k) 2)

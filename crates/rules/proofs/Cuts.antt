@@ -26,10 +26,10 @@ use Rattle.rules.specs.declared.Tables.{Tables}
 use Rattle.undo.proofs.Laws.{test}
 
 -- what a commit keeps of the tables is kept by all commits of a step
-settle-keeps : {A : Type 0} (f : Tables → A) → ((k : ℕ) (ts : Tables) → f (commit k ts) ≡ f ts) → (n : ℕ) (ts : Tables) → f (settle n ts).tables ≡ f ts
+settle_keeps : {A : Type 0} (f : Tables → A) → ((k : ℕ) (ts : Tables) → f (commit k ts) ≡ f ts) → (n : ℕ) (ts : Tables) → f (settle n ts).tables ≡ f ts
 unfolding settle
-settle-keeps f h zero ts = refl
-settle-keeps f h (suc n) ts = go (commits (earliest ts.regions)) (settle-keeps f h n (commit (earliest ts.regions).key ts))
+settle_keeps f h zero ts = refl
+settle_keeps f h (suc n) ts = go (commits (earliest ts.regions)) (settle_keeps f h n (commit (earliest ts.regions).key ts))
   where
     go : (x : Bool) → f (settle n (commit (earliest ts.regions).key ts)).tables ≡ f (commit (earliest ts.regions).key ts)
         → f (elim x as (λ y. Settled) [
@@ -39,25 +39,25 @@ settle-keeps f h (suc n) ts = go (commits (earliest ts.regions)) (settle-keeps f
     go false e = refl
     go true e = e ∙ h (earliest ts.regions).key ts
 
-settled-cut : (b : Board) → (settled_board b).board.tables.cut ≡ b.tables.cut
+settled_cut : (b : Board) → (settled_board b).board.tables.cut ≡ b.tables.cut
 unfolding settled_board settled commit
-settled-cut b = settle-keeps (λ ts. ts.cut) (λ k ts. refl) (length b.tables.regions) (with_regions (map done_region b.tables.regions) b.tables)
+settled_cut b = settle_keeps (λ ts. ts.cut) (λ k ts. refl) (length b.tables.regions) (with_regions (map done_region b.tables.regions) b.tables)
 
-pub settled-size : (b : Board) → (settled_board b).board.tables.size ≡ b.tables.size
+pub settled_size : (b : Board) → (settled_board b).board.tables.size ≡ b.tables.size
 unfolding settled_board settled commit
-settled-size b = settle-keeps (λ ts. ts.size) (λ k ts. refl) (length b.tables.regions) (with_regions (map done_region b.tables.regions) b.tables)
+settled_size b = settle_keeps (λ ts. ts.size) (λ k ts. refl) (length b.tables.regions) (with_regions (map done_region b.tables.regions) b.tables)
 
-apply-cut : (b : Board) (e : Event) (es : List Account) → b.tables.cut ≡ has_cut es → (apply b e).board.tables.cut ≡ has_cut (account_of e ∷ es)
+apply_cut : (b : Board) (e : Event) (es : List Account) → b.tables.cut ≡ has_cut es → (apply b e).board.tables.cut ≡ has_cut (account_of e ∷ es)
 unfolding apply setup begin opened read note_read write stored logged flown log_ack unlocked data_ack end_region closed outside
-apply-cut b (Setup n l s) es h = h
-apply-cut b (Begin t) es h = test (eqb (depth_of t b.tables) 0) (λ d. rw d h) (λ d. rw d h)
-apply-cut b (End t) es h = test (eqb (depth_of t b.tables) 1) (λ d. rw d (settled-cut (end_region t b) ∙ h)) (λ d. rw d h)
-apply-cut b (Read t l w) es h = h
-apply-cut b (Write t l w mask v) es h = test (needs_log (current t b.tables) l b.tables) (λ d. rw d h) (λ d. rw d h)
-apply-cut b (LogAck l) es h = settled-cut (log_ack l b) ∙ h
-apply-cut b (DataAck l) es h = settled-cut (data_ack l b) ∙ h
-apply-cut b (Fence t) es h = h
-apply-cut b Cut es h = refl
+apply_cut b (Setup n l s) es h = h
+apply_cut b (Begin t) es h = test (eqb (depth_of t b.tables) 0) (λ d. rw d h) (λ d. rw d h)
+apply_cut b (End t) es h = test (eqb (depth_of t b.tables) 1) (λ d. rw d (settled_cut (end_region t b) ∙ h)) (λ d. rw d h)
+apply_cut b (Read t l w) es h = h
+apply_cut b (Write t l w mask v) es h = test (needs_log (current t b.tables) l b.tables) (λ d. rw d h) (λ d. rw d h)
+apply_cut b (LogAck l) es h = settled_cut (log_ack l b) ∙ h
+apply_cut b (DataAck l) es h = settled_cut (data_ack l b) ∙ h
+apply_cut b (Fence t) es h = h
+apply_cut b Cut es h = refl
 
 step_cut : (b : Board) (x : Reading) (es : List Account) → b.tables.cut ≡ has_cut es
     → (step_read b x).board.tables.cut ≡ has_cut (noted (step_read b x).answer.refusal x es)
@@ -67,14 +67,14 @@ step_cut b (Refused (suc n)) es h = h
 step_cut b (Whole e) es h = go (refusal b.tables e)
   where
     go : (n : ℕ) → (step_by n b e).board.tables.cut ≡ has_cut (noted (step_by n b e).answer.refusal (Whole e) es)
-    go zero = apply-cut b e es h
+    go zero = apply_cut b e es h
     go (suc n) = h
 
-run-cut : (rs : List (List ℕ)) (b : Board) (es : List Account) → b.tables.cut ≡ has_cut es → (run b rs).board.tables.cut ≡ has_cut (accepted_from b rs es)
+run_cut : (rs : List (List ℕ)) (b : Board) (es : List Account) → b.tables.cut ≡ has_cut es → (run b rs).board.tables.cut ≡ has_cut (accepted_from b rs es)
 unfolding run accepted_from step
-run-cut [] b es h = h
-run-cut (r ∷ rs) b es h = run-cut rs (step b r).board (noted (step b r).answer.refusal (read_record r) es) (step_cut b (read_record r) es h)
+run_cut [] b es h = h
+run_cut (r ∷ rs) b es h = run_cut rs (step b r).board (noted (step b r).answer.refusal (read_record r) es) (step_cut b (read_record r) es h)
 
-pub cut-is : (m : Memory) (rs : List (List ℕ)) → (board_after m rs).tables.cut ≡ has_cut (accepted_in m rs)
+pub cut_is : (m : Memory) (rs : List (List ℕ)) → (board_after m rs).tables.cut ≡ has_cut (accepted_in m rs)
 unfolding fresh
-cut-is m rs = run-cut rs (fresh m) [] refl
+cut_is m rs = run_cut rs (fresh m) [] refl

@@ -14,7 +14,7 @@ use Rattle.rules.specs.declared.Event.{Event}
 use Rattle.rules.specs.declared.Event.TheVariants.{Begin, Cut, DataAck, End, Fence, LogAck, Read, Setup, Write}
 use Rattle.rules.specs.declared.Shares.{Shares}
 use Rattle.rules.specs.declared.Tables.{Tables}
-use Rattle.undo.proofs.Laws.{and-true, never, test}
+use Rattle.undo.proofs.Laws.{and_true, never, test}
 
 -- what the test of number n says; the first one, where several have it
 abbrev pub bad_at : ℕ → List Test → Bool
@@ -27,36 +27,36 @@ numbered ts = all (λ t. not (eqb t.code 0)) ts
 
 -- a test that refuses is not refused with 0
 pub unnumbered : {C : Type 0} (x : Test) (xs : List Test) → numbered (x ∷ xs) ≡ true → x.code ≡ 0 → C
-unnumbered x xs h e = never (and-true (not (eqb x.code 0)) (numbered xs) h).0 (rw (eq-eqb _ _ e))
+unnumbered x xs h e = never (and_true (not (eqb x.code 0)) (numbered xs) h).0 (rw (eq-eqb _ _ e))
 
 pub passes : (n : ℕ) (ts : List Test) → numbered ts ≡ true → first_bad ts ≡ 0 → bad_at n ts ≡ false
 passes n [] h z = refl
 passes n (x ∷ xs) h z =
     test x.bad
     (λ b. unnumbered x xs h (rw b at z))
-    (λ b. test (eqb x.code n) (λ e. rw (e, b)) (λ e. rw e (passes n xs (and-true (not (eqb x.code 0)) (numbered xs) h).1 (rw b at z))))
+    (λ b. test (eqb x.code n) (λ e. rw (e, b)) (λ e. rw e (passes n xs (and_true (not (eqb x.code 0)) (numbered xs) h).1 (rw b at z))))
 
-pub tests-numbered : (ts : Tables) (e : Event) → numbered (tests_of ts e) ≡ true
+pub tests_numbered : (ts : Tables) (e : Event) → numbered (tests_of ts e) ≡ true
 unfolding tests_of
-tests-numbered ts (Setup n l s) = refl
-tests-numbered ts (Begin t) = refl
-tests-numbered ts (End t) = refl
-tests-numbered ts (Read t l w) = refl
-tests-numbered ts (Write t l w mask v) = refl
-tests-numbered ts (LogAck l) = refl
-tests-numbered ts (DataAck l) = refl
-tests-numbered ts (Fence t) = refl
-tests-numbered ts Cut = refl
+tests_numbered ts (Setup n l s) = refl
+tests_numbered ts (Begin t) = refl
+tests_numbered ts (End t) = refl
+tests_numbered ts (Read t l w) = refl
+tests_numbered ts (Write t l w mask v) = refl
+tests_numbered ts (LogAck l) = refl
+tests_numbered ts (DataAck l) = refl
+tests_numbered ts (Fence t) = refl
+tests_numbered ts Cut = refl
 
 -- with `unfolding tests_of` it says the test itself
 pub passed : (ts : Tables) (e : Event) → refusal ts e ≡ 0 → (n : ℕ) → bad_at n (tests_of ts e) ≡ false
 unfolding refusal
-passed ts e r n = passes n (tests_of ts e) (tests-numbered ts e) r
+passed ts e r n = passes n (tests_of ts e) (tests_numbered ts e) r
 
 -- a setup has three tests of number 6
-pub setup-passed : (ts : Tables) (n l : ℕ) (s : Shares) → refusal ts (Setup n l s) ≡ 0 → (in_range n l ≡ true) × (is_set_up ts ≡ false)
+pub setup_passed : (ts : Tables) (n l : ℕ) (s : Shares) → refusal ts (Setup n l s) ≡ 0 → (in_range n l ≡ true) × (is_set_up ts ≡ false)
 unfolding refusal tests_of
-setup-passed ts n l s r =
+setup_passed ts n l s r =
     test (in_range n l)
     (λ a. test (fits l ts.size)
     (λ f. test (is_set_up ts) (λ u. let z : ◌≡◌ {A = ℕ} 6 0 = rw (a, f, u) at r in absurd (omega arith)) (λ u. (a, u)))
@@ -67,7 +67,7 @@ setup-passed ts n l s r =
 one_free : (held kept : ℕ) → ltb most_in_channel (held + 1 + kept) ≡ false → held < most_in_channel
 one_free held kept e = let z = ltb-false most_in_channel (held + 1 + kept) e in omega arith
 
-pub channel-room : (ts : Tables) (t : ℕ) → refusal ts (Begin t) ≡ 0 → eqb (depth_of t ts) 0 ≡ true
+pub channel_room : (ts : Tables) (t : ℕ) → refusal ts (Begin t) ≡ 0 → eqb (depth_of t ts) 0 ≡ true
     → count (in_channel (channel_of ((thread_at t ts).last + 1))) ts.regions < most_in_channel
 unfolding tests_of
-channel-room ts t r d = one_free (count (in_channel (channel_of ((thread_at t ts).last + 1))) ts.regions) _ (rw d at (passed ts (Begin t) r 16))
+channel_room ts t r d = one_free (count (in_channel (channel_of ((thread_at t ts).last + 1))) ts.regions) _ (rw d at (passed ts (Begin t) r 16))

@@ -24,7 +24,7 @@ module _ (ls : List ℕ) (l : ℕ) (h : length ls ≡ 4) where
   abbrev at : ℕ → ℕ
   at i = get_or ls i 0
 
-  pub renewed-is :
+  pub renewed_is :
       l
       ∷ cond (eqb (at 0) l) (at 1) (at 0)
       ∷ cond (eqb (at 0) l || eqb (at 1) l) (at 2) (at 1)
@@ -32,7 +32,7 @@ module _ (ls : List ℕ) (l : ℕ) (h : length ls ≡ 4) where
       ∷ []
       ≡ renewed l ls
   unfolding renewed without_line
-  renewed-is =
+  renewed_is =
       rw (four 0 ls h)
       (test (eqb (at 0) l) (λ a. rw a)
       (λ a. rw a (test (eqb (at 1) l) (λ b. rw b) (λ b. rw b (test (eqb (at 2) l) (λ e. rw e) (λ e. rw e))))))
@@ -53,27 +53,27 @@ or_turn Full true i rest = refl
 or_turn Full false i rest = refl
 
 module _ (l : ℕ) (named free : Found) (i : ℕ) (q : List Slot) where
-  pub found-more : (d x : Slot) → i < length q →
+  pub found_more : (d x : Slot) → i < length q →
       or_else named (slot_from l free i (drop i q))
       ≡ or_else (or_at named (names l (get_or q i d).state (get_or q i d).line) i)
       (slot_from l (or_at free (is_empty (get_or q i d).state) i) (i + 1) (drop (i + 1) (set q i x)))
   unfolding slot_from
-  found-more d x h = rw (add-one, drop-set-lt (suc i) q i x (omega arith), drop-cons q i d h) (or_turn named _ i _)
+  found_more d x h = rw (add-one, drop-set-lt (suc i) q i x (omega arith), drop-cons q i d h) (or_turn named _ i _)
 
-  pub found-end : length q ≤ i → or_else named (slot_from l free i (drop i q)) ≡ or_else named free
+  pub found_end : length q ≤ i → or_else named (slot_from l free i (drop i q)) ≡ or_else named free
   unfolding slot_from
-  found-end h = rw (drop_of_length-le q h)
+  found_end h = rw (drop_of_length-le q h)
 
 -- The lines that the flights carry: the slots below i have flown, and q differs from the slots at the start only there
 
 module _ (lock : List Bool) (ended : Bool) (i : ℕ) (q : List Slot) (cur car : List (List ℕ)) where
-  pub carried-more : (d x : Slot) → i < length q →
+  pub carried_more : (d x : Slot) → i < length q →
       carried lock ended (drop i q) cur car
       ≡ carried lock ended (drop (i + 1) (set q i x)) cur
       (cond (flies lock ended (get_or q i d)) (set car (get_or q i d).line (line_of (get_or q i d).line cur)) car)
   unfolding carried
-  carried-more d x h = rw (add-one, drop-set-lt (suc i) q i x (omega arith), drop-cons q i d h)
+  carried_more d x h = rw (add-one, drop-set-lt (suc i) q i x (omega arith), drop-cons q i d h)
 
-  pub carried-end : length q ≤ i → carried lock ended (drop i q) cur car ≡ car
+  pub carried_end : length q ≤ i → carried lock ended (drop i q) cur car ≡ car
   unfolding carried
-  carried-end h = rw (drop_of_length-le q h)
+  carried_end h = rw (drop_of_length-le q h)

@@ -10,103 +10,103 @@ use native.Mathlib.Omega.{arith}
 use native.Mathlib.Nat.{div-lt_iff_lt-mul, pow-suc}
 use Rattle.rules.specs.Lists.{all, flat}
 use Rattle.parsing.proofs.Numbers.{digit_not, is_number}
-use Rattle.parsing.proofs.Reading.{glued-line}
-use Rattle.parsing.proofs.Words.{space-passed, word-start, words-empty}
+use Rattle.parsing.proofs.Reading.{glued_line}
+use Rattle.parsing.proofs.Words.{space_passed, word_start_lem, words_empty}
 use Rattle.parsing.specs.Read.{in_word, is_break, lines_of, number_from, with_digit, words_in}
 use Rattle.output.specs.Decimal.{decimal, digits}
 use Rattle.printing.specs.Text.{line_text, number_text}
 use Rattle.parsing.specs.declared.Number.{Number}
 use Rattle.parsing.specs.declared.Number.TheVariants.{Is, Not}
-use Rattle.undo.proofs.Laws.{and-true, test}
+use Rattle.undo.proofs.Laws.{and_true, test}
 
 -- ---- digits
 
-number-join : (m : ℕ) (n : Number) (xs ys : List ℕ) → number_from m n (xs ++ ys) ≡ number_from m (number_from m n xs) ys
+number_join : (m : ℕ) (n : Number) (xs ys : List ℕ) → number_from m n (xs ++ ys) ≡ number_from m (number_from m n xs) ys
 unfolding number_from
-number-join m n [] ys = refl
-number-join m Not (x ∷ xs) ys = sym (digit_not m ys)
-number-join m (Is v) (x ∷ xs) ys = number-join m (with_digit m v x) xs ys
+number_join m n [] ys = refl
+number_join m Not (x ∷ xs) ys = sym (digit_not m ys)
+number_join m (Is v) (x ∷ xs) ys = number_join m (with_digit m v x) xs ys
 
-digit-back : (m v d : ℕ) → d < 10 → 10 * v + d ≤ m → with_digit m v (48 + d) ≡ Is (10 * v + d)
-digit-back m v d h l =
+digit_back : (m v d : ℕ) → d < 10 → 10 * v + d ≤ m → with_digit m v (48 + d) ≡ Is (10 * v + d)
+digit_back m v d h l =
     let e : 48 + d - 48 ≡ d = omega arith in
     is_number m v (48 + d) (omega arith) (omega arith) (rw e l) ∙ rw e
 
-one-digit : (m v d : ℕ) → number_from m (Is v) ((48 + d) ∷ []) ≡ with_digit m v (48 + d)
+one_digit : (m v d : ℕ) → number_from m (Is v) ((48 + d) ∷ []) ≡ with_digit m v (48 + d)
 unfolding number_from
-one-digit m v d = refl
+one_digit m v d = refl
 
-digits-one : (f n : ℕ) → n < 10 → digits (suc f) n ≡ (48 + n) ∷ []
+digits_one : (f n : ℕ) → n < 10 → digits (suc f) n ≡ (48 + n) ∷ []
 unfolding digits
-digits-one f n h = rw (lt-ltb n 10 h)
+digits_one f n h = rw (lt-ltb n 10 h)
 
 digits_last : (f n : ℕ) → 10 ≤ n → digits (suc f) n ≡ digits f (n / 10) ++ ((48 + n % 10) ∷ [])
 unfolding digits
 digits_last f n h = rw (le-ltb n 10 h)
 
-small-back : (m f n : ℕ) → n < 10 → n ≤ m → number_from m (Is 0) (digits (suc f) n) ≡ Is n
-small-back m f n h l =
+small_back : (m f n : ℕ) → n < 10 → n ≤ m → number_from m (Is 0) (digits (suc f) n) ≡ Is n
+small_back m f n h l =
     let e : 10 * 0 + n ≡ n = omega arith in
-    rw (digits-one f n h, one-digit m 0 n) (digit-back m 0 n h (omega arith) ∙ rw e)
+    rw (digits_one f n h, one_digit m 0 n) (digit_back m 0 n h (omega arith) ∙ rw e)
 
-digits-back : (m f n : ℕ) → n < 10 ^ suc f → n ≤ m → number_from m (Is 0) (digits (suc f) n) ≡ Is n
-digits-back m zero n h l = small-back m zero n (omega arith) l
-digits-back m (suc f) n h l =
+digits_back : (m f n : ℕ) → n < 10 ^ suc f → n ≤ m → number_from m (Is 0) (digits (suc f) n) ≡ Is n
+digits_back m zero n h l = small_back m zero n (omega arith) l
+digits_back m (suc f) n h l =
     let z : 0 < 10 = omega arith in
     let g : n < 10 ^ suc f * 10 = omega (arith, pow-suc 10 (suc f)) in
-    let ih = digits-back m f (n / 10) ((div-lt_iff_lt-mul z).1 g) (omega arith) in
+    let ih = digits_back m f (n / 10) ((div-lt_iff_lt-mul z).1 g) (omega arith) in
     let e : 10 * (n / 10) + n % 10 ≡ n = omega arith in
-    test (ltb n 10) (λ t. small-back m (suc f) n (ltb-true n 10 t) l)
-    (λ t. rw (digits_last (suc f) n (ltb-false n 10 t), number-join m (Is 0) (digits (suc f) (n / 10)) ((48 + n % 10) ∷ []), ih, one-digit m (n / 10) (n % 10)) (digit-back m (n / 10) (n % 10) (omega arith) (omega arith) ∙ rw e))
+    test (ltb n 10) (λ t. small_back m (suc f) n (ltb-true n 10 t) l)
+    (λ t. rw (digits_last (suc f) n (ltb-false n 10 t), number_join m (Is 0) (digits (suc f) (n / 10)) ((48 + n % 10) ∷ []), ih, one_digit m (n / 10) (n % 10)) (digit_back m (n / 10) (n % 10) (omega arith) (omega arith) ∙ rw e))
 
-pub decimal-back : (m n : ℕ) → n < 18446744073709551616 → n ≤ m → number_from m (Is 0) (decimal n) ≡ Is n
+pub decimal_back : (m n : ℕ) → n < 18446744073709551616 → n ≤ m → number_from m (Is 0) (decimal n) ≡ Is n
 unfolding decimal
-decimal-back m n h l = digits-back m 19 n (omega arith) l
+decimal_back m n h l = digits_back m 19 n (omega arith) l
 
 -- ---- bytes of a word: no space, no comment, no newline
 
 unfoldable pub plain : ℕ → Bool
 plain c = not (is_break c) && not (eqb c 10)
 
-pub plain-break : (c : ℕ) → plain c ≡ true → is_break c ≡ false
+pub plain_break : (c : ℕ) → plain c ≡ true → is_break c ≡ false
 unfolding plain
-plain-break c e = not-true (is_break c) (and-true (not (is_break c)) (not (eqb c 10)) e).0
+plain_break c e = not-true (is_break c) (and_true (not (is_break c)) (not (eqb c 10)) e).0
 
-pub plain-line : (c : ℕ) → plain c ≡ true → eqb c 10 ≡ false
+pub plain_line : (c : ℕ) → plain c ≡ true → eqb c 10 ≡ false
 unfolding plain
-plain-line c e = not-true (eqb c 10) (and-true (not (is_break c)) (not (eqb c 10)) e).1
+plain_line c e = not-true (eqb c 10) (and_true (not (is_break c)) (not (eqb c 10)) e).1
 
-plain-digit : (d : ℕ) → plain (48 + d) ≡ true
+plain_digit : (d : ℕ) → plain (48 + d) ≡ true
 unfolding plain
-plain-digit d = rw (ne_eqb (48 + d) 32 (λ e. omega arith), ne_eqb (48 + d) 9 (λ e. omega arith), ne_eqb (48 + d) 13 (λ e. omega arith), ne_eqb (48 + d) 35 (λ e. omega arith), ne_eqb (48 + d) 10 (λ e. omega arith))
+plain_digit d = rw (ne_eqb (48 + d) 32 (λ e. omega arith), ne_eqb (48 + d) 9 (λ e. omega arith), ne_eqb (48 + d) 13 (λ e. omega arith), ne_eqb (48 + d) 35 (λ e. omega arith), ne_eqb (48 + d) 10 (λ e. omega arith))
 
 all_append : (p : ℕ → Bool) (xs ys : List ℕ) → all p xs ≡ true → all p ys ≡ true → all p (xs ++ ys) ≡ true
 all_append p [] ys e f = f
-all_append p (x ∷ xs) ys e f = let h = and-true (p x) (all p xs) e in rw h.0 (all_append p xs ys h.1 f)
+all_append p (x ∷ xs) ys e f = let h = and_true (p x) (all p xs) e in rw h.0 (all_append p xs ys h.1 f)
 
-digits-none : (n : ℕ) → digits zero n ≡ []
+digits_none : (n : ℕ) → digits zero n ≡ []
 unfolding digits
-digits-none n = refl
+digits_none n = refl
 
-digits-plain : (f n : ℕ) → all plain (digits f n) ≡ true
-digits-plain zero n = rw (digits-none n)
-digits-plain (suc f) n =
-    let ih = digits-plain f (n / 10) in
-    test (ltb n 10) (λ t. rw (digits-one f n (ltb-true n 10 t), plain-digit n))
-    (λ t. rw (digits_last f n (ltb-false n 10 t)) (all_append plain (digits f (n / 10)) ((48 + n % 10) ∷ []) ih (rw (plain-digit (n % 10)))))
+digits_plain : (f n : ℕ) → all plain (digits f n) ≡ true
+digits_plain zero n = rw (digits_none n)
+digits_plain (suc f) n =
+    let ih = digits_plain f (n / 10) in
+    test (ltb n 10) (λ t. rw (digits_one f n (ltb-true n 10 t), plain_digit n))
+    (λ t. rw (digits_last f n (ltb-false n 10 t)) (all_append plain (digits f (n / 10)) ((48 + n % 10) ∷ []) ih (rw (plain_digit (n % 10)))))
 
-digits-some : (f n : ℕ) → 0 < length (digits (suc f) n)
-digits-some f n =
-    test (ltb n 10) (λ t. rw (digits-one f n (ltb-true n 10 t)) (omega arith))
+digits_some : (f n : ℕ) → 0 < length (digits (suc f) n)
+digits_some f n =
+    test (ltb n 10) (λ t. rw (digits_one f n (ltb-true n 10 t)) (omega arith))
     (λ t. rw (digits_last f n (ltb-false n 10 t), length-append) (omega arith))
 
-pub decimal-plain : (n : ℕ) → all plain (decimal n) ≡ true
+pub decimal_plain : (n : ℕ) → all plain (decimal n) ≡ true
 unfolding decimal
-decimal-plain n = digits-plain 20 n
+decimal_plain n = digits_plain 20 n
 
-pub decimal-some : (n : ℕ) → 0 < length (decimal n)
+pub decimal_some : (n : ℕ) → 0 < length (decimal n)
 unfolding decimal
-decimal-some n = digits-some 19 n
+decimal_some n = digits_some 19 n
 
 -- ---- words
 
@@ -114,61 +114,61 @@ decimal-some n = digits-some 19 n
 pub words_of : (w r : List ℕ) → 0 < length w → all plain w ≡ true → in_word r ≡ false → words_in (w ++ r) ≡ w ∷ words_in r
 words_of [] r z p e = absurd (omega arith)
 words_of (c ∷ []) r z p e =
-    let h = and-true (plain c) true p in
-    word-start c r (plain-break c h.0) ∙ rw e
+    let h = and_true (plain c) true p in
+    word_start_lem c r (plain_break c h.0) ∙ rw e
 words_of (c ∷ d ∷ ds) r z p e =
-    let h = and-true (plain c) (all plain (d ∷ ds)) p in
-    let k = and-true (plain d) (all plain ds) h.1 in
+    let h = and_true (plain c) (all plain (d ∷ ds)) p in
+    let k = and_true (plain d) (all plain ds) h.1 in
     let ih = words_of (d ∷ ds) r (omega arith) h.1 e in
-    word-start c ((d ∷ ds) ++ r) (plain-break c h.0) ∙ rw (plain-break d k.0, ih)
+    word_start_lem c ((d ∷ ds) ++ r) (plain_break c h.0) ∙ rw (plain_break d k.0, ih)
 
 -- numbers behind a word
-numbers-break : (ns : List ℕ) → in_word (flat number_text ns) ≡ false
+numbers_break : (ns : List ℕ) → in_word (flat number_text ns) ≡ false
 unfolding flat number_text
-numbers-break [] = refl
-numbers-break (n ∷ ns) = refl
+numbers_break [] = refl
+numbers_break (n ∷ ns) = refl
 
-numbers-cons : (n : ℕ) (ns : List ℕ) → flat number_text (n ∷ ns) ≡ 32 ∷ (decimal n ++ flat number_text ns)
+numbers_cons : (n : ℕ) (ns : List ℕ) → flat number_text (n ∷ ns) ≡ 32 ∷ (decimal n ++ flat number_text ns)
 unfolding flat number_text
-numbers-cons n ns = refl
+numbers_cons n ns = refl
 
-numbers-nil : flat number_text [] ≡ []
+numbers_nil : flat number_text [] ≡ []
 unfolding flat
-numbers-nil = refl
+numbers_nil = refl
 
-numbers-words : (ns : List ℕ) → words_in (flat number_text ns) ≡ map decimal ns
-numbers-words [] = rw numbers-nil words-empty
-numbers-words (n ∷ ns) =
-    rw (numbers-cons n ns, space-passed 32 (decimal n ++ flat number_text ns) refl, words_of (decimal n) (flat number_text ns) (decimal-some n) (decimal-plain n) (numbers-break ns), numbers-words ns)
+numbers_words : (ns : List ℕ) → words_in (flat number_text ns) ≡ map decimal ns
+numbers_words [] = rw numbers_nil words_empty
+numbers_words (n ∷ ns) =
+    rw (numbers_cons n ns, space_passed 32 (decimal n ++ flat number_text ns) refl, words_of (decimal n) (flat number_text ns) (decimal_some n) (decimal_plain n) (numbers_break ns), numbers_words ns)
 
-pub line-words : (w ns : List ℕ) → 0 < length w → all plain w ≡ true → words_in (w ++ flat number_text ns) ≡ w ∷ map decimal ns
-line-words w ns z p = words_of w (flat number_text ns) z p (numbers-break ns) ∙ rw (numbers-words ns)
+pub line_words : (w ns : List ℕ) → 0 < length w → all plain w ≡ true → words_in (w ++ flat number_text ns) ≡ w ∷ map decimal ns
+line_words w ns z p = words_of w (flat number_text ns) z p (numbers_break ns) ∙ rw (numbers_words ns)
 
 -- ---- lines
 
 no_line : ℕ → Bool
 no_line c = not (eqb c 10)
 
-plain-no-line : (w : List ℕ) → all plain w ≡ true → all no_line w ≡ true
+plain_no_line : (w : List ℕ) → all plain w ≡ true → all no_line w ≡ true
 unfolding no_line
-plain-no-line [] p = refl
-plain-no-line (c ∷ cs) p = let h = and-true (plain c) (all plain cs) p in rw (plain-line c h.0) (plain-no-line cs h.1)
+plain_no_line [] p = refl
+plain_no_line (c ∷ cs) p = let h = and_true (plain c) (all plain cs) p in rw (plain_line c h.0) (plain_no_line cs h.1)
 
-numbers-no-line : (ns : List ℕ) → all no_line (flat number_text ns) ≡ true
+numbers_no_line : (ns : List ℕ) → all no_line (flat number_text ns) ≡ true
 unfolding no_line
-numbers-no-line [] = rw numbers-nil
-numbers-no-line (n ∷ ns) = rw (numbers-cons n ns) (all_append no_line (decimal n) (flat number_text ns) (plain-no-line (decimal n) (decimal-plain n)) (numbers-no-line ns))
+numbers_no_line [] = rw numbers_nil
+numbers_no_line (n ∷ ns) = rw (numbers_cons n ns) (all_append no_line (decimal n) (flat number_text ns) (plain_no_line (decimal n) (decimal_plain n)) (numbers_no_line ns))
 
-lines-of : (l r : List ℕ) → all no_line l ≡ true → lines_of (l ++ (10 ∷ r)) ≡ l ∷ lines_of r
+lines_of_lem : (l r : List ℕ) → all no_line l ≡ true → lines_of (l ++ (10 ∷ r)) ≡ l ∷ lines_of r
 unfolding lines_of no_line
-lines-of [] r p = refl
-lines-of (c ∷ cs) r p =
-    let h = and-true (no_line c) (all no_line cs) p in
-    rw (not-true (eqb c 10) h.0) (glued-line c cs (lines_of r) (lines_of (cs ++ (10 ∷ r))) (lines-of cs r h.1))
+lines_of_lem [] r p = refl
+lines_of_lem (c ∷ cs) r p =
+    let h = and_true (no_line c) (all no_line cs) p in
+    rw (not-true (eqb c 10) h.0) (glued_line c cs (lines_of r) (lines_of (cs ++ (10 ∷ r))) (lines_of_lem cs r h.1))
 
 -- a line of the text, and what stands behind it
-pub text-lines : (word ns r : List ℕ) → all plain word ≡ true → lines_of (line_text word ns ++ r) ≡ (word ++ flat number_text ns) ∷ lines_of r
+pub text_lines : (word ns r : List ℕ) → all plain word ≡ true → lines_of (line_text word ns ++ r) ≡ (word ++ flat number_text ns) ∷ lines_of r
 unfolding line_text
-text-lines word ns r p =
+text_lines word ns r p =
     rw (append_assoc word (flat number_text ns ++ (10 ∷ [])) r, append_assoc (flat number_text ns) (10 ∷ []) r, ← append_assoc word (flat number_text ns) (10 ∷ r))
-    (lines-of (word ++ flat number_text ns) r (all_append no_line word (flat number_text ns) (plain-no-line word p) (numbers-no-line ns)))
+    (lines_of_lem (word ++ flat number_text ns) r (all_append no_line word (flat number_text ns) (plain_no_line word p) (numbers_no_line ns)))

@@ -9,13 +9,13 @@ use lib.Seq.{take_all}
 use borrow.Author.Tests.{le-leb, lt-leb, ne_eqb}
 use Rattle.events.specs.Whole.{whole_from, whole_length}
 use Rattle.lines.proofs.Paste.{rest}
-use Rattle.output.proofs.Rooms.{puts-filled, puts-join, puts_none}
+use Rattle.output.proofs.Rooms.{puts_filled, puts_join, puts_none}
 use Rattle.output.specs.Room.{Room, filled, puts, room}
 use Rattle.output.specs.declared.Cursor.{Cursor}
 use Rattle.parsing.specs.Fault.{fault_of}
 use Rattle.parsing.specs.Read.{bytes_of_text}
 use Rattle.printing.proofs.Pieces.{in_pieces}
-use Rattle.printing.proofs.Records.{line-puts}
+use Rattle.printing.proofs.Records.{line_puts}
 use Rattle.printing.specs.Claim.{InPieces, rest_text, text_in}
 use Rattle.printing.specs.Text.{number_text, text_of, whole_text}
 use Rattle.rules.specs.Kinds.{bytes_word}
@@ -31,14 +31,14 @@ fills : (d bs : List ℕ) → length bs ≤ length d → filled d bs ≡ room (b
 unfolding filled
 fills d bs h = rw (le-leb (length bs) (length d) h, take_all (length d) bs h)
 
-pub wrote-all : (d d' bs : List ℕ) (c : Cursor) → room d' c ≡ filled d bs → length bs ≤ length d → record { answer = record { refusal = 0; value = c.at }; buffer = d' } ≡ wrote_front bs d
+pub wrote_all : (d d' bs : List ℕ) (c : Cursor) → room d' c ≡ filled d bs → length bs ≤ length d → record { answer = record { refusal = 0; value = c.at }; buffer = d' } ≡ wrote_front bs d
 unfolding room
-wrote-all d d' bs c e h =
+wrote_all d d' bs c e h =
     let w : Room → Wrote = λ r. record { answer = record { refusal = 0; value = r.cursor.at }; buffer = r.buffer } in
     ap w (e ∙ fills d bs h)
 
-pub says-refused : (a : Answer) (n : ℕ) (d : List ℕ) (w : Wrote) → a ≡ record { refusal = n; value = 0 } → w ≡ refused_by n d → record { answer = a; buffer = d } ≡ w
-says-refused a n d w e f = rw e (sym f)
+pub says_refused : (a : Answer) (n : ℕ) (d : List ℕ) (w : Wrote) → a ≡ record { refusal = n; value = 0 } → w ≡ refused_by n d → record { answer = a; buffer = d } ≡ w
+says_refused a n d w e f = rw e (sym f)
 
 -- ---- from a file to its text
 
@@ -52,45 +52,45 @@ pub whole_in : (file : List ℕ) → whole_length file ≤ length file
 unfolding whole_length
 whole_in file = from_in 0 file
 
-text-parts : (file : List ℕ) → whole_text file ++ rest_text (drop (whole_length file) file) ≡ text_of file
+text_parts : (file : List ℕ) → whole_text file ++ rest_text (drop (whole_length file) file) ≡ text_of file
 unfolding InPieces text_in flat
-text-parts file = in_pieces (file ∷ []) ∙ rw append-nil
+text_parts file = in_pieces (file ∷ []) ∙ rw append-nil
 
 -- what is left of a file: nothing, or a line
-pub rest-none : (r : Room) (rest : List ℕ) → length rest ≡ 0 → r ≡ puts r (rest_text rest)
+pub rest_none : (r : Room) (rest : List ℕ) → length rest ≡ 0 → r ≡ puts r (rest_text rest)
 unfolding rest_text
-rest-none r [] e = sym (puts_none r)
-rest-none r (b ∷ bs) e = absurd (omega arith)
+rest_none r [] e = sym (puts_none r)
+rest_none r (b ∷ bs) e = absurd (omega arith)
 
 pub rest_some : (r : Room) (rest : List ℕ) → (length rest ≡ 0 → ⊥) → puts (puts (puts r bytes_word) (flat number_text rest)) (10 ∷ []) ≡ puts r (rest_text rest)
 unfolding rest_text
 rest_some r [] n = absurd (n refl)
-rest_some r (b ∷ bs) n = sym (line-puts r bytes_word (b ∷ bs))
+rest_some r (b ∷ bs) n = sym (line_puts r bytes_word (b ∷ bs))
 
 -- the whole records, and what is left, fill the buffer with the text
-pub text-filled : (file t m : List ℕ) (at : ℕ) (c : Cursor) (r : Room) → at ≡ whole_length file → room m c ≡ puts (room t (record { at = 0; short = false })) (whole_text file) → r ≡ puts (room m c) (rest_text (take (length file - at) (drop at file))) → r ≡ filled t (text_of file)
-text-filled file t m at c r e p h =
-    h ∙ rw (rest file at, p, e, ← puts-join (room t (record { at = 0; short = false })) (whole_text file) (rest_text (drop (whole_length file) file)), text-parts file) (puts-filled t (text_of file))
+pub text_filled : (file t m : List ℕ) (at : ℕ) (c : Cursor) (r : Room) → at ≡ whole_length file → room m c ≡ puts (room t (record { at = 0; short = false })) (whole_text file) → r ≡ puts (room m c) (rest_text (take (length file - at) (drop at file))) → r ≡ filled t (text_of file)
+text_filled file t m at c r e p h =
+    h ∙ rw (rest file at, p, e, ← puts_join (room t (record { at = 0; short = false })) (whole_text file) (rest_text (drop (whole_length file) file)), text_parts file) (puts_filled t (text_of file))
 
-pub text-refused : (file d : List ℕ) → length d < 32 * length file → text_call file d ≡ refused_by 6 d
+pub text_refused : (file d : List ℕ) → length d < 32 * length file → text_call file d ≡ refused_by 6 d
 unfolding text_call
-text-refused file d h = rw (lt-leb (32 * length file) (length d) h)
+text_refused file d h = rw (lt-leb (32 * length file) (length d) h)
 
-pub text-written : (file d : List ℕ) → 32 * length file ≤ length d → text_call file d ≡ wrote_front (text_of file) d
+pub text_written : (file d : List ℕ) → 32 * length file ≤ length d → text_call file d ≡ wrote_front (text_of file) d
 unfolding text_call
-text-written file d h = rw (le-leb (32 * length file) (length d) h)
+text_written file d h = rw (le-leb (32 * length file) (length d) h)
 
 -- ---- from a text to its bytes
 
-pub bytes-refused : (text d : List ℕ) → length d < 4 * length text → bytes_call text d ≡ refused_by 6 d
+pub bytes_refused : (text d : List ℕ) → length d < 4 * length text → bytes_call text d ≡ refused_by 6 d
 unfolding bytes_call
-bytes-refused text d h = rw (lt-leb (4 * length text) (length d) h)
+bytes_refused text d h = rw (lt-leb (4 * length text) (length d) h)
 
 module _ (text d : List ℕ) (h : 4 * length text ≤ length d) where
-  pub fault-refused : ((fault_of text).kind ≡ 0 → ⊥) → bytes_call text d ≡ refused_by (fault_of text).kind d
+  pub fault_refused : ((fault_of text).kind ≡ 0 → ⊥) → bytes_call text d ≡ refused_by (fault_of text).kind d
   unfolding bytes_call
-  fault-refused n = rw (le-leb (4 * length text) (length d) h, ne_eqb (fault_of text).kind 0 n)
+  fault_refused n = rw (le-leb (4 * length text) (length d) h, ne_eqb (fault_of text).kind 0 n)
 
-  pub bytes-written : (fault_of text).kind ≡ 0 → bytes_call text d ≡ wrote_front (bytes_of_text text).bytes d
+  pub bytes_written : (fault_of text).kind ≡ 0 → bytes_call text d ≡ wrote_front (bytes_of_text text).bytes d
   unfolding bytes_call
-  bytes-written e = rw (le-leb (4 * length text) (length d) h, e)
+  bytes_written e = rw (le-leb (4 * length text) (length d) h, e)

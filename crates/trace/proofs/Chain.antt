@@ -24,15 +24,15 @@ use Rattle.trace.specs.declared.State.{State}
 no_more : (b c : Between) (t : Turned b c) (f : List ℕ) → (c.last ≡ true → f ≡ []) → b.last ≡ true → drop b.held t.piece ++ f ≡ []
 no_more b c t f h e = rw (drop_of_length-le t.piece (t.still e), h (t.ends ∙ le-leb (length t.piece) b.held (t.still e)))
 
-pub turns-right : {a : Between} {n : ℕ} {came sent : List ℕ} {c : Between} → Chain follows Printed a n came sent c → a.held ≡ 0 → (f : List ℕ) → (c.last ≡ true → f ≡ [])
+pub turns_right : {a : Between} {n : ℕ} {came sent : List ℕ} {c : Between} → Chain follows Printed a n came sent c → a.held ≡ 0 → (f : List ℕ) → (c.last ≡ true → f ≡ [])
     → trace_text a.board (records_of (came ++ f)) ≡ sent ++ trace_text c.board (records_of (take c.held c.buffer ++ f))
-turns-right stop z f h = rw z
-turns-right (turn {came = came} {new = new} {t = b} {r = c} r m q) z f h =
+turns_right stop z f h = rw z
+turns_right (turn {came = came} {new = new} {t = b} {r = c} r m q) z f h =
     let t = q.turned in
     let p = t.piece in
     let last = leb (length p) b.held in
     let k = fitting (length b.out) 0 b.board (due_in last p) in
-    let ih = turns-right r z (new ++ f) (λ e. rw q.comes (no_more b c t f h e)) in
+    let ih = turns_right r z (new ++ f) (λ e. rw q.comes (no_more b c t f h e)) in
     let joined : take b.held b.buffer ++ (new ++ f) ≡ p ++ f = rw (q.comes, ← t.begins, ← append_assoc, take-append-drop) in
     rw (append_assoc came new f, ih, joined, goes_on last b.board p f k (λ e. h (t.ends ∙ e)), ← t.ran.stands, ← t.ran.leaves, ← t.left, q.goes, append_assoc)
 
@@ -51,4 +51,4 @@ abbrev pub turned_on : (d o : List ℕ) (b c : Between) (left : ℕ) → Running
 turned_on d o b c left g h m t = one_more g h m (record { turned = t; comes = refl; goes = refl })
 
 abbrev pub traced : (d d' o o' : List ℕ) (b : Board) (r : State) → Chained follows Printed (start d o) (between b d' o' r) → Traces d d' o o' r
-traced d d' o o' b r c = record { board = b; run = c; right = turns-right c.run refl }
+traced d d' o o' b r c = record { board = b; run = c; right = turns_right c.run refl }

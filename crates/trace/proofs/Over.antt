@@ -4,14 +4,14 @@ use Rattle.std.proofs.lemmas.List.{set_past}
 use Rattle.std.proofs.lemmas.List.Edits.{sets}
 use Rattle.std.specs.Io.KnownBytes.{Appends, Consumes}
 use borrow.Author.Tests.{leb-false, leb-true}
-use Rattle.lines.proofs.Paste.{sets-join, sets-paste, sets-whole}
-use Rattle.pieces.proofs.Chain.{all-counted, at-start, none-follows}
+use Rattle.lines.proofs.Paste.{sets_join, sets_paste, sets_whole}
+use Rattle.pieces.proofs.Chain.{all_counted, at_start, none_follows}
 use Rattle.pieces.proofs.Streams.{streamed_more, streamed_none}
 use Rattle.pieces.specs.Chain.{most_turns}
 use Rattle.pieces.specs.Streams.{AppendsFront, Streamed}
 use Rattle.rules.specs.Tables.{Board, Zero, fresh}
 use Rattle.tracing.specs.Results.{Put}
-use Rattle.undo.proofs.Laws.{and-true, test}
+use Rattle.undo.proofs.Laws.{and_true, test}
 use Rattle.trace.proofs.Chain.{Running, traced, turned_on}
 use Rattle.trace.specs.Results.{Between, TracesOver, Turned, TurnedOver, between, goes_on}
 use Rattle.trace.specs.declared.State.{State}
@@ -29,11 +29,11 @@ text_front d d' x n (e, f) =
     test (leb (length x) m)
     (λ t. let l : length x ≤ m = leb-true (length x) m t in
     let l' : 0 + length x ≤ m = omega arith in
-    rw (e, c, take_all m x l, sets-paste d 0 x l') (take_at x (drop (0 + length x) d) (length x) refl))
+    rw (e, c, take_all m x l, sets_paste d 0 x l') (take_at x (drop (0 + length x) d) (length x) refl))
     (λ t. let l : m < length x = leb-false (length x) m t in
     let w : length (take m x) ≡ m = length-take-le m x (omega arith) in
     let s : sets d 0 (take m x ++ drop m x) ≡ take m x =
-    rw (sets-join d 0 (take m x) (drop m x), sets-whole d (take m x) w, w) (stored_past (take m x) (0 + m) (drop m x) (omega arith)) in
+    rw (sets_join d 0 (take m x) (drop m x), sets_whole d (take m x) w, w) (stored_past (take m x) (0 + m) (drop m x) (omega arith)) in
     let s' : sets d 0 x ≡ take m x = rw (take-append-drop m x) at s in
     rw (e, c, s') (take_all (length x) (take m x) (omega arith)))
 
@@ -80,11 +80,11 @@ pub record RunningOver (i i' o o' : Option (List ℕ)) (d t : List ℕ) (c : Bet
 
 pub begins : (i o : Option (List ℕ)) (d t : List ℕ) (b : Board) (s : State) → b ≡ fresh Zero → s.held ≡ 0 → s.last ≡ false → s.more ≡ true → s.sent ≡ true
     → RunningOver i i o o d t (between b d t s) s.sent most_turns
-begins i o d t b s e h l m z = rw (e, h, l, m, z) (record { going = at-start; streamed = streamed_none i o true; went = λ x. refl })
+begins i o d t b s e h l m z = rw (e, h, l, m, z) (record { going = at_start; streamed = streamed_none i o true; went = λ x. refl })
 
 went_out : (sent last full : Bool) → goes_on sent last full ≡ true → sent ≡ true
 unfolding goes_on
-went_out sent last full e = (and-true sent (not last || full) e).0
+went_out sent last full e = (and_true sent (not last || full) e).0
 
 pub turns_over : (i i₁ i₂ o o₁ o₂ : Option (List ℕ)) (d t : List ℕ) (b c : Between) (sent sent' : Bool) (left : ℕ) → RunningOver i i₁ o o₁ d t b sent left → 0 < left → b.more ≡ true
     → TurnedOver i₁ i₂ o₁ o₂ b c sent' → RunningOver i i₂ o o₂ d t c sent' (left - 1)
@@ -97,8 +97,8 @@ turns_over i i₁ i₂ o o₁ o₂ d t b c sent sent' left g h m p =
 
 pub stops : (i i' o o' : Option (List ℕ)) (d d' t t' : List ℕ) (b : Board) (r : State) (left : ℕ) → RunningOver i i' o o' d t (between b d' t' r) r.sent left → r.more ≡ false
     → TracesOver i i' o o' d d' t t' r
-stops i i' o o' d d' t t' b r left g e = record { traces = traced d d' t t' b r (none-follows g.going e); streamed = g.streamed }
+stops i i' o o' d d' t t' b r left g e = record { traces = traced d d' t t' b r (none_follows g.going e); streamed = g.streamed }
 
 pub runs_out : (i i' o o' : Option (List ℕ)) (d d' t t' : List ℕ) (b : Board) (r : State) (left : ℕ) → RunningOver i i' o o' d t (between b d' t' r) r.sent left → left ≡ 0
     → TracesOver i i' o o' d d' t t' r
-runs_out i i' o o' d d' t t' b r left g e = record { traces = traced d d' t t' b r (all-counted g.going e); streamed = g.streamed }
+runs_out i i' o o' d d' t t' b r left g e = record { traces = traced d d' t t' b r (all_counted g.going e); streamed = g.streamed }

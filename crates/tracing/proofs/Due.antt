@@ -9,12 +9,12 @@ use native.Mathlib.Omega.{arith}
 use borrow.Author.Tests.{ltb-false, ltb-true}
 use lib.Seq.{drop-cons, drop-drop, drop-length, length-sets, sets}
 use native.Mathlib.Nat.{add_assoc, add-zero}
-use Rattle.lines.proofs.Paste.{sets-join}
+use Rattle.lines.proofs.Paste.{sets_join}
 use Rattle.rules.specs.Record.{body_length, records_from, records_of}
 use Rattle.rules.specs.Run.{run}
 use Rattle.rules.specs.Step.{step}
 use Rattle.rules.specs.Tables.{Board}
-use Rattle.events.proofs.Records.{fits_more, length-empty, length_more, length-off, not-whole, pos, records-skip, stands}
+use Rattle.events.proofs.Records.{fits_more, length_empty, length_more, length_off, not_whole, pos, records_skip, stands}
 use Rattle.events.specs.Whole.{record_length, whole_length}
 use Rattle.tracing.specs.Pieces.{RanPiece, due_in, fitting, left_of, rest_at}
 use Rattle.tracing.specs.Results.{TracedEvent}
@@ -40,43 +40,43 @@ none : (x : List ℕ) → length x ≤ 0 → x ≡ []
 none [] h = refl
 none (b ∷ bs) h = absurd (omega arith)
 
-whole-records : (x : List ℕ) → 0 < record_length x → records_of x ≡ x ∷ records_of (drop (record_length x) x)
+whole_records : (x : List ℕ) → 0 < record_length x → records_of x ≡ x ∷ records_of (drop (record_length x) x)
 unfolding records_from
-whole-records [] h = absurd (omega (arith, length-empty [] refl))
-whole-records (b ∷ bs) h = let s = stands (b ∷ bs) h in rw (s.is-whole, s.is-long, records-skip (body_length b) bs)
+whole_records [] h = absurd (omega (arith, length_empty [] refl))
+whole_records (b ∷ bs) h = let s = stands (b ∷ bs) h in rw (s.is_whole_lem, s.is_long, records_skip (body_length b) bs)
 
 no_record : (x : List ℕ) → 0 < length x → record_length x ≡ 0 → records_of x ≡ x ∷ []
 unfolding records_from
 no_record [] h e = absurd (omega arith)
-no_record (b ∷ bs) h e = rw (not-whole (b ∷ bs) e)
+no_record (b ∷ bs) h e = rw (not_whole (b ∷ bs) e)
 
-pub due-none : (last : Bool) (x : List ℕ) → is_due last x ≡ false → due_in last x ≡ []
+pub due_none : (last : Bool) (x : List ℕ) → is_due last x ≡ false → due_in last x ≡ []
 unfolding due_in records_from
-due-none true x e = rw (none x (ltb-false 0 (length x) e))
-due-none false [] e = refl
-due-none false (b ∷ bs) e = rw (not-whole (b ∷ bs) (omega (arith, ltb-false 0 (record_length (b ∷ bs)) e)))
+due_none true x e = rw (none x (ltb-false 0 (length x) e))
+due_none false [] e = refl
+due_none false (b ∷ bs) e = rw (not_whole (b ∷ bs) (omega (arith, ltb-false 0 (record_length (b ∷ bs)) e)))
 
-pub due-whole : (last : Bool) (x : List ℕ) → 0 < record_length x → due_in last x ≡ x ∷ due_in last (drop (record_length x) x)
+pub due_whole : (last : Bool) (x : List ℕ) → 0 < record_length x → due_in last x ≡ x ∷ due_in last (drop (record_length x) x)
 unfolding due_in
-due-whole true x h = whole-records x h
-due-whole false x h = rw (whole-records x h, (stands x h).is-whole)
+due_whole true x h = whole_records x h
+due_whole false x h = rw (whole_records x h, (stands x h).is_whole_lem)
 
 -- a record that is due and not whole is the end of the last piece
-pub due-last : (last : Bool) (x : List ℕ) → is_due last x ≡ true → record_length x ≡ 0 → last ≡ true
-due-last true x d e = refl
-due-last false x d e = absurd (omega (arith, ltb-true 0 (record_length x) d))
+pub due_last : (last : Bool) (x : List ℕ) → is_due last x ≡ true → record_length x ≡ 0 → last ≡ true
+due_last true x d e = refl
+due_last false x d e = absurd (omega (arith, ltb-true 0 (record_length x) d))
 
-pub due-end : (last : Bool) (x : List ℕ) → is_due last x ≡ true → record_length x ≡ 0 → due_in last x ≡ x ∷ []
+pub due_end : (last : Bool) (x : List ℕ) → is_due last x ≡ true → record_length x ≡ 0 → due_in last x ≡ x ∷ []
 unfolding due_in
-due-end true x d e = no_record x (ltb-true 0 (length x) d) e
-due-end false x d e = absurd (omega (arith, ltb-true 0 (record_length x) d))
+due_end true x d e = no_record x (ltb-true 0 (length x) d) e
+due_end false x d e = absurd (omega (arith, ltb-true 0 (record_length x) d))
 
 -- it is the first of some
-due-some : (last : Bool) (x : List ℕ) → is_due last x ≡ true → (rs : List (List ℕ)) × (due_in last x ≡ x ∷ rs)
-due-some last x u =
+due_some : (last : Bool) (x : List ℕ) → is_due last x ≡ true → (rs : List (List ℕ)) × (due_in last x ≡ x ∷ rs)
+due_some last x u =
     test (ltb 0 (record_length x))
-    (λ h. (due_in last (drop (record_length x) x), due-whole last x (ltb-true 0 (record_length x) h)))
-    (λ h. ([], due-end last x u (omega (arith, ltb-false 0 (record_length x) h))))
+    (λ h. (due_in last (drop (record_length x) x), due_whole last x (ltb-true 0 (record_length x) h)))
+    (λ h. ([], due_end last x u (omega (arith, ltb-false 0 (record_length x) h))))
 
 -- ---- a run of records into a buffer
 
@@ -96,18 +96,18 @@ run_into b d at (r ∷ rs) =
     (run_into (step b r).board (sets d at (event_text b r)) (at + length (event_text b r)) rs)
     (stop b d at (r ∷ rs))
 
-pub into-none : (b : Board) (d : List ℕ) (at : ℕ) → run_into b d at [] ≡ stop b d at []
+pub into_none : (b : Board) (d : List ℕ) (at : ℕ) → run_into b d at [] ≡ stop b d at []
 unfolding run_into
-into-none b d at = refl
+into_none b d at = refl
 
 module _ (b : Board) (d : List ℕ) (at : ℕ) (r : List ℕ) (rs : List (List ℕ)) where
-  pub into-full : leb (at + longest_text) (length d) ≡ false → run_into b d at (r ∷ rs) ≡ stop b d at (r ∷ rs)
+  pub into_full : leb (at + longest_text) (length d) ≡ false → run_into b d at (r ∷ rs) ≡ stop b d at (r ∷ rs)
   unfolding run_into
-  into-full e = rw e
+  into_full e = rw e
 
-  pub into-on : leb (at + longest_text) (length d) ≡ true → run_into b d at (r ∷ rs) ≡ run_into (step b r).board (sets d at (event_text b r)) (at + length (event_text b r)) rs
+  pub into_on : leb (at + longest_text) (length d) ≡ true → run_into b d at (r ∷ rs) ≡ run_into (step b r).board (sets d at (event_text b r)) (at + length (event_text b r)) rs
   unfolding run_into
-  into-on e = rw e
+  into_on e = rw e
 
 -- it stops behind as many records as find room
 ran : (b : Board) (d : List ℕ) (at : ℕ) (rs : List (List ℕ)) (k : ℕ) → k ≡ fitting (length d) at b rs → run_into b d at rs ≡ stop (run b (take k rs)).board (sets d at (trace_text b (take k rs))) (at + length (trace_text b (take k rs))) (drop k rs)
@@ -124,16 +124,16 @@ ran b d at (r ∷ rs) (suc k) e =
     (λ t. let z : suc k ≡ suc (fitting (length d) (at + length x) (step b r).board rs) = rw t at e in
     let l : length (sets d at x) ≡ length d = length-sets d at x in
     let f : k ≡ fitting (length (sets d at x)) (at + length x) (step b r).board rs = rw l (omega arith) in
-    rw (t, ran (step b r).board (sets d at x) (at + length x) rs k f, sets-join d at x (trace_text (step b r).board (take k rs)), length-append, add_assoc))
+    rw (t, ran (step b r).board (sets d at x) (at + length x) rs k f, sets_join d at x (trace_text (step b r).board (take k rs)), length-append, add_assoc))
     (λ t. absurd (let z : suc k ≡ 0 = rw t at e in omega arith))
 
 is_full : List (List ℕ) → Bool
 is_full [] = false
 is_full (r ∷ rs) = true
 
-full-told : (k : ℕ) (rs : List (List ℕ)) → is_full (drop k rs) ≡ ltb k (length rs)
+full_told : (k : ℕ) (rs : List (List ℕ)) → is_full (drop k rs) ≡ ltb k (length rs)
 unfolding is_full
-full-told k rs =
+full_told k rs =
     test (ltb k (length rs))
     (λ t. rw (t, drop-cons rs k [] (ltb-true k (length rs) t)))
     (λ t. rw (t, drop_of_length-le rs (ltb-false k (length rs) t)))
@@ -168,38 +168,38 @@ module _ (last : Bool) (piece : List ℕ) (b₀ : Board) (d₀ : List ℕ) (at�
         written = (ap (λ (s : Stop). s.buffer) w, a ∙ ap (λ (s : Stop). s.at) w);
         inside = l;
         leaves = f ∙ ap (rest_at (end_of last piece)) q;
-        told = t ∙ ap is_full q ∙ full-told K (due_in last piece);
+        told = t ∙ ap is_full q ∙ full_told K (due_in last piece);
       }
 
   module _ (b : Board) (d : List ℕ) (p i : ℕ) (v : Runs last piece b₀ d₀ at₀ b d p i) where
     -- nothing is due
-    pub at-end : (r : TracedPiece) → is_due last (drop i piece) ≡ false → r.at ≡ p → r.passed ≡ i → r.full ≡ false → RanPiece last b₀ b piece d₀ d at₀ K r
+    pub at_end : (r : TracedPiece) → is_due last (drop i piece) ≡ false → r.at ≡ p → r.passed ≡ i → r.full ≡ false → RanPiece last b₀ b piece d₀ d at₀ K r
     unfolding is_full
-    at-end r e a l t =
+    at_end r e a l t =
         let x = drop i piece in
-        let s = sym v.same ∙ (ap (run_into b d p) (due-none last x e) ∙ into-none b d p) in
+        let s = sym v.same ∙ (ap (run_into b d p) (due_none last x e) ∙ into_none b d p) in
         answers b d p [] r s a (omega (arith, v.inside)) (rw l (left_end last e)) t
       where
         left_end : (z : Bool) → is_due z (drop i piece) ≡ false → drop i piece ≡ end_of z piece
         left_end true e = none (drop i piece) (ltb-false 0 (length (drop i piece)) e)
         left_end false e =
             let o : record_length (drop i piece) ≡ 0 = omega (arith, ltb-false 0 (record_length (drop i piece)) e) in
-            let w : whole_length piece ≡ i = omega (arith, v.behind, length-off (drop i piece) o) in
+            let w : whole_length piece ≡ i = omega (arith, v.behind, length_off (drop i piece) o) in
             rw w
 
     -- ---- behind one event more
 
     module _ (b' : Board) (d' : List ℕ) (t : Traced) (e : TracedEvent (leb (p + longest_text) (length d)) b b' (drop i piece) d d' p t) where
       -- it found no room
-      at-full : (r : TracedPiece) → is_due last (drop i piece) ≡ true → t.room ≡ false → r.at ≡ t.at → r.passed ≡ i → r.full ≡ true → RanPiece last b₀ b' piece d₀ d' at₀ K r
+      at_full : (r : TracedPiece) → is_due last (drop i piece) ≡ true → t.room ≡ false → r.at ≡ t.at → r.passed ≡ i → r.full ≡ true → RanPiece last b₀ b' piece d₀ d' at₀ K r
       unfolding is_full
-      at-full r u f a l z =
+      at_full r u f a l z =
           let q : leb (p + longest_text) (length d) ≡ false = sym e.told ∙ f in
           let x : b' ≡ b = rw q at e.stands in
           let y : d' ≡ d = rw q at e.written.0 in
           let w : t.at ≡ p + 0 = rw q at e.written.1 in
-          let o = due-some last (drop i piece) u in
-          let s = sym v.same ∙ (ap (run_into b d p) o.1 ∙ into-full b d p (drop i piece) o.0 q) in
+          let o = due_some last (drop i piece) u in
+          let s = sym v.same ∙ (ap (run_into b d p) o.1 ∙ into_full b d p (drop i piece) o.0 q) in
           rw (x, y) (answers b d p (drop i piece ∷ o.0) r s (omega arith) (omega (arith, v.inside)) (rw l) z)
 
       module _ (f : t.room ≡ true) where
@@ -215,16 +215,16 @@ module _ (last : Bool) (piece : List ℕ) (b₀ : Board) (d₀ : List ℕ) (at�
             let x : b' ≡ (step b (drop i piece)).board = rw roomy at e.stands in
             let y : d' ≡ sets d p (event_text b (drop i piece)) = rw roomy at e.written.0 in
             let w : t.at ≡ p + length (event_text b (drop i piece)) = rw roomy at e.written.1 in
-            rw (x, y, w) (sym (into-on b d p (drop i piece) rs roomy) ∙ (ap (run_into b d p) (sym o) ∙ v.same))
+            rw (x, y, w) (sym (into_on b d p (drop i piece) rs roomy) ∙ (ap (run_into b d p) (sym o) ∙ v.same))
 
         -- it ended the file
         at_last : (r : TracedPiece) → is_due last (drop i piece) ≡ true → t.passed ≡ 0 → r.at ≡ t.at → r.passed ≡ length piece → r.full ≡ false → RanPiece last b₀ b' piece d₀ d' at₀ K r
         unfolding is_full
         at_last r u g a l z =
             let n : record_length (drop i piece) ≡ 0 = sym passes ∙ g in
-            let o = due-end last (drop i piece) u n in
-            let s = sym (moved [] o) ∙ into-none b' d' t.at in
-            let k : last ≡ true = due-last last (drop i piece) u n in
+            let o = due_end last (drop i piece) u n in
+            let s = sym (moved [] o) ∙ into_none b' d' t.at in
+            let k : last ≡ true = due_last last (drop i piece) u n in
             answers b' d' t.at [] r s a (omega arith) (rw (l, k) (drop-length piece)) z
 
         -- it was whole, and the next one follows
@@ -233,7 +233,7 @@ module _ (last : Bool) (piece : List ℕ) (b₀ : Board) (d₀ : List ℕ) (at�
             let n = t.passed in
             let h : 0 < n = pos n g in
             let w : 0 < record_length (drop i piece) = omega (arith, passes) in
-            let o : due_in last (drop i piece) ≡ drop i piece ∷ due_in last (drop (i + n) piece) = due-whole last (drop i piece) w ∙ rw (← passes, drop-drop n i piece) in
+            let o : due_in last (drop i piece) ≡ drop i piece ∷ due_in last (drop (i + n) piece) = due_whole last (drop i piece) w ∙ rw (← passes, drop-drop n i piece) in
             let y : d' ≡ sets d p (event_text b (drop i piece)) = rw roomy at e.written.0 in
             record {
               inside = fits_more piece i n passes h;
@@ -243,14 +243,14 @@ module _ (last : Bool) (piece : List ℕ) (b₀ : Board) (d₀ : List ℕ) (at�
             }
 
       -- a record that did not pass
-      pub at-stop : (r : TracedPiece) → is_due last (drop i piece) ≡ true → t.passed ≡ 0 → r.at ≡ t.at → r.passed ≡ cond t.room (length piece) i
+      pub at_stop : (r : TracedPiece) → is_due last (drop i piece) ≡ true → t.passed ≡ 0 → r.at ≡ t.at → r.passed ≡ cond t.room (length piece) i
           → r.full ≡ not t.room → RanPiece last b₀ b' piece d₀ d' at₀ K r
-      at-stop r u g a l z = test t.room (λ f. at_last f r u g a (rw f at l) (rw f at z)) (λ f. at-full r u f a (rw f at l) (rw f at z))
+      at_stop r u g a l z = test t.room (λ f. at_last f r u g a (rw f at l) (rw f at z)) (λ f. at_full r u f a (rw f at l) (rw f at z))
 
       -- one that did found room
-      passed-room : (t.passed ≡ 0 → ⊥) → t.room ≡ true
-      passed-room g =
+      passed_room : (t.passed ≡ 0 → ⊥) → t.room ≡ true
+      passed_room g =
           test t.room (λ f. f) (λ f. let q : leb (p + longest_text) (length d) ≡ false = sym e.told ∙ f in absurd (g (rw q at e.passes)))
 
       pub goes_on : (t.passed ≡ 0 → ⊥) → Runs last piece b₀ d₀ at₀ b' d' t.at (i + t.passed)
-      goes_on g = goes (passed-room g) g
+      goes_on g = goes (passed_room g) g

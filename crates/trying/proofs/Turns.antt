@@ -13,6 +13,6 @@ module _ (r : Row) (line : List ℕ) (i : ℕ) where
   unfolding row_from
   row_on h = rw (add-one i, drop-cons line i 0 h)
 
-  pub row-end : length line ≤ i → row_from r (drop i line) ≡ r
+  pub row_end : length line ≤ i → row_from r (drop i line) ≡ r
   unfolding row_from
-  row-end h = rw (drop_of_length-le line h)
+  row_end h = rw (drop_of_length-le line h)

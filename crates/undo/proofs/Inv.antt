@@ -49,7 +49,7 @@ pub data Medium {Val : Type 0} (m : Val) : Bool → List (Entry Val) → Val →
 -- ---- a line's entries: each region depends on the one before
 
 pub data Link {Val : Type 0} (dep : ℕ → ℕ → Bool) : List (Entry Val) → Type 0 where
-  no-entry : Link dep []
+  no_entry : Link dep []
   one_entry : {e : Entry Val} → Link dep (e ∷ [])
   entries : {e f : Entry Val} {c : List (Entry Val)} → eqb e.rid f.rid ≡ false → dep e.rid f.rid ≡ true → Link dep (f ∷ c)
       → Link dep (e ∷ (f ∷ c))
@@ -64,7 +64,7 @@ pub data Last {Val : Type 0} (done : ℕ → Bool) : Option ℕ → List (Entry 
 -- ---- no ended region depends on one that ended later
 
 pub data Topo (dep : ℕ → ℕ → Bool) : List ℕ → Type 0 where
-  no-region : Topo dep []
+  no_region : Topo dep []
   region : {r : ℕ} {rs : List ℕ} → ((a : ℕ) → is_in a (r ∷ rs) ≡ true → dep a r ≡ false) → Topo dep rs → Topo dep (r ∷ rs)
 
 -- ---- what a region drew on is its own, or committed, or among its dependences

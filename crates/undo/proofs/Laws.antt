@@ -18,17 +18,17 @@ test false f g = g refl
 pub never {ℓ} : {C : Type ℓ} {b : Bool} → b ≡ true → b ≡ false → C
 never p q = absurd (true≢false (sym p ∙ q))
 
-pub or-true : (a b : Bool) → (a || b) ≡ true → (a ≡ true) ⊎ (b ≡ true)
-or-true true b e = inl refl
-or-true false b e = inr e
+pub or_true : (a b : Bool) → (a || b) ≡ true → (a ≡ true) ⊎ (b ≡ true)
+or_true true b e = inl refl
+or_true false b e = inr e
 
-pub or-false : (a b : Bool) → (a || b) ≡ false → (a ≡ false) × (b ≡ false)
-or-false true b e = absurd (true≢false e)
-or-false false b e = (refl, e)
+pub or_false : (a b : Bool) → (a || b) ≡ false → (a ≡ false) × (b ≡ false)
+or_false true b e = absurd (true≢false e)
+or_false false b e = (refl, e)
 
-pub and-true : (a b : Bool) → (a && b) ≡ true → (a ≡ true) × (b ≡ true)
-and-true true b e = (refl, e)
-and-true false b e = absurd (false≢true e)
+pub and_true : (a b : Bool) → (a && b) ≡ true → (a ≡ true) × (b ≡ true)
+and_true true b e = (refl, e)
+and_true false b e = absurd (false≢true e)
 
 pub or_right : (a : Bool) {b : Bool} → b ≡ true → (a || b) ≡ true
 or_right true e = refl
@@ -52,18 +52,18 @@ differ f a b p q = ne_eqb a b (λ e. never p (ap f e ∙ q))
 -- ---- lists
 
 -- what is kept was there
-pub any-of-keep : {A : Type 0} (p q : A → Bool) (xs : List A) → any p (keep q xs) ≡ true → any p xs ≡ true
-any-of-keep p q [] e = e
-any-of-keep p q (x ∷ xs) e =
+pub any_of_keep : {A : Type 0} (p q : A → Bool) (xs : List A) → any p (keep q xs) ≡ true → any p xs ≡ true
+any_of_keep p q [] e = e
+any_of_keep p q (x ∷ xs) e =
     test (p x)
     (λ a. rw a)
-    (λ a. rw a (any-of-keep p q xs (test (q x) (λ b. simp (b, a) at e) (λ b. rw b at e))))
+    (λ a. rw a (any_of_keep p q xs (test (q x) (λ b. simp (b, a) at e) (λ b. rw b at e))))
 
-pub cons-nil : {A : Type 0} {x : A} {xs : List A} → x ∷ xs ≡ [] → ⊥
-cons-nil {A = A} q = true≢false (ap (any (λ (y : A). true)) q)
+pub cons_nil : {A : Type 0} {x : A} {xs : List A} → x ∷ xs ≡ [] → ⊥
+cons_nil {A = A} q = true≢false (ap (any (λ (y : A). true)) q)
 
 -- ---- tables
 
 -- what holds at line l, and at the others, holds at each
-pub per-line : {P : ℕ → Type 0} (l : ℕ) → P l → ((k : ℕ) → eqb k l ≡ false → P k) → (k : ℕ) → P k
-per-line {P} l here there k = test (eqb k l) (λ d. subst P (sym (eqb-true k l d)) here) (λ d. there k d)
+pub per_line : {P : ℕ → Type 0} (l : ℕ) → P l → ((k : ℕ) → eqb k l ≡ false → P k) → (k : ℕ) → P k
+per_line {P} l here there k = test (eqb k l) (λ d. subst P (sym (eqb-true k l d)) here) (λ d. there k d)

@@ -6,7 +6,7 @@ use mathlib.Core.Path.{◌≡◌, refl}
 use mathlib.Core.Bool.{cond, true≢false, false≢true}
 use mathlib.Core.List.{List, [], ◌∷◌, ◌++◌}
 use lib.Dec.{eqb}
-use Rattle.undo.specs.Machine.{State, Action, Begin, Depend, First, Fly, LogAck, DataAck, End, Commit, begins, depends, firsts, flies, log-acks, data-acks, ends, commits, fresh, act}
+use Rattle.undo.specs.Machine.{State, Action, Begin, Depend, First, Fly, LogAck, DataAck, End, Commit, begins, depends, firsts, flies, log_acks, data_acks, ends, commits, fresh, act}
 use Rattle.undo.specs.History.{History, empty, note, expected, applied, effects}
 use Rattle.undo.specs.Claim.{Reach, start, acts, notes, Run, stop, step}
 use Rattle.undo.specs.Recovery.{Undo, Image, Agree, next, finished, undo}
@@ -32,53 +32,53 @@ unfoldable told : History ℕ
 unfolding actions
 told = notes empty actions
 
-actions-run : Run (fresh zeros) actions
+actions_run : Run (fresh zeros) actions
 unfolding actions act
-actions-run =
+actions_run =
     step (begins {r = 0})
     (step (firsts {r = 0} {l = 0} {f = λ x. 7} (record { began = refl; goes_on = refl }) refl refl)
     (step (begins {r = 1})
-    (step (log-acks {r = 0} {l = 0} refl refl)
+    (step (log_acks {r = 0} {l = 0} refl refl)
     (step (ends {r = 0} (record { began = refl; goes_on = refl }))
     (step (flies {r = 0} {l = 0} refl refl)
     (step (depends {r = 1} {q = 0} (record { began = refl; goes_on = refl }) refl refl)
     (step (firsts {r = 1} {l = 0} {f = λ x. 9} (record { began = refl; goes_on = refl }) refl refl)
     (step (ends {r = 1} (record { began = refl; goes_on = refl })) stop))))))))
 
-written-reached : Reach zeros written told
+written_reached : Reach zeros written told
 unfolding written told
-written-reached = runs actions-run start
+written_reached = runs actions_run start
 
 -- ---- P1: the flight of region 0 lands, and it commits
 
 unfoldable landed : State ℕ
 landed = act (act written (DataAck 0 0 7)) (Commit 0)
 
-landed-reached : Reach zeros landed (note (note told (DataAck 0 0 7)) (Commit 0))
+landed_reached : Reach zeros landed (note (note told (DataAck 0 0 7)) (Commit 0))
 unfolding landed actions written act
-landed-reached =
+landed_reached =
     runs
-    (step (data-acks {r = 0} {l = 0} {v = 7} refl)
+    (step (data_acks {r = 0} {l = 0} {v = 7} refl)
     (step (commits {r = 0} refl (λ l. test (eqb l 0) (λ d. rw d) (λ d. rw d)) (λ q. refl)) stop))
-    written-reached
+    written_reached
 
 -- so the theorem speaks of a state in which region 0 is committed and region 1 is not: what it promises there is 7
-landed-expected : expected zeros landed (note (note told (DataAck 0 0 7)) (Commit 0)) 0 ≡ 7
+landed_expected : expected zeros landed (note (note told (DataAck 0 0 7)) (Commit 0)) 0 ≡ 7
 unfolding actions landed written told act note applied effects
-landed-expected = refl
+landed_expected = refl
 
 -- ---- P2: the log acknowledgement comes instead; it drops the flight, region 0 commits, and its value stands in the entry of region 1
 
 unfoldable dropped : State ℕ
 dropped = act (act written (LogAck 1 0)) (Commit 0)
 
-dropped-reached : Reach zeros dropped (note (note told (LogAck 1 0)) (Commit 0))
+dropped_reached : Reach zeros dropped (note (note told (LogAck 1 0)) (Commit 0))
 unfolding dropped actions written act
-dropped-reached =
+dropped_reached =
     runs
-    (step (log-acks {r = 1} {l = 0} refl refl)
+    (step (log_acks {r = 1} {l = 0} refl refl)
     (step (commits {r = 0} refl (λ l. test (eqb l 0) (λ d. rw d) (λ d. rw d)) (λ q. refl)) stop))
-    written-reached
+    written_reached
 
 -- its image: region 1, with the entry that puts 7 back
 entries : List (Undo ℕ)
@@ -97,6 +97,6 @@ image = record {
 }
 
 -- the theorem at this image: from every memory, torn or not, that agrees with the zeros of the medium on the other lines
-dropped-found : (a : ℕ → ℕ) → Agree dropped a dropped.med → undo (entries ++ []) a 0 ≡ 7
+dropped_found : (a : ℕ → ℕ) → Agree dropped a dropped.med → undo (entries ++ []) a 0 ≡ 7
 unfolding entries zeros dropped actions written told act note applied effects
-dropped-found a ag = recovers zeros dropped _ (1 ∷ []) (λ r. cond (eqb r 1) entries []) dropped-reached image a ag 0
+dropped_found a ag = recovers zeros dropped _ (1 ∷ []) (λ r. cond (eqb r 1) entries []) dropped_reached image a ag 0

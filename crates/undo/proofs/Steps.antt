@@ -9,25 +9,25 @@ use mathlib.Core.List.{List, [], ◌∷◌}
 use lib.Dec.{eqb}
 use borrow.Author.Tests.{eqb-true, ne_eqb}
 use Rattle.undo.specs.Table.{put, is_in}
-use Rattle.undo.specs.Machine.{State, Entry, Carry, Clear, Waits, Flies, Action, Begin, Depend, Read, Again, First, Fly, Launch, LogAck, DataAck, Evict, End, Commit, fresh, with_med, with_lock, with_slot, owns, follows, freed, Open, Allowed, begins, depends, reads, again, firsts, flies, launches, log-acks, data-acks, evicts, ends, commits, act}
+use Rattle.undo.specs.Machine.{State, Entry, Carry, Clear, Waits, Flies, Action, Begin, Depend, Read, Again, First, Fly, Launch, LogAck, DataAck, Evict, End, Commit, fresh, with_med, with_lock, with_slot, owns, follows, freed, Open, Allowed, begins, depends, reads, again, firsts, flies, launches, log_acks, data_acks, evicts, ends, commits, act}
 use Rattle.undo.specs.History.{wrote, History, empty, note, last_writer, drawing}
 use Rattle.undo.specs.Claim.{logged, Reach, start, then, acts, notes, Run, stop, step}
-use Rattle.undo.proofs.Laws.{test, never, or-true, or_right, any-of-keep, is_same, flip, same, differ, per-line}
-use Rattle.undo.proofs.Inv.{change, Inv, Medium, Covered, Last, unwritten, owner, idle, bottom, no-region, region, no-entry, landed}
+use Rattle.undo.proofs.Laws.{test, never, or_true, or_right, any_of_keep, is_same, flip, same, differ, per_line}
+use Rattle.undo.proofs.Inv.{change, Inv, Medium, Covered, Last, unwritten, owner, idle, bottom, no_region, region, no_entry, landed}
 use Rattle.undo.proofs.Values as values
 use Rattle.undo.proofs.Media as media
-use Rattle.undo.proofs.Links.{edge-was, edge-new, edge-left, link-more, link-first, link-commit, topo-more, topo-commit, covered-drawing, covered_more, covered-commit}
+use Rattle.undo.proofs.Links.{edge_was, edge_new, edge_left, link_more, link_first, link_commit, topo_more, topo_commit, covered_drawing, covered_more, covered_commit}
 
-put-true : (r k : ℕ) (f : ℕ → Bool) → f k ≡ true → put r true f k ≡ true
-put-true r k f h = test (eqb k r) (λ d. rw d) (λ d. rw d h)
+put_true : (r k : ℕ) (f : ℕ → Bool) → f k ≡ true → put r true f k ≡ true
+put_true r k f h = test (eqb k r) (λ d. rw d) (λ d. rw d h)
 
-freed-logged : {Val : Type 0} (r k : ℕ) (c : List (Entry Val)) → logged k (freed r c) ≡ true → eqb k r ≡ false
-freed-logged r k [] h = absurd (false≢true h)
-freed-logged r k (e ∷ c) h =
+freed_logged : {Val : Type 0} (r k : ℕ) (c : List (Entry Val)) → logged k (freed r c) ≡ true → eqb k r ≡ false
+freed_logged r k [] h = absurd (false≢true h)
+freed_logged r k (e ∷ c) h =
     test (eqb r e.rid)
-    (λ d. freed-logged r k c (rw d at h))
-    (λ d. ⊎_elim (λ p. rw (eqb-true k e.rid p) (flip r e.rid d)) (λ p. freed-logged r k c p)
-    (or-true (eqb k e.rid) (logged k (freed r c)) (rw d at h)))
+    (λ d. freed_logged r k c (rw d at h))
+    (λ d. ⊎_elim (λ p. rw (eqb-true k e.rid p) (flip r e.rid d)) (λ p. freed_logged r k c p)
+    (or_true (eqb k e.rid) (logged k (freed r c)) (rw d at h)))
 
 module _ {Val : Type 0} {m : ℕ → Val} {s : State Val} {h : History Val} (i : Inv m s h) where
   not_in : (r : ℕ) → s.over r ≡ false → is_in r h.ends ≡ false
@@ -40,8 +40,8 @@ module _ {Val : Type 0} {m : ℕ → Val} {s : State Val} {h : History Val} (i :
   drawn : (r l : ℕ) → (owns r (s.chain l) || follows s.dep r (s.chain l)) ≡ true
       → Covered s.dep s.done (drawing r (last_writer l h.writes) h.uses)
   drawn r l k =
-      covered-drawing s.dep s.done h.uses r (last_writer l h.writes)
-      (λ q e. values.last-seen s.dep r q k (rw e at (i.last l))) i.covered
+      covered_drawing s.dep s.done h.uses r (last_writer l h.writes)
+      (λ q e. values.last_seen s.dep r q k (rw e at (i.last l))) i.covered
 
   -- ---- the changes of a line by a write
 
@@ -61,13 +61,13 @@ module _ {Val : Type 0} {m : ℕ → Val} {s : State Val} {h : History Val} (i :
   unfolding act
   begin r = record {
     ended = i.ended;
-    begun = λ k g. put-true r k s.born (i.begun k g);
+    begun = λ k g. put_true r k s.born (i.begun k g);
     commits = i.commits;
     target = i.target;
-    source = λ a b g. let z = i.source a b g in (put-true r a s.born z.0, z.1);
+    source = λ a b g. let z = i.source a b g in (put_true r a s.born z.0, z.1);
     topo = i.topo;
     links = i.links;
-    listed = λ l k g. let z = i.listed l k g in (put-true r k s.born z.0, z.1);
+    listed = λ l k g. let z = i.listed l k g in (put_true r k s.born z.0, z.1);
     values = i.values;
     medium = i.medium;
     last = i.last;
@@ -80,16 +80,16 @@ module _ {Val : Type 0} {m : ℕ → Val} {s : State Val} {h : History Val} (i :
     ended = i.ended;
     begun = i.begun;
     commits = i.commits;
-    target = λ a b g. ⊎_elim (λ p. rw p.1 (ov, dn)) (λ p. i.target a b p) (edge-was s.dep r q a b g);
-    source = λ a b g. ⊎_elim (λ p. rw p.0 (o.began, not_done r o.goes_on)) (λ p. i.source a b p) (edge-was s.dep r q a b g);
-    topo = topo-more r q (not_in r o.goes_on) i.topo;
-    links = λ l. link-more r q (i.links l);
+    target = λ a b g. ⊎_elim (λ p. rw p.1 (ov, dn)) (λ p. i.target a b p) (edge_was s.dep r q a b g);
+    source = λ a b g. ⊎_elim (λ p. rw p.0 (o.began, not_done r o.goes_on)) (λ p. i.source a b p) (edge_was s.dep r q a b g);
+    topo = topo_more r q (not_in r o.goes_on) i.topo;
+    links = λ l. link_more r q (i.links l);
     listed = i.listed;
     values = i.values;
     medium = i.medium;
     last = i.last;
-    covered = covered-drawing _ s.done h.uses r (some q)
-        (λ k e. rw (← some-injective q k e) (inr (inr (edge-new s.dep r q))))
+    covered = covered_drawing _ s.done h.uses r (some q)
+        (λ k e. rw (← some-injective q k e) (inr (inr (edge_new s.dep r q))))
         (covered_more s.dep s.done h.uses r q i.covered);
   }
 
@@ -121,13 +121,13 @@ module _ {Val : Type 0} {m : ℕ → Val} {s : State Val} {h : History Val} (i :
     topo = i.topo;
     links = i.links;
     listed = i.listed;
-    values = per-line l
+    values = per_line l
         (rw (is_same l) (values.again _ r f (here r l f) (other r l f) (not_in r o.goes_on) ow (i.values l)))
         (λ k n. rw (n, there r l f k n) (i.values k));
-    medium = per-line l
+    medium = per_line l
         (rw (is_same l) (media.again (put r Waits (s.slot l)) r (f (s.cur l)) (rw (is_same r)) (λ q d. rw d) ow (i.medium l)))
         (λ k n. rw n (i.medium k));
-    last = per-line l (rw (is_same l) (owned (s.chain l) ow)) (λ k n. rw n (i.last k));
+    last = per_line l (rw (is_same l) (owned (s.chain l) ow)) (λ k n. rw n (i.last k));
     covered = drawn r l (rw ow);
   }
     where
@@ -145,21 +145,21 @@ module _ {Val : Type 0} {m : ℕ → Val} {s : State Val} {h : History Val} (i :
     target = i.target;
     source = i.source;
     topo = i.topo;
-    links = per-line l
-        (rw (is_same l) (link-first r (s.cur l) fo (not-owned (s.chain l) fo) (i.links l)))
+    links = per_line l
+        (rw (is_same l) (link_first r (s.cur l) fo (not_owned (s.chain l) fo) (i.links l)))
         (λ k n. rw n (i.links k));
-    listed = per-line l
+    listed = per_line l
         (λ k g. ⊎_elim (λ p. rw (eqb-true k r p) (o.began, not_done r o.goes_on)) (λ p. i.listed l k p)
-        (or-true (eqb k r) (logged k (s.chain l)) (rw (is_same l) at g)))
+        (or_true (eqb k r) (logged k (s.chain l)) (rw (is_same l) at g)))
         (λ k n q g. i.listed k q (rw n at g));
-    values = per-line l
+    values = per_line l
         (rw (is_same l) (values.first _ r f (here r l f) (other r l f) (not_in r o.goes_on) (over (s.chain l) fo) (i.values l)))
         (λ k n. rw (n, there r l f k n) (i.values k));
-    medium = per-line l
+    medium = per_line l
         (rw (is_same l)
-        (media.first (put r Waits (s.slot l)) r (f (s.cur l)) (rw (is_same r)) (s.slot l) (λ q d. rw d) (not-owned (s.chain l) fo) (rw lk at (i.medium l))))
+        (media.first (put r Waits (s.slot l)) r (f (s.cur l)) (rw (is_same r)) (s.slot l) (λ q d. rw d) (not_owned (s.chain l) fo) (rw lk at (i.medium l))))
         (λ k n. rw n (i.medium k));
-    last = per-line l (rw (is_same l) (owner refl)) (λ k n. rw n (i.last k));
+    last = per_line l (rw (is_same l) (owner refl)) (λ k n. rw n (i.last k));
     covered = drawn r l (or_right (owns r (s.chain l)) fo);
   }
     where
@@ -167,9 +167,9 @@ module _ {Val : Type 0} {m : ℕ → Val} {s : State Val} {h : History Val} (i :
       over [] fo q e = absurd (false≢true e)
       over (e ∷ c) fo q d = rw (eqb-true q e.rid d) (i.ended e.rid ∙ (i.target r e.rid fo).0)
 
-      not-owned : (c : List (Entry Val)) → follows s.dep r c ≡ true → owns r c ≡ false
-      not-owned [] fo = refl
-      not-owned (e ∷ c) fo = flip e.rid r (differ s.over e.rid r (i.target r e.rid fo).0 o.goes_on)
+      not_owned : (c : List (Entry Val)) → follows s.dep r c ≡ true → owns r c ≡ false
+      not_owned [] fo = refl
+      not_owned (e ∷ c) fo = flip e.rid r (differ s.over e.rid r (i.target r e.rid fo).0 o.goes_on)
 
   -- what changes the medium, the locks and the slots alone
   bring : (med : ℕ → Val) (lock : ℕ → Bool) (slot : ℕ → ℕ → Carry Val) → ((l : ℕ) → Medium (med l) (lock l) (s.chain l) (s.cur l) (slot l))
@@ -193,7 +193,7 @@ module _ {Val : Type 0} {m : ℕ → Val} {s : State Val} {h : History Val} (i :
   unfolding act
   fly r l w lk =
       bring s.med s.lock (act s (Fly r l)).slot
-      (per-line l
+      (per_line l
       (rw (is_same l, lk)
       (media.fly (put r (Flies (s.cur l)) (s.slot l))
       (λ q. test (eqb q r) (λ d. inr (rw (eqb-true q r d) w, rw d)) (λ d. inl (rw d))) (rw lk at (i.medium l))))
@@ -215,7 +215,7 @@ module _ {Val : Type 0} {m : ℕ → Val} {s : State Val} {h : History Val} (i :
   unfolding act
   log_ack r l o lk =
       bring s.med (act s (LogAck r l)).lock (act s (LogAck r l)).slot
-      (per-line l
+      (per_line l
       (rw (is_same l) (media.log_ack (λ q. cond (eqb q r) (s.slot l q) Clear) r (rw (is_same r)) (λ q d. rw d) o (rw lk at (i.medium l))))
       (λ k n. rw n (i.medium k)))
 
@@ -223,7 +223,7 @@ module _ {Val : Type 0} {m : ℕ → Val} {s : State Val} {h : History Val} (i :
   unfolding act
   data_ack r l v w =
       bring (act s (DataAck r l v)).med s.lock (act s (DataAck r l v)).slot
-      (per-line l
+      (per_line l
       (rw (is_same l) (media.data_ack (put r Clear (s.slot l)) r (rw (is_same r)) (λ q d. rw d) w (i.medium l)))
       (λ k n. rw n (i.medium k)))
 
@@ -231,15 +231,15 @@ module _ {Val : Type 0} {m : ℕ → Val} {s : State Val} {h : History Val} (i :
   unfolding act
   evict l lk =
       bring (act s (Evict l)).med s.lock s.slot
-      (per-line l (rw (is_same l, lk) (media.evict (rw lk at (i.medium l)))) (λ k n. rw n (i.medium k)))
+      (per_line l (rw (is_same l, lk) (media.evict (rw lk at (i.medium l)))) (λ k n. rw n (i.medium k)))
 
   end : (r : ℕ) → Open s r → Inv m (act s (End r)) (note h (End r))
   unfolding act note
   end r o = record {
     ended = λ k. test (eqb k r) (λ d. rw d) (λ d. rw d (i.ended k));
     begun = λ k g. test (eqb k r) (λ d. rw (eqb-true k r d) o.began) (λ d. i.begun k (rw d at g));
-    commits = λ k d. put-true r k s.over (i.commits k d);
-    target = λ a b g. let z = i.target a b g in (put-true r b s.over z.0, z.1);
+    commits = λ k d. put_true r k s.over (i.commits k d);
+    target = λ a b g. let z = i.target a b g in (put_true r b s.over z.0, z.1);
     source = i.source;
     topo = region (λ a b. test (s.dep a r) (λ g. never (i.target a r g).0 o.goes_on) (λ g. g)) i.topo;
     links = i.links;
@@ -256,21 +256,21 @@ module _ {Val : Type 0} {m : ℕ → Val} {s : State Val} {h : History Val} (i :
     ended = i.ended;
     begun = i.begun;
     commits = λ k d. test (eqb k r) (λ e. rw (eqb-true k r e) o) (λ e. i.commits k (rw e at d));
-    target = λ a b g. let z = edge-left s.dep r a b g in let t = i.target a b z.1 in (t.0, rw z.0 t.1);
+    target = λ a b g. let z = edge_left s.dep r a b g in let t = i.target a b z.1 in (t.0, rw z.0 t.1);
     source = λ a b g.
-        let z = edge-left s.dep r a b g in
+        let z = edge_left s.dep r a b g in
         let t = i.source a b z.1 in
         let n : eqb a r ≡ false = ne_eqb a r (λ e. never z.1 (rw e (nd b))) in
         (t.0, rw n t.1);
-    topo = topo-commit r i.topo;
-    links = λ l. link-commit r nd (i.links l);
+    topo = topo_commit r i.topo;
+    links = λ l. link_commit r nd (i.links l);
     listed = λ l k g.
-        let t = i.listed l k (any-of-keep (λ e. eqb k e.rid) (λ e. not (eqb r e.rid)) (s.chain l) g) in
-        (t.0, rw (freed-logged r k (s.chain l) g) t.1);
+        let t = i.listed l k (any_of_keep (λ e. eqb k e.rid) (λ e. not (eqb r e.rid)) (s.chain l) g) in
+        (t.0, rw (freed_logged r k (s.chain l) g) t.1);
     values = λ l. values.commit r (i.ended r ∙ o) nd (i.links l) (i.values l);
     medium = λ l. media.commit r (ns l) (i.medium l);
-    last = λ l. values.last-commit r nd (i.links l) (i.last l);
-    covered = covered-commit s.dep s.done h.uses r i.covered;
+    last = λ l. values.last_commit r nd (i.links l) (i.last l);
+    covered = covered_commit s.dep s.done h.uses r i.covered;
   }
 
 -- ---- every allowed action
@@ -284,8 +284,8 @@ keeps (again {r = r} {l = l} {f = f} o p) i = rewrite i r l f o p
 keeps (firsts {r = r} {l = l} {f = f} o p b) i = first i r l f o p b
 keeps (flies {r = r} {l = l} p b) i = fly i r l p b
 keeps (launches {p = p} w b) i = launch i p w b
-keeps (log-acks {r = r} {l = l} p b) i = log_ack i r l p b
-keeps (data-acks {r = r} {l = l} {v = v} p) i = data_ack i r l v p
+keeps (log_acks {r = r} {l = l} p b) i = log_ack i r l p b
+keeps (data_acks {r = r} {l = l} {v = v} p) i = data_ack i r l v p
 keeps (evicts {l = l} b) i = evict i l b
 keeps (ends {r = r} o) i = end i r o
 keeps (commits {r = r} o ns nd) i = commit i r o ns nd
@@ -297,8 +297,8 @@ initially m = record {
   commits = λ r d. d;
   target = λ a b g. absurd (false≢true g);
   source = λ a b g. absurd (false≢true g);
-  topo = no-region;
-  links = λ l. no-entry;
+  topo = no_region;
+  links = λ l. no_entry;
   listed = λ l r g. absurd (false≢true g);
   values = λ l. idle (λ r n y. refl) (bottom refl);
   medium = λ l. landed refl (λ q. refl);

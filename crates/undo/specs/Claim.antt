@@ -72,8 +72,8 @@ logged r = any (λ e. eqb r e.rid)
 -- what holds of every state that is reached
 pub record Structure {Val : Type 0} (s : State Val) (h : History Val) : Type 0 where
   -- dependences are of uncommitted regions on ended uncommitted ones that ended before
-  pub on-ended : (a b : ℕ) → s.dep a b ≡ true → (s.over b ≡ true) × (s.done b ≡ false)
-  pub of-uncommitted : (a b : ℕ) → s.dep a b ≡ true → (s.born a ≡ true) × (s.done a ≡ false)
+  pub on_ended : (a b : ℕ) → s.dep a b ≡ true → (s.over b ≡ true) × (s.done b ≡ false)
+  pub of_uncommitted : (a b : ℕ) → s.dep a b ≡ true → (s.born a ≡ true) × (s.done a ≡ false)
   pub acyclic : (a b : ℕ) → s.dep a b ≡ true → age h.ends a < age h.ends b
   -- regions begin, end and commit in this order; the ends are the ended regions
   pub begun : (r : ℕ) → s.over r ≡ true → s.born r ≡ true
@@ -87,12 +87,12 @@ pub record Structure {Val : Type 0} (s : State Val) (h : History Val) : Type 0 w
       → Path s.dep p q ⊎ Path s.dep q p
   -- slots: of a logged line, one flight for a line, with the current value unless the line is locked, and only where the line has a persistent
   -- entry; an entry in flight has its slot waiting
-  pub of-logged : (l r : ℕ) → s.slot l r ≢ Clear → logged r (s.chain l) ≡ true
-  pub one-flight : (l r q : ℕ) (v w : Val) → s.slot l r ≡ Flies v → s.slot l q ≡ Flies w → eqb r q ≡ true
-  pub flight-current : (l r : ℕ) (v : Val) → s.lock l ≡ false → s.slot l r ≡ Flies v → v ≡ s.cur l
-  pub flight-logged : (l r : ℕ) (v : Val) → s.slot l r ≡ Flies v → persistent s l ≢ []
-  pub lock-logged : (l : ℕ) → s.lock l ≡ true → s.chain l ≢ []
-  pub lock-waits : (l r : ℕ) → s.lock l ≡ true → owns r (s.chain l) ≡ true → s.slot l r ≡ Waits
+  pub of_logged : (l r : ℕ) → s.slot l r ≢ Clear → logged r (s.chain l) ≡ true
+  pub one_flight : (l r q : ℕ) (v w : Val) → s.slot l r ≡ Flies v → s.slot l q ≡ Flies w → eqb r q ≡ true
+  pub flight_current : (l r : ℕ) (v : Val) → s.lock l ≡ false → s.slot l r ≡ Flies v → v ≡ s.cur l
+  pub flight_logged : (l r : ℕ) (v : Val) → s.slot l r ≡ Flies v → persistent s l ≢ []
+  pub lock_logged : (l : ℕ) → s.lock l ≡ true → s.chain l ≢ []
+  pub lock_waits : (l r : ℕ) → s.lock l ≡ true → owns r (s.chain l) ≡ true → s.slot l r ≡ Waits
   -- a line without slots is in the medium
   pub at_rest : (l : ℕ) → ((r : ℕ) → s.slot l r ≡ Clear) → s.med l ≡ s.cur l
 

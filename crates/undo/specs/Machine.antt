@@ -99,8 +99,8 @@ pub data Allowed {Val : Type 0} (s : State Val) : Action Val → Type 0 where
   launches : {p : ℕ → ℕ → Bool} → ((l r : ℕ) → p l r ≡ true → s.slot l r ≡ Waits) → ((l r : ℕ) → p l r ≡ true → s.lock l ≡ false)
       → Allowed s (Launch p)
   -- by the region of the newest entry
-  log-acks : {r l : ℕ} → owns r (s.chain l) ≡ true → s.lock l ≡ true → Allowed s (LogAck r l)
-  data-acks : {r l : ℕ} {v : Val} → s.slot l r ≡ Flies v → Allowed s (DataAck r l v)
+  log_acks : {r l : ℕ} → owns r (s.chain l) ≡ true → s.lock l ≡ true → Allowed s (LogAck r l)
+  data_acks : {r l : ℕ} {v : Val} → s.slot l r ≡ Flies v → Allowed s (DataAck r l v)
   evicts : {l : ℕ} → s.lock l ≡ false → Allowed s (Evict l)
   ends : {r : ℕ} → Open s r → Allowed s (End r)
   commits : {r : ℕ} → s.over r ≡ true → ((l : ℕ) → s.slot l r ≡ Clear) → ((q : ℕ) → s.dep r q ≡ false) → Allowed s (Commit r)

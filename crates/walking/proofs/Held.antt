@@ -9,8 +9,8 @@ use Rattle.walking.specs.Indices.{held_order, order_of}
 use Rattle.walking.specs.declared.Order.{Order}
 
 -- a store at n leaves the zeros behind it
-pub zeros-more : (xs : List ℕ) (n x : ℕ) → n < 32 → drop n xs ≡ replicate (32 - n) 0 → drop (n + 1) (set xs n x) ≡ replicate (32 - (n + 1)) 0
-zeros-more xs n x h e =
+pub zeros_more : (xs : List ℕ) (n x : ℕ) → n < 32 → drop n xs ≡ replicate (32 - n) 0 → drop (n + 1) (set xs n x) ≡ replicate (32 - (n + 1)) 0
+zeros_more xs n x h e =
     let k : 32 - n ≡ suc (32 - (n + 1)) = omega arith in
     drop-set-lt (n + 1) xs n x (omega arith) ∙ sym (drop-drop 1 n xs) ∙ ap (drop 1) (e ∙ ap (λ m. replicate m 0) k)
 
@@ -22,5 +22,5 @@ held_whole xs n l h z ks e =
     rw (← c) (ap (λ ys. record { count = n; keys = ys }) (w ∙ ap (λ m. ks ++ replicate (32 - m) 0) (sym c)))
 
 -- the keys of such an order
-pub held-keys : (ks : List ℕ) → order_of (held_order ks) ≡ ks
-held-keys ks = take-append_seam ks (replicate (32 - length ks) 0)
+pub held_keys : (ks : List ℕ) → order_of (held_order ks) ≡ ks
+held_keys ks = take-append_seam ks (replicate (32 - length ks) 0)

@@ -8,7 +8,7 @@ use lib.ListN.{drop, drop_of_length-le, get_or, length, take}
 use lib.Seq.{drop-cons, take-length, take-suc}
 use native.Mathlib.Numerals.{add-one}
 use native.Mathlib.Omega.{arith}
-use Rattle.rules.proofs.Codec.Valid.{count-append}
+use Rattle.rules.proofs.Codec.Valid.{count_append}
 use Rattle.rules.specs.Lists.{count}
 use Rattle.rules.specs.declared.Found.TheVariants.{At, Full}
 use Rattle.undo.proofs.Laws.{test}
@@ -17,59 +17,59 @@ use Rattle.walking.specs.Indices.{indices_of, last_first, nth, walk_indices}
 -- ---- one region's entries, from the last down
 
 module _ (k : ℕ) (ks : List ℕ) (i j : ℕ) (e : i ≡ suc j) where
-  pub nth-skip : (n : ℕ) → eqb (get_or ks j 0) k ≡ false → nth (last_first k j ks) n ≡ nth (last_first k i ks) n
+  pub nth_skip : (n : ℕ) → eqb (get_or ks j 0) k ≡ false → nth (last_first k j ks) n ≡ nth (last_first k i ks) n
   unfolding last_first
-  nth-skip n f = rw (e, f)
+  nth_skip n f = rw (e, f)
 
   pub nth_here : eqb (get_or ks j 0) k ≡ true → nth (last_first k i ks) 0 ≡ At j
   unfolding last_first nth
   nth_here f = rw (e, f)
 
-  pub nth-less : (n m : ℕ) → n ≡ suc m → eqb (get_or ks j 0) k ≡ true → nth (last_first k j ks) m ≡ nth (last_first k i ks) n
+  pub nth_less : (n m : ℕ) → n ≡ suc m → eqb (get_or ks j 0) k ≡ true → nth (last_first k j ks) m ≡ nth (last_first k i ks) n
   unfolding last_first nth
-  nth-less n m g f = rw (e, f, g)
+  nth_less n m g f = rw (e, f, g)
 
 -- ---- region by region
 
-pub nth-front : (xs ys : List ℕ) (n : ℕ) → n < length xs → nth (xs ++ ys) n ≡ nth xs n
+pub nth_front : (xs ys : List ℕ) (n : ℕ) → n < length xs → nth (xs ++ ys) n ≡ nth xs n
 unfolding nth
-nth-front [] ys n h = absurd (omega arith)
-nth-front (x ∷ xs) ys zero h = refl
-nth-front (x ∷ xs) ys (suc n) h = nth-front xs ys n (omega arith)
+nth_front [] ys n h = absurd (omega arith)
+nth_front (x ∷ xs) ys zero h = refl
+nth_front (x ∷ xs) ys (suc n) h = nth_front xs ys n (omega arith)
 
-pub nth-behind : (xs ys : List ℕ) (n : ℕ) → length xs ≤ n → nth (xs ++ ys) n ≡ nth ys (n - length xs)
+pub nth_behind : (xs ys : List ℕ) (n : ℕ) → length xs ≤ n → nth (xs ++ ys) n ≡ nth ys (n - length xs)
 unfolding nth
-nth-behind [] ys n h = let e : n - 0 ≡ n = omega arith in rw e
-nth-behind (x ∷ xs) ys zero h = absurd (omega arith)
-nth-behind (x ∷ xs) ys (suc n) h =
+nth_behind [] ys n h = let e : n - 0 ≡ n = omega arith in rw e
+nth_behind (x ∷ xs) ys zero h = absurd (omega arith)
+nth_behind (x ∷ xs) ys (suc n) h =
     let e : suc n - suc (length xs) ≡ n - length xs = omega arith in
-    rw e (nth-behind xs ys n (omega arith))
+    rw e (nth_behind xs ys n (omega arith))
 
 -- a region has as many indices as entries
-last-count : (k : ℕ) (ks : List ℕ) (n : ℕ) → n ≤ length ks → length (last_first k n ks) ≡ count (λ x. eqb x k) (take n ks)
+last_count : (k : ℕ) (ks : List ℕ) (n : ℕ) → n ≤ length ks → length (last_first k n ks) ≡ count (λ x. eqb x k) (take n ks)
 unfolding last_first count
-last-count k ks zero h = refl
-last-count k ks (suc n) h =
-    rw (take-suc ks n 0 (omega arith), count-append (λ x. eqb x k) (take n ks) (get_or ks n 0 ∷ []), ← last-count k ks n (omega arith))
+last_count k ks zero h = refl
+last_count k ks (suc n) h =
+    rw (take-suc ks n 0 (omega arith), count_append (λ x. eqb x k) (take n ks) (get_or ks n 0 ∷ []), ← last_count k ks n (omega arith))
     (test (eqb (get_or ks n 0) k) (λ e. rw e (omega arith)) (λ e. rw e (omega arith)))
 
-pub indices-count : (k : ℕ) (ks : List ℕ) → length (indices_of ks k) ≡ count (λ x. eqb x k) ks
-indices-count k ks = last-count k ks (length ks) (omega arith) ∙ ap (count (λ x. eqb x k)) (take-length ks)
+pub indices_count : (k : ℕ) (ks : List ℕ) → length (indices_of ks k) ≡ count (λ x. eqb x k) ks
+indices_count k ks = last_count k ks (length ks) (omega arith) ∙ ap (count (λ x. eqb x k)) (take-length ks)
 
 -- one turn and the end of the loop over the regions
 module _ (rs ks : List ℕ) (j left : ℕ) where
   module _ (h : j < length rs) (c : ℕ) (e : c ≡ count (λ x. eqb x (get_or rs j 0)) ks) where
-    pub walk-hit : left < c → nth (indices_of ks (get_or rs j 0)) left ≡ nth (walk_indices (drop j rs) ks) left
+    pub walk_hit : left < c → nth (indices_of ks (get_or rs j 0)) left ≡ nth (walk_indices (drop j rs) ks) left
     unfolding walk_indices
-    walk-hit l =
-        let s : left < length (indices_of ks (get_or rs j 0)) = rw (indices-count (get_or rs j 0) ks, ← e) l in
-        rw (drop-cons rs j 0 h, nth-front (indices_of ks (get_or rs j 0)) (walk_indices (drop (suc j) rs) ks) left s)
+    walk_hit l =
+        let s : left < length (indices_of ks (get_or rs j 0)) = rw (indices_count (get_or rs j 0) ks, ← e) l in
+        rw (drop-cons rs j 0 h, nth_front (indices_of ks (get_or rs j 0)) (walk_indices (drop (suc j) rs) ks) left s)
 
-    pub walk-on : c ≤ left → nth (walk_indices (drop (j + 1) rs) ks) (left - c) ≡ nth (walk_indices (drop j rs) ks) left
+    pub walk_on : c ≤ left → nth (walk_indices (drop (j + 1) rs) ks) (left - c) ≡ nth (walk_indices (drop j rs) ks) left
     unfolding walk_indices
-    walk-on l =
-        let s : length (indices_of ks (get_or rs j 0)) ≤ left = rw (indices-count (get_or rs j 0) ks, ← e) l in
-        rw (add-one j, drop-cons rs j 0 h, nth-behind (indices_of ks (get_or rs j 0)) (walk_indices (drop (suc j) rs) ks) left s, indices-count (get_or rs j 0) ks, e)
+    walk_on l =
+        let s : length (indices_of ks (get_or rs j 0)) ≤ left = rw (indices_count (get_or rs j 0) ks, ← e) l in
+        rw (add-one j, drop-cons rs j 0 h, nth_behind (indices_of ks (get_or rs j 0)) (walk_indices (drop (suc j) rs) ks) left s, indices_count (get_or rs j 0) ks, e)
 
   pub walk_end : length rs ≤ j → Full ≡ nth (walk_indices (drop j rs) ks) left
   unfolding walk_indices nth

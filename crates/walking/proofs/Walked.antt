@@ -13,7 +13,7 @@ use Rattle.rules.specs.Walk.{entries_from, entries_of, walk, walk_entries}
 use Rattle.rules.specs.declared.Found.TheVariants.{At, Full}
 use Rattle.undo.proofs.Laws.{test}
 use Rattle.undo.specs.Table.{keep}
-use Rattle.walking.proofs.Indices.{nth-behind, nth-front}
+use Rattle.walking.proofs.Indices.{nth_behind, nth_front}
 use Rattle.walking.specs.Indices.{indices_of, last_first, nth, walk_indices}
 
 -- ---- lists
@@ -22,34 +22,34 @@ keep_snoc : {A : Type 0} (p : A → Bool) (xs : List A) (x : A) → keep p (xs +
 keep_snoc p [] x = test (p x) (λ e. rw e) (λ e. rw e)
 keep_snoc p (y ∷ ys) x = test (p y) (λ e. rw e (ap (λ l. y ∷ l) (keep_snoc p ys x))) (λ e. rw e (keep_snoc p ys x))
 
-map-drop : {A B : Type 0} (f : A → B) (n : ℕ) (xs : List A) → drop n (map f xs) ≡ map f (drop n xs)
-map-drop f zero xs = refl
-map-drop f (suc n) [] = refl
-map-drop f (suc n) (x ∷ xs) = map-drop f n xs
+map_drop : {A B : Type 0} (f : A → B) (n : ℕ) (xs : List A) → drop n (map f xs) ≡ map f (drop n xs)
+map_drop f zero xs = refl
+map_drop f (suc n) [] = refl
+map_drop f (suc n) (x ∷ xs) = map_drop f n xs
 
 -- ---- one region, then all
 
 module _ (es : List Logged) where
-  last-entries : (k n : ℕ) → n ≤ length es → map (λ i. get_or es i no_logged) (last_first k n (map (λ e. e.key) es)) ≡ reverse (keep (λ e. eqb e.key k) (take n es))
+  last_entries : (k n : ℕ) → n ≤ length es → map (λ i. get_or es i no_logged) (last_first k n (map (λ e. e.key) es)) ≡ reverse (keep (λ e. eqb e.key k) (take n es))
   unfolding last_first
-  last-entries k zero h = refl
-  last-entries k (suc n) h =
-      let ih : map (λ i. get_or es i no_logged) (last_first k n (map (λ e. e.key) es)) ≡ reverse (keep (λ e. eqb e.key k) (take n es)) = last-entries k n (omega arith) in
+  last_entries k zero h = refl
+  last_entries k (suc n) h =
+      let ih : map (λ i. get_or es i no_logged) (last_first k n (map (λ e. e.key) es)) ≡ reverse (keep (λ e. eqb e.key k) (take n es)) = last_entries k n (omega arith) in
       rw (take-suc es n no_logged (omega arith), keep_snoc (λ e. eqb e.key k) (take n es) (get_or es n no_logged), get_or-map (λ e. e.key) es n no_logged)
       (test (eqb (get_or es n no_logged).key k)
       (λ e. rw (e, reverse-append (keep (λ x. eqb x.key k) (take n es)) (get_or es n no_logged ∷ [])) (ap (λ l. get_or es n no_logged ∷ l) ih))
       (λ e. rw (e, append-nil) ih))
 
-  region-entries : (k : ℕ) → map (λ i. get_or es i no_logged) (indices_of (map (λ e. e.key) es) k) ≡ entries_of es k
+  region_entries : (k : ℕ) → map (λ i. get_or es i no_logged) (indices_of (map (λ e. e.key) es) k) ≡ entries_of es k
   unfolding entries_of
-  region-entries k =
-      rw (length-map es (λ e. e.key)) (last-entries k (length es) (omega arith)) ∙ ap (λ l. reverse (keep (λ e. eqb e.key k) l)) (take-length es)
+  region_entries k =
+      rw (length-map es (λ e. e.key)) (last_entries k (length es) (omega arith)) ∙ ap (λ l. reverse (keep (λ e. eqb e.key k) l)) (take-length es)
 
-  pub all-entries : (ks : List ℕ) → map (λ i. get_or es i no_logged) (walk_indices ks (map (λ e. e.key) es)) ≡ entries_from es ks
+  pub all_entries : (ks : List ℕ) → map (λ i. get_or es i no_logged) (walk_indices ks (map (λ e. e.key) es)) ≡ entries_from es ks
   unfolding walk_indices entries_from
-  all-entries [] = refl
-  all-entries (k ∷ ks) =
-      map-append (λ i. get_or es i no_logged) (indices_of (map (λ e. e.key) es) k) (walk_indices ks (map (λ e. e.key) es)) ∙ ap₂ ◌++◌ (region-entries k) (all-entries ks)
+  all_entries [] = refl
+  all_entries (k ∷ ks) =
+      map-append (λ i. get_or es i no_logged) (indices_of (map (λ e. e.key) es) k) (walk_indices ks (map (λ e. e.key) es)) ∙ ap₂ ◌++◌ (region_entries k) (all_entries ks)
 
 -- the keys of the log, and the indices of the walk
 abbrev pub keys_of : Persistent → List ℕ
@@ -58,9 +58,9 @@ keys_of p = map (λ e. e.key) p.log
 abbrev pub indices_in : Persistent → List ℕ
 indices_in p = walk_indices (walk p) (keys_of p)
 
-pub walk-entries : (p : Persistent) → walk_entries p ≡ map (λ i. get_or p.log i no_logged) (indices_in p)
+pub walk_entries_lem : (p : Persistent) → walk_entries p ≡ map (λ i. get_or p.log i no_logged) (indices_in p)
 unfolding walk_entries
-walk-entries p = sym (all-entries p.log (walk p))
+walk_entries_lem p = sym (all_entries p.log (walk p))
 
 -- ---- what a step restores: the entry found, and whether entries remain after it
 
@@ -70,33 +70,33 @@ nth_drop [] n i e = let z : ◌≡◌ {A = ℕ} 0 1 = cc in absurd (omega arith)
 nth_drop (x ∷ xs) zero i e = let z : x ≡ i = cc in rw z
 nth_drop (x ∷ xs) (suc n) i e = nth_drop xs n i e
 
-nth-none : (xs : List ℕ) (n : ℕ) → nth xs n ≡ Full → drop n xs ≡ []
+nth_none : (xs : List ℕ) (n : ℕ) → nth xs n ≡ Full → drop n xs ≡ []
 unfolding nth
-nth-none [] n e = drop-nil n
-nth-none (x ∷ xs) zero e = let z : ◌≡◌ {A = ℕ} 0 1 = cc in absurd (omega arith)
-nth-none (x ∷ xs) (suc n) e = nth-none xs n e
+nth_none [] n e = drop-nil n
+nth_none (x ∷ xs) zero e = let z : ◌≡◌ {A = ℕ} 0 1 = cc in absurd (omega arith)
+nth_none (x ∷ xs) (suc n) e = nth_none xs n e
 
 module _ (p : Persistent) (n : ℕ) where
   pub entry_found : (i : ℕ) → nth (indices_in p) n ≡ At i → drop n (walk_entries p) ≡ get_or p.log i no_logged ∷ drop (suc n) (walk_entries p)
   entry_found i e =
       rw (
-        walk-entries p,
-        map-drop (λ j. get_or p.log j no_logged) n (indices_in p),
-        map-drop (λ j. get_or p.log j no_logged) (suc n) (indices_in p),
+        walk_entries_lem p,
+        map_drop (λ j. get_or p.log j no_logged) n (indices_in p),
+        map_drop (λ j. get_or p.log j no_logged) (suc n) (indices_in p),
         nth_drop (indices_in p) n i e,
       )
 
-  pub entry-none : nth (indices_in p) n ≡ Full → drop n (walk_entries p) ≡ []
-  entry-none e = rw (walk-entries p, map-drop (λ j. get_or p.log j no_logged) n (indices_in p), nth-none (indices_in p) n e)
+  pub entry_none : nth (indices_in p) n ≡ Full → drop n (walk_entries p) ≡ []
+  entry_none e = rw (walk_entries_lem p, map_drop (λ j. get_or p.log j no_logged) n (indices_in p), nth_none (indices_in p) n e)
 
 -- ---- an entry found is one of the log
 
-last-below : (k n : ℕ) (ks : List ℕ) (m i : ℕ) → nth (last_first k n ks) m ≡ At i → i < n
+last_below : (k n : ℕ) (ks : List ℕ) (m i : ℕ) → nth (last_first k n ks) m ≡ At i → i < n
 unfolding last_first nth
-last-below k zero ks m i e = let z : ◌≡◌ {A = ℕ} 0 1 = cc in absurd (omega arith)
-last-below k (suc n) ks m i e =
-    test (eqb (get_or ks n 0) k) (λ t. go m (rw t at e) (λ q f. last-below k n ks q i f))
-    (λ t. let h : i < n = last-below k n ks m i (rw t at e) in omega arith)
+last_below k zero ks m i e = let z : ◌≡◌ {A = ℕ} 0 1 = cc in absurd (omega arith)
+last_below k (suc n) ks m i e =
+    test (eqb (get_or ks n 0) k) (λ t. go m (rw t at e) (λ q f. last_below k n ks q i f))
+    (λ t. let h : i < n = last_below k n ks m i (rw t at e) in omega arith)
   where
     go : (m : ℕ) → nth (n ∷ last_first k n ks) m ≡ At i → ((q : ℕ) → nth (last_first k n ks) q ≡ At i → i < n) → i < suc n
     go zero f ih = let z : n ≡ i = cc in omega arith
@@ -107,5 +107,5 @@ unfolding walk_indices nth
 found_below [] ks n i e = let z : ◌≡◌ {A = ℕ} 0 1 = cc in absurd (omega arith)
 found_below (k ∷ rs) ks n i e =
     test (ltb n (length (indices_of ks k)))
-    (λ t. last-below k (length ks) ks n i (sym (nth-front (indices_of ks k) (walk_indices rs ks) n (ltb-true n (length (indices_of ks k)) t)) ∙ e))
-    (λ t. found_below rs ks (n - length (indices_of ks k)) i (sym (nth-behind (indices_of ks k) (walk_indices rs ks) n (ltb-false n (length (indices_of ks k)) t)) ∙ e))
+    (λ t. last_below k (length ks) ks n i (sym (nth_front (indices_of ks k) (walk_indices rs ks) n (ltb-true n (length (indices_of ks k)) t)) ∙ e))
+    (λ t. found_below rs ks (n - length (indices_of ks k)) i (sym (nth_behind (indices_of ks k) (walk_indices rs ks) n (ltb-false n (length (indices_of ks k)) t)) ∙ e))

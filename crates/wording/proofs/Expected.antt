@@ -11,16 +11,16 @@ use lib.ListN.{drop, length, length-append, length-drop, length-replicate, take}
 use lib.Seq.{drop-append-add, drop_at, drop-drop, get_or-take, length-take-le, take-append_seam}
 use native.Mathlib.Omega.{arith}
 use borrow.Author.Tests.{le-leb}
-use Rattle.recovery.proofs.Places.{flat-at, image-short, no_test, old-form}
-use Rattle.rules.proofs.Codec.Bytes.{all-at, is_line, length-words, line-back}
-use Rattle.rules.proofs.Codec.Store.{found, length-head, length-line}
-use Rattle.rules.proofs.Codec.Turns.{size-lines}
+use Rattle.recovery.proofs.Places.{flat_at, image_short, no_test, old_form}
+use Rattle.rules.proofs.Codec.Bytes.{all_at, is_line, length_words, line_back}
+use Rattle.rules.proofs.Codec.Store.{found, length_head, length_line}
+use Rattle.rules.proofs.Codec.Turns.{size_lines}
 use Rattle.rules.proofs.Codec.Valid.{Valid}
-use Rattle.rules.proofs.Cuts.{cut-is}
-use Rattle.rules.proofs.Recover.Expected.{expected-length}
+use Rattle.rules.proofs.Cuts.{cut_is}
+use Rattle.rules.proofs.Recover.Expected.{expected_length}
 use Rattle.rules.proofs.Recover.Sound.{sound}
-use Rattle.rules.proofs.Recover.Steps.{Standing, stands, start-stands, step-stands}
-use Rattle.rules.proofs.Recover.Valid.{saved-valid}
+use Rattle.rules.proofs.Recover.Steps.{Standing, stands, start_stands, step_stands}
+use Rattle.rules.proofs.Recover.Valid.{saved_valid}
 use Rattle.rules.proofs.Sim.State.{Sim, Simulated, by}
 use Rattle.rules.proofs.Sim.Looks.{reach}
 use Rattle.rules.proofs.Sim.All.{every}
@@ -34,11 +34,11 @@ use Rattle.rules.specs.Recovery.{Recovering, line_start, restore}
 use Rattle.rules.specs.Refusal.{is_set_up}
 use Rattle.rules.specs.Run.{wrote_into}
 use Rattle.rules.specs.Tables.{Board, Memory, line_of}
-use Rattle.wording.proofs.Words.{expected-found, image-log}
+use Rattle.wording.proofs.Words.{expected_found, image_log}
 use Rattle.wording.specs.Claim.{WordsExpected}
 use Rattle.wording.specs.Text.{cut_text, finish, flat_to, image_buffer, image_line, line_text, memory_text, recovered, recovered_text}
-use Rattle.undo.proofs.Laws.{and-true, test}
-use Rattle.laws.proofs.Stored.{expected-lines}
+use Rattle.undo.proofs.Laws.{and_true, test}
+use Rattle.laws.proofs.Stored.{expected_lines}
 
 -- ---- lines with the same bytes are the same
 
@@ -49,63 +49,63 @@ lines_same [] [] n a b e = refl
 lines_same [] (y ∷ ys) n a b e = absurd (omega arith)
 lines_same (x ∷ xs) [] n a b e = absurd (omega arith)
 lines_same (x ∷ xs) (y ∷ ys) n a b e =
-    let p = and-true (is_line x) (all is_line xs) a in
-    let f : x ≡ y = sym (line-back x (flat line_bytes xs) p.0) ∙ (ap (words_of 8) e ∙ line-back y (flat line_bytes ys) (b 0 (omega arith))) in
+    let p = and_true (is_line x) (all is_line xs) a in
+    let f : x ≡ y = sym (line_back x (flat line_bytes xs) p.0) ∙ (ap (words_of 8) e ∙ line_back y (flat line_bytes ys) (b 0 (omega arith))) in
     let r : flat line_bytes xs ≡ flat line_bytes ys =
-    sym (drop_at (line_bytes x) (flat line_bytes xs) 64 (length-words 8 x))
-    ∙ (ap (drop 64) e ∙ drop_at (line_bytes y) (flat line_bytes ys) 64 (length-words 8 y)) in
+    sym (drop_at (line_bytes x) (flat line_bytes xs) 64 (length_words 8 x))
+    ∙ (ap (drop 64) e ∙ drop_at (line_bytes y) (flat line_bytes ys) 64 (length_words 8 y)) in
     rw (f, lines_same xs ys (omega arith) p.1 (λ j k. b (suc j) (omega arith)) r)
 
 -- ---- an image: its lines, and how long it is
 
-behind-kind : (x t : List ℕ) → drop 1 (line_record x ++ t) ≡ line_bytes x ++ t
+behind_kind : (x t : List ℕ) → drop 1 (line_record x ++ t) ≡ line_bytes x ++ t
 unfolding line_record
-behind-kind x t = refl
+behind_kind x t = refl
 
 module _ (p : Persistent) (z : Valid p) where
   abbrev records : List ℕ
   records = flat region_record p.regions ++ (flat entry_record p.log ++ (36 ∷ []))
 
   module _ (l : ℕ) (h : l < length p.medium) where
-    line-behind : drop (line_start l) (encode p) ≡ line_bytes (line_of l p.medium) ++ (flat line_record (drop (suc l) p.medium) ++ records)
+    line_behind : drop (line_start l) (encode p) ≡ line_bytes (line_of l p.medium) ++ (flat line_record (drop (suc l) p.medium) ++ records)
     unfolding encode
-    line-behind =
+    line_behind =
         let d = head_record p.threads p.lines in
         let xs = flat line_record p.medium ++ records in
-        let o : 4 + (65 * l + 1) ≡ length d + (65 * l + 1) = omega (arith, length-head p.threads p.lines) in
+        let o : 4 + (65 * l + 1) ≡ length d + (65 * l + 1) = omega (arith, length_head p.threads p.lines) in
         rw (
           o,
           drop-append-add d xs (65 * l + 1),
           ← drop-drop 1 (65 * l) xs,
-          flat-at line_record 65 (λ x. true) (λ x _. length-line x) p.medium l [] records (no_test p.medium) h,
+          flat_at line_record 65 (λ x. true) (λ x _. length_line x) p.medium l [] records (no_test p.medium) h,
         )
-        (behind-kind (line_of l p.medium) (flat line_record (drop (suc l) p.medium) ++ records))
+        (behind_kind (line_of l p.medium) (flat line_record (drop (suc l) p.medium) ++ records))
 
-    line-inside : line_start l + 64 ≤ length (encode p)
-    line-inside =
-        let a = simp (length-drop, length-append) at (ap length line-behind) in
-        omega (arith, length-words 8 (line_of l p.medium))
+    line_inside : line_start l + 64 ≤ length (encode p)
+    line_inside =
+        let a = simp (length-drop, length-append) at (ap length line_behind) in
+        omega (arith, length_words 8 (line_of l p.medium))
 
-    line-found : image_line (encode p) l ≡ line_of l p.medium
-    line-found =
-        rw (le-leb (line_start l + 64) (length (encode p)) line-inside, line-behind)
-        (line-back (line_of l p.medium) (flat line_record (drop (suc l) p.medium) ++ records) (all-at is_line p.medium l [] z.medium h))
+    line_found : image_line (encode p) l ≡ line_of l p.medium
+    line_found =
+        rw (le-leb (line_start l + 64) (length (encode p)) line_inside, line_behind)
+        (line_back (line_of l p.medium) (flat line_record (drop (suc l) p.medium) ++ records) (all_at is_line p.medium l [] z.medium h))
 
 -- ---- the image finds room in the buffer
 
-wrote-text : (n : ℕ) (bs d : List ℕ) → length bs ≤ length d → recovered_text n (wrote_into bs (length bs) d) ≡ memory_text n (recovered bs)
+wrote_text : (n : ℕ) (bs d : List ℕ) → length bs ≤ length d → recovered_text n (wrote_into bs (length bs) d) ≡ memory_text n (recovered bs)
 unfolding recovered_text wrote_into
-wrote-text n bs d h =
+wrote_text n bs d h =
     rw (le-leb (length bs) (length d) h) (ap (λ (x : List ℕ). memory_text n (recovered x)) (take-append_seam bs (drop (0 + length bs) d)))
 
-saved-text : (n : ℕ) (b : Board) (d : List ℕ) → is_set_up b.tables ≡ true → b.tables.cut ≡ true → length (image b) ≤ length d
+saved_text : (n : ℕ) (b : Board) (d : List ℕ) → is_set_up b.tables ≡ true → b.tables.cut ≡ true → length (image b) ≤ length d
     → recovered_text n (save b d) ≡ memory_text n (recovered (image b))
 unfolding save
-saved-text n b d up cut h = let c : (is_set_up b.tables && b.tables.cut) ≡ true = rw up cut in rw c (wrote-text n (image b) d h)
+saved_text n b d up cut h = let c : (is_set_up b.tables && b.tables.cut) ≡ true = rw up cut in rw c (wrote_text n (image b) d h)
 
-buffer-long : length image_buffer ≡ 34853
+buffer_long : length image_buffer ≡ 34853
 unfolding image_buffer
-buffer-long = length-replicate {A = ℕ} 34853 0
+buffer_long = length-replicate {A = ℕ} 34853 0
 
 -- ---- recovery leaves the image of the saved state with another medium
 
@@ -114,20 +114,20 @@ data Recovers (b : Board) (bs : List ℕ) : Type 0 where
 
 module _ {start : ℕ → List ℕ} {b : Board} {es : List Account} {s : u.State (List ℕ)} {h : v.History (List ℕ)} (rc : Reach start s h) (i : Sim b es s h)
     (up : is_set_up b.tables ≡ true) (quiet : contradicts (saved b) ≡ false) where
-  step-recovers : {r : Recovering} → Standing rc i up quiet r → Recovers b r.bytes
-  step-recovers (stands md a q z f pl) = recovers md q z
+  step_recovers : {r : Recovering} → Standing rc i up quiet r → Recovers b r.bytes
+  step_recovers (stands md a q z f pl) = recovers md q z
 
-  finish-recovers : (n : ℕ) {r : Recovering} → Standing rc i up quiet r → Recovers b (finish n r)
+  finish_recovers : (n : ℕ) {r : Recovering} → Standing rc i up quiet r → Recovers b (finish n r)
   unfolding finish
-  finish-recovers zero p = step-recovers (step-stands rc i up quiet p)
-  finish-recovers (suc n) {r} p =
+  finish_recovers zero p = step_recovers (step_stands rc i up quiet p)
+  finish_recovers (suc n) {r} p =
       test (eqb (restore r).answer.value 1)
-      (λ q. rw q (finish-recovers n (step-stands rc i up quiet p)))
-      (λ q. rw q (step-recovers (step-stands rc i up quiet p)))
+      (λ q. rw q (finish_recovers n (step_stands rc i up quiet p)))
+      (λ q. rw q (step_recovers (step_stands rc i up quiet p)))
 
-  saved-short : length (image b) ≤ 34853
+  saved_short : length (image b) ≤ 34853
   unfolding image
-  saved-short = image-short (old-form (saved b) (saved-valid rc i up)) (image-log b i.shape.threads.logs)
+  saved_short = image_short (old_form (saved b) (saved_valid rc i up)) (image_log b i.shape.threads.logs)
 
 -- ---- the text
 
@@ -142,38 +142,38 @@ module _ (m : Memory) (rs : List (List ℕ)) (bm : is_byte_memory m ≡ true) (b
   n = (board_after m rs).tables.size.lines
 
   -- the medium that recovery leaves
-  medium-expected : (md : List (List ℕ)) → recovered (image (board_after m rs)) ≡ encode (with_medium md (saved (board_after m rs)))
+  medium_expected : (md : List (List ℕ)) → recovered (image (board_after m rs)) ≡ encode (with_medium md (saved (board_after m rs)))
       → Valid (with_medium md (saved (board_after m rs))) → length md ≡ n → md ≡ take n (expected m rs)
   unfolding expected_bytes
-  medium-expected md q z w =
-      let ll = (size-lines (board_after m rs).tables.size.threads n up).1 in
-      let el = expected-length m rs in
+  medium_expected md q z w =
+      let ll = (size_lines (board_after m rs).tables.size.threads n up).1 in
+      let el = expected_length m rs in
       let tl = length-take-le n (expected m rs) (omega arith) in
       let e : flat line_bytes md ≡ flat line_bytes (take n (expected m rs)) =
-      sym (found (with_medium md (saved (board_after m rs))) z) ∙ (ap memory_found (sym q) ∙ (expected-found m rs bm br cut ∙ rw same)) in
+      sym (found (with_medium md (saved (board_after m rs))) z) ∙ (ap memory_found (sym q) ∙ (expected_found m rs bm br cut ∙ rw same)) in
       lines_same md (take n (expected m rs)) (w ∙ sym tl) z.medium
-      (λ j k. let d : j < n = omega arith in rw (get_or-take n (expected m rs) j [] d) (expected-lines m rs bm j (omega arith))) e
+      (λ j k. let d : j < n = omega arith in rw (get_or-take n (expected m rs) j [] d) (expected_lines m rs bm j (omega arith))) e
 
-  text-expected : Recovers (board_after m rs) (recovered (image (board_after m rs)))
+  text_expected : Recovers (board_after m rs) (recovered (image (board_after m rs)))
       → memory_text n (recovered (image (board_after m rs))) ≡ flat_to (λ l. line_text l (line_of l (expected m rs))) 0 n
   unfolding memory_text saved
-  text-expected (recovers md q z) =
+  text_expected (recovers md q z) =
       let w : length md ≡ n = z.whole in
-      let e : md ≡ take n (expected m rs) = medium-expected md q z w in
+      let e : md ≡ take n (expected m rs) = medium_expected md q z w in
       rw q (text_same (λ l. line_text l (image_line (encode (with_medium md (saved (board_after m rs)))) l)) (λ l. line_text l (line_of l (expected m rs))) n 0
       (λ l k. ap (line_text l)
-      (line-found (with_medium md (saved (board_after m rs))) z l (omega arith) ∙ (ap (line_of l) e ∙ get_or-take n (expected m rs) l [] (omega arith)))))
+      (line_found (with_medium md (saved (board_after m rs))) z l (omega arith) ∙ (ap (line_of l) e ∙ get_or-take n (expected m rs) l [] (omega arith)))))
 
-pub words-expected : WordsExpected
+pub words_expected : WordsExpected
 unfolding cut_text
-words-expected m rs bm br cut = go (every m rs bm).simulated
+words_expected m rs bm br cut = go (every m rs bm).simulated
   where
     go : Simulated m (board_after m rs) (accepted_in m rs) → cut_text (board_after m rs) ≡ flat_to (λ l. line_text l (line_of l (expected m rs))) 0 (lines_in (accepted_in m rs))
     go (by s h w i) =
         let b = board_after m rs in
-        let c : b.tables.cut ≡ true = cut-is m rs ∙ cut in
-        let up = i.shape.cut-setup c in
+        let c : b.tables.cut ≡ true = cut_is m rs ∙ cut in
+        let up = i.shape.cut_setup c in
         let quiet = sound (reach w) i (every m rs bm).rest in
         let same = i.told.lines up in
-        saved-text b.tables.size.lines b image_buffer up c (omega (arith, saved-short (reach w) i up quiet, buffer-long))
-        ∙ (text-expected m rs bm br cut up same (finish-recovers (reach w) i up quiet 256 (start-stands (reach w) i up quiet)) ∙ rw same)
+        saved_text b.tables.size.lines b image_buffer up c (omega (arith, saved_short (reach w) i up quiet, buffer_long))
+        ∙ (text_expected m rs bm br cut up same (finish_recovers (reach w) i up quiet 256 (start_stands (reach w) i up quiet)) ∙ rw same)

@@ -10,17 +10,17 @@ use Rattle.rules.specs.Recovery.{Recovering, Restored, restore}
 use Rattle.wording.specs.Text.{finish}
 
 module _ (r : Recovering) (bs : List ℕ) (w : Walked) (s : restored_of bs w ≡ restore r) where
-  pub finish-stop : (n : ℕ) → (w.answer.value ≡ 1 → ⊥) → bs ≡ finish n r
+  pub finish_stop : (n : ℕ) → (w.answer.value ≡ 1 → ⊥) → bs ≡ finish n r
   unfolding finish
-  finish-stop zero h = ap (λ (x : Restored). x.after.bytes) s
-  finish-stop (suc n) h = rw (← s, ne_eqb w.answer.value 1 h)
+  finish_stop zero h = ap (λ (x : Restored). x.after.bytes) s
+  finish_stop (suc n) h = rw (← s, ne_eqb w.answer.value 1 h)
 
-  pub finish-last : (n : ℕ) → n ≡ 0 → bs ≡ finish n r
+  pub finish_last : (n : ℕ) → n ≡ 0 → bs ≡ finish n r
   unfolding finish
-  finish-last zero e = ap (λ (x : Restored). x.after.bytes) s
-  finish-last (suc n) e = absurd (omega arith)
+  finish_last zero e = ap (λ (x : Restored). x.after.bytes) s
+  finish_last (suc n) e = absurd (omega arith)
 
-  pub finish-more : (n : ℕ) → w.answer.value ≡ 1 → (n ≡ 0 → ⊥) → finish (n - 1) (record { bytes = bs; at = w.at }) ≡ finish n r
+  pub finish_more : (n : ℕ) → w.answer.value ≡ 1 → (n ≡ 0 → ⊥) → finish (n - 1) (record { bytes = bs; at = w.at }) ≡ finish n r
   unfolding finish
-  finish-more zero h e = absurd (e refl)
-  finish-more (suc n) h e = let m : suc n - 1 ≡ n = omega arith in rw (m, ← s, eq-eqb w.answer.value 1 h)
+  finish_more zero h e = absurd (e refl)
+  finish_more (suc n) h e = let m : suc n - 1 ≡ n = omega arith in rw (m, ← s, eq-eqb w.answer.value 1 h)

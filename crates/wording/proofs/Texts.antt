@@ -8,8 +8,8 @@ use native.Mathlib.Omega.{arith}
 use native.Mathlib.Numerals.{add-one}
 use borrow.Author.Tests.{eq-eqb, ne_eqb}
 use native.Mathlib.Nat.{mul-suc}
-use Rattle.output.proofs.Digits.{decimal-short, either-short}
-use Rattle.output.proofs.Rooms.{puts-join, puts_none}
+use Rattle.output.proofs.Digits.{decimal_short, either_short}
+use Rattle.output.proofs.Rooms.{puts_join, puts_none}
 use Rattle.output.specs.Decimal.{decimal}
 use Rattle.output.specs.Room.{Room, puts}
 use Rattle.rules.specs.declared.Answer.{Answer}
@@ -18,35 +18,35 @@ use Rattle.wording.specs.Text.{answer_text, flat_to, image_line, line_text, memo
 -- ---- each line by its parts
 
 module _ (r : Room) where
-  pub number-puts : (n e : ℕ) → puts (puts r (decimal n)) (e ∷ []) ≡ puts r (number_text n e)
+  pub number_puts : (n e : ℕ) → puts (puts r (decimal n)) (e ∷ []) ≡ puts r (number_text n e)
   unfolding number_text
-  number-puts n e = sym (puts-join r (decimal n) (e ∷ []))
+  number_puts n e = sym (puts_join r (decimal n) (e ∷ []))
 
-  pub answer-puts : (k : ℕ) (a : Answer) → puts (puts (puts r (number_text k 32)) (number_text a.refusal 32)) (number_text a.value 10) ≡ puts r (answer_text k a)
+  pub answer_puts : (k : ℕ) (a : Answer) → puts (puts (puts r (number_text k 32)) (number_text a.refusal 32)) (number_text a.value 10) ≡ puts r (answer_text k a)
   unfolding answer_text
-  answer-puts k a =
+  answer_puts k a =
       rw (
-        puts-join r (number_text k 32) (number_text a.refusal 32 ++ number_text a.value 10),
-        puts-join (puts r (number_text k 32)) (number_text a.refusal 32) (number_text a.value 10),
+        puts_join r (number_text k 32) (number_text a.refusal 32 ++ number_text a.value 10),
+        puts_join (puts r (number_text k 32)) (number_text a.refusal 32) (number_text a.value 10),
       )
 
   pub word_none : (l w v : ℕ) → v ≡ 0 → r ≡ puts r (word_text l w v)
   unfolding word_text
   word_none l w v e = rw (eq-eqb v 0 e) (sym (puts_none r))
 
-  pub word-puts : (l w v : ℕ) → (v ≡ 0 → ⊥)
+  pub word_puts : (l w v : ℕ) → (v ≡ 0 → ⊥)
       → puts (puts (puts (puts (puts r (77 ∷ [])) (32 ∷ [])) (number_text l 32)) (number_text w 32)) (number_text v 10) ≡ puts r (word_text l w v)
   unfolding word_text
-  word-puts l w v e =
+  word_puts l w v e =
       let x = number_text l 32 in
       let y = number_text w 32 in
       let z = number_text v 10 in
       rw (
         ne_eqb v 0 e,
-        puts-join r (77 ∷ []) (32 ∷ (x ++ (y ++ z))),
-        puts-join (puts r (77 ∷ [])) (32 ∷ []) (x ++ (y ++ z)),
-        puts-join (puts (puts r (77 ∷ [])) (32 ∷ [])) x (y ++ z),
-        puts-join (puts (puts (puts r (77 ∷ [])) (32 ∷ [])) x) y z,
+        puts_join r (77 ∷ []) (32 ∷ (x ++ (y ++ z))),
+        puts_join (puts r (77 ∷ [])) (32 ∷ []) (x ++ (y ++ z)),
+        puts_join (puts (puts r (77 ∷ [])) (32 ∷ [])) x (y ++ z),
+        puts_join (puts (puts (puts r (77 ∷ [])) (32 ∷ [])) x) y z,
       )
 
 -- ---- a loop over numbers
@@ -56,41 +56,41 @@ module _ (f : ℕ → List ℕ) (n : ℕ) where
   abbrev pub left : ℕ → List ℕ
   left i = flat_to f i (n - i)
 
-  pub left-all : flat_to f 0 n ≡ left 0
-  left-all = let e : n - 0 ≡ n = omega arith in rw e
+  pub left_all : flat_to f 0 n ≡ left 0
+  left_all = let e : n - 0 ≡ n = omega arith in rw e
 
-  pub left-more : (r : Room) (i : ℕ) → i < n → puts (puts r (f i)) (left (i + 1)) ≡ puts r (left i)
+  pub left_more : (r : Room) (i : ℕ) → i < n → puts (puts r (f i)) (left (i + 1)) ≡ puts r (left i)
   unfolding flat_to
-  left-more r i h = let e : n - i ≡ suc (n - suc i) = omega arith in rw (add-one i, e) (sym (puts-join r (f i) (flat_to f (suc i) (n - suc i))))
+  left_more r i h = let e : n - i ≡ suc (n - suc i) = omega arith in rw (add-one i, e) (sym (puts_join r (f i) (flat_to f (suc i) (n - suc i))))
 
-  pub left-none : (r : Room) (i : ℕ) → n ≤ i → r ≡ puts r (left i)
+  pub left_none : (r : Room) (i : ℕ) → n ≤ i → r ≡ puts r (left i)
   unfolding flat_to
-  left-none r i h = let e : n - i ≡ 0 = omega arith in rw e (sym (puts_none r))
+  left_none r i h = let e : n - i ≡ 0 = omega arith in rw e (sym (puts_none r))
 
-pub line-said : (l : ℕ) (ws : List ℕ) → line_text l ws ≡ left (λ w. word_text l w (get_or ws w 0)) 8 0
+pub line_said : (l : ℕ) (ws : List ℕ) → line_text l ws ≡ left (λ w. word_text l w (get_or ws w 0)) 8 0
 unfolding line_text
-line-said l ws = refl
+line_said l ws = refl
 
-pub memory-said : (n : ℕ) (bs : List ℕ) → memory_text n bs ≡ left (λ l. line_text l (image_line bs l)) n 0
+pub memory_said : (n : ℕ) (bs : List ℕ) → memory_text n bs ≡ left (λ l. line_text l (image_line bs l)) n 0
 unfolding memory_text
-memory-said n bs = left-all (λ l. line_text l (image_line bs l)) n
+memory_said n bs = left_all (λ l. line_text l (image_line bs l)) n
 
 -- ---- lengths
 
 -- each part at most m long
-flat-short : (f : ℕ → List ℕ) (m : ℕ) → ((i : ℕ) → length (f i) ≤ m) → (n i : ℕ) → length (flat_to f i n) ≤ m * n
+flat_short : (f : ℕ → List ℕ) (m : ℕ) → ((i : ℕ) → length (f i) ≤ m) → (n i : ℕ) → length (flat_to f i n) ≤ m * n
 unfolding flat_to
-flat-short f m h zero i = omega arith
-flat-short f m h (suc n) i =
-    rw (length-append (f i) (flat_to f (suc i) n), mul-suc m n) (omega (arith, h i, flat-short f m h n (suc i)))
+flat_short f m h zero i = omega arith
+flat_short f m h (suc n) i =
+    rw (length-append (f i) (flat_to f (suc i) n), mul-suc m n) (omega (arith, h i, flat_short f m h n (suc i)))
 
 number_short : (n e : ℕ) → length (number_text n e) ≤ 21
 unfolding number_text
-number_short n e = omega (arith, length-append (decimal n) (e ∷ []), decimal-short n)
+number_short n e = omega (arith, length-append (decimal n) (e ∷ []), decimal_short n)
 
-pub answer-short : (k : ℕ) (a : Answer) → length (answer_text k a) ≤ 63
+pub answer_short : (k : ℕ) (a : Answer) → length (answer_text k a) ≤ 63
 unfolding answer_text
-answer-short k a =
+answer_short k a =
     omega (
       arith,
       length-append (number_text k 32) (number_text a.refusal 32 ++ number_text a.value 10),
@@ -100,10 +100,10 @@ answer-short k a =
       number_short a.value 10,
     )
 
-word-short : (l w v : ℕ) → length (word_text l w v) ≤ 65
+word_short : (l w v : ℕ) → length (word_text l w v) ≤ 65
 unfolding word_text
-word-short l w v =
-    either-short (eqb v 0) [] (77 ∷ (32 ∷ (number_text l 32 ++ (number_text w 32 ++ number_text v 10)))) 65 (omega arith)
+word_short l w v =
+    either_short (eqb v 0) [] (77 ∷ (32 ∷ (number_text l 32 ++ (number_text w 32 ++ number_text v 10)))) 65 (omega arith)
     (omega (
       arith,
       length-append (number_text l 32) (number_text w 32 ++ number_text v 10),
@@ -113,10 +113,10 @@ word-short l w v =
       number_short v 10,
     ))
 
-words-short : (l : ℕ) (ws : List ℕ) → length (line_text l ws) ≤ 520
+words_short : (l : ℕ) (ws : List ℕ) → length (line_text l ws) ≤ 520
 unfolding line_text
-words-short l ws = flat-short (λ w. word_text l w (get_or ws w 0)) 65 (λ w. word-short l w (get_or ws w 0)) 8 0
+words_short l ws = flat_short (λ w. word_text l w (get_or ws w 0)) 65 (λ w. word_short l w (get_or ws w 0)) 8 0
 
-pub memory-short : (n : ℕ) (bs : List ℕ) → length (memory_text n bs) ≤ 520 * n
+pub memory_short : (n : ℕ) (bs : List ℕ) → length (memory_text n bs) ≤ 520 * n
 unfolding memory_text
-memory-short n bs = flat-short (λ l. line_text l (image_line bs l)) 520 (λ l. words-short l (image_line bs l)) n 0
+memory_short n bs = flat_short (λ l. line_text l (image_line bs l)) 520 (λ l. words_short l (image_line bs l)) n 0

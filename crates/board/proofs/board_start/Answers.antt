@@ -3,19 +3,19 @@ use lib.ListN.{length}
 use Rattle.rules.specs.Tables.{fresh_tables}
 use mathlib.Core.Path.{◌∙◌, ◌≡◌, ap, sym}
 use Rattle.rules.specs.Record.{shares_at}
-use Rattle.board.proofs.Start.{many-lines, many-threads, start-answer, start-far, start-short}
+use Rattle.board.proofs.Start.{many_lines, many_threads, start_answer, start_far, start_short}
 use borrow.Author.Tests.{le-leb}
 use native.Mathlib.Omega.{arith}
 use Rattle.board.proofs.board_start.Goals as goal
 
 pub returns-then-shares-ne10 : goal.returns-then-shares-ne10
-returns-then-shares-ne10 c = let a = c.args in c.answer.ensures ∙ sym (start-short a.threads a.lines a.shares.now a.memory.now c.if-shares-ne10.true)
+returns-then-shares-ne10 c = let a = c.args in c.answer.ensures ∙ sym (start_short a.threads a.lines a.shares.now a.memory.now c.if-shares-ne10.true)
 
 pub returns-then-threads : goal.returns-then-threads
-returns-then-threads c = let a = c.args in c.answer-then-threads.ensures ∙ sym (start-far a.threads a.lines a.shares.now a.memory.now c.if-shares-ne10.false (many-threads a.threads a.lines c.if-threads.true))
+returns-then-threads c = let a = c.args in c.answer-then-threads.ensures ∙ sym (start_far a.threads a.lines a.shares.now a.memory.now c.if-shares-ne10.false (many_threads a.threads a.lines c.if-threads.true))
 
 pub returns-then-lines : goal.returns-then-lines
-returns-then-lines c = let a = c.args in c.answer-then-lines.ensures ∙ sym (start-far a.threads a.lines a.shares.now a.memory.now c.if-shares-ne10.false (many-lines a.threads a.lines c.if-lines.true))
+returns-then-lines c = let a = c.args in c.answer-then-lines.ensures ∙ sym (start_far a.threads a.lines a.shares.now a.memory.now c.if-shares-ne10.false (many_lines a.threads a.lines c.if-lines.true))
 
 pub returns : goal.returns
 returns c =
@@ -25,4 +25,4 @@ returns c =
     let z = ap (λ ts. ts.size) (sym f.ensures) in
     let s : c.shares_at-s.result ≡ shares_at a.shares.now = c.shares_at-s.ensures ∙ rw (le-leb 10 (length a.shares.now) (omega (arith, ten))) in
     rw (c.answer-2.ensures, c.setup_refusal.ensures (fresh_tables false (length a.memory.now)) z, s)
-    (sym (start-answer a.threads a.lines a.shares.now a.memory.now ten))
+    (sym (start_answer a.threads a.lines a.shares.now a.memory.now ten))

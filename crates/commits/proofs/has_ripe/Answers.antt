@@ -2,8 +2,8 @@ use mathlib.Core.Path.{◌∙◌, refl, sym}
 use native.Mathlib.Omega.{arith}
 use borrow.Author.Rules.{rules}
 use Rattle.rules.specs.Tables.{no_region}
-use Rattle.lookup.proofs.Search.{any-end, any-hit, any-on}
-use Rattle.rows.proofs.Laws.{got, rows-length}
+use Rattle.lookup.proofs.Search.{any_end, any_hit, any_on}
+use Rattle.rows.proofs.Laws.{got, rows_length}
 use Rattle.rows.specs.Row.{regions_of}
 use Rattle.commits.specs.Ripe.{ripe}
 use Rattle.commits.proofs.has_ripe.Goals as goal
@@ -14,21 +14,21 @@ loop-i-init c = (search rules, refl)
 pub returns-then-is_ripe : goal.returns-then-is_ripe
 returns-then-is_ripe c =
     let s = c.args.regions.now in
-    let n = rows-length s c.regions_length.ensures in
-    sym (any-hit ripe c.loop-i.i (regions_of s) no_region (omega (arith, n)) (rw (got s c.loop-i.i) (sym c.is_ripe.ensures ∙ c.if-is_ripe.true)))
+    let n = rows_length s c.regions_length.ensures in
+    sym (any_hit ripe c.loop-i.i (regions_of s) no_region (omega (arith, n)) (rw (got s c.loop-i.i) (sym c.is_ripe.ensures ∙ c.if-is_ripe.true)))
     ∙ c.loop-i.invariant.1
 
 pub loop-i-preserved : goal.loop-i-preserved
 loop-i-preserved c =
     let s = c.args.regions.now in
-    let n = rows-length s c.regions_length.ensures in (
+    let n = rows_length s c.regions_length.ensures in (
       search rules,
-      (any-on ripe c.loop-i.i (regions_of s) no_region (omega (arith, n)) (rw (got s c.loop-i.i) (sym c.is_ripe.ensures ∙ c.if-is_ripe.false)))
+      (any_on ripe c.loop-i.i (regions_of s) no_region (omega (arith, n)) (rw (got s c.loop-i.i) (sym c.is_ripe.ensures ∙ c.if-is_ripe.false)))
           ∙ c.loop-i.invariant.1,
     )
 
 pub returns : goal.returns
 returns c =
     let s = c.args.regions.now in
-    let n = rows-length s c.regions_length.ensures in
-    sym (any-end ripe c.loop-i.i (regions_of s) (omega (arith, n))) ∙ c.loop-i.invariant.1
+    let n = rows_length s c.regions_length.ensures in
+    sym (any_end ripe c.loop-i.i (regions_of s) (omega (arith, n))) ∙ c.loop-i.invariant.1

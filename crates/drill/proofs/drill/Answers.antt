@@ -1,15 +1,15 @@
 -- `drill::drill` meets its contract: what the save and the last step return is what demand 3 speaks about.
 use mathlib.Core.Path.{◌≡◌}
 use lib.ListN.{length, take}
-use Rattle.recovery.proofs.Places.{all-bytes}
-use Rattle.drill.proofs.Laws.{drill-accepted, drill-refused, part-long, size_fits}
+use Rattle.recovery.proofs.Places.{all_bytes}
+use Rattle.drill.proofs.Laws.{drill_accepted, drill_refused, part_long, size_fits}
 use borrow.Author.Rules.{rules}
 use Rattle.drill.proofs.drill.Goals as goal
 
 pub returns-then-saved-ne0 : goal.returns-then-saved-ne0
 returns-then-saved-ne0 c =
     let a = c.args in
-    drill-refused a.file.now a.memory.now a.acts.now a.image.now _ c.run_image-saved.result c.run_image-saved.ensures c.if-saved-ne0.true
+    drill_refused a.file.now a.memory.now a.acts.now a.image.now _ c.run_image-saved.result c.run_image-saved.ensures c.if-saved-ne0.true
 
 pub slice_bounds-recover-end : goal.slice_bounds-recover-end
 slice_bounds-recover-end c =
@@ -19,7 +19,7 @@ slice_bounds-recover-end c =
 pub slice_bounds-recover-end-2 : goal.slice_bounds-recover-end-2
 slice_bounds-recover-end-2 c =
     let a = c.args in
-    part-long c.image_size-n.result c.run_image-saved.new.image
+    part_long c.image_size-n.result c.run_image-saved.new.image
     (rw c.image_size-n.ensures (size_fits a.file.now a.memory.now a.acts.now a.image.now _ c.run_image-saved.result c.run_image-saved.ensures c.if-saved-ne0.false))
 
 pub returns : goal.returns
@@ -27,4 +27,4 @@ returns c =
     let a = c.args in
     let e = c.run_image-saved.new.image in
     let l : length c.recover-last.new.image ≡ length (take c.image_size-n.result e) = search rules in
-    rw c.image_size-n.ensures (drill-accepted a.file.now a.memory.now a.acts.now a.image.now e c.run_image-saved.result c.run_image-saved.ensures c.if-saved-ne0.false (all-bytes a.file.now (λ i. (c.shared_slice_known-1.given i).fits)) (all-bytes a.memory.now (λ i. (c.shared_slice_known-2-1.given i).fits)) c.recover-last.result c.recover-last.new.image (rw c.image_size-n.ensures at l) (rw c.image_size-n.ensures at c.recover-last.ensures.steps))
+    rw c.image_size-n.ensures (drill_accepted a.file.now a.memory.now a.acts.now a.image.now e c.run_image-saved.result c.run_image-saved.ensures c.if-saved-ne0.false (all_bytes a.file.now (λ i. (c.shared_slice_known-1.given i).fits)) (all_bytes a.memory.now (λ i. (c.shared_slice_known-2-1.given i).fits)) c.recover-last.result c.recover-last.new.image (rw c.image_size-n.ensures at l) (rw c.image_size-n.ensures at c.recover-last.ensures.steps))

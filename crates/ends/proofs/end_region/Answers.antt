@@ -5,8 +5,8 @@ use Rattle.rules.specs.Tables.{is_placed, with_regions}
 use Rattle.rows.specs.Row.{regions_of}
 use Rattle.rows.specs.Whole.{board_of, tables_of}
 use Rattle.rows.specs.declared.Head.{Head}
-use Rattle.tables.proofs.Flight.{entry_of, flown-at}
-use Rattle.ends.proofs.Laws.{end-law}
+use Rattle.tables.proofs.Flight.{entry_of, flown_at_lem}
+use Rattle.ends.proofs.Laws.{end_law}
 use Rattle.ends.proofs.end_region.Goals as goal
 
 pub returns : goal.returns
@@ -25,7 +25,7 @@ returns c =
     let rs = regions_of s.regions.now in
     let h : Head = record { size = s.h.size; cut = s.h.cut; clock = x.result } in
     let b = board_of h ths s.regions.now owner s.lock.now s.cur.now med old s.car.now in
-    end-law s.t k.result
+    end_law s.t k.result
     (board_of s.h s.threads.now s.regions.now owner s.lock.now s.cur.now med old s.car.now)
     (board_of h ths p.new.regions owner s.lock.now s.cur.now med old p.new.car)
     (tables_of s.h ths s.regions.now owner s.lock.now)
@@ -33,5 +33,5 @@ returns c =
     k.ensures
     (f.ensures s.h s.regions.now owner s.lock.now)
     (rw (q.ensures, r.ensures, i.ensures, x.ensures))
-    (p.ensures h ths owner med old ∙ flown-at k.result b i.result i.ensures q.result
+    (p.ensures h ths owner med old ∙ flown_at_lem k.result b i.result i.ensures q.result
     (λ z. ap (is_placed k.result) q.ensures ∙ entry_of k.result rs i.result r.result i.ensures r.ensures z))

@@ -1,5 +1,5 @@
 use Rattle.rows.specs.Whole.{tables_of}
-use Rattle.ends.proofs.Laws.{outside-law}
+use Rattle.ends.proofs.Laws.{outside_law}
 use Rattle.ends.proofs.outside.Goals as goal
 
 pub returns : goal.returns
@@ -8,4 +8,4 @@ returns c =
     let s = c.args in
     let f = c.shallower in
     rw c.forget_reads.ensures
-    (outside-law s.t (tables_of h s.threads.now regions owner lock) (tables_of h f.new.threads regions owner lock) (f.ensures h regions owner lock))
+    (outside_law s.t (tables_of h s.threads.now regions owner lock) (tables_of h f.new.threads regions owner lock) (f.ensures h regions owner lock))

@@ -1,4 +1,4 @@
-use Rattle.events.proofs.Laws.{read-empty, read_some}
+use Rattle.events.proofs.Laws.{read_empty, read_some}
 use Rattle.lines.proofs.Paste.{rest}
 use mathlib.Core.Path.{◌∙◌, sym}
 use native.Mathlib.Omega.{arith}
@@ -6,7 +6,7 @@ use borrow.Author.Tests.{le-ltb, lt-ltb}
 use Rattle.events.proofs.read_record.Goals as goal
 
 pub returns-then-bytes-eq0 : goal.returns-then-bytes-eq0
-returns-then-bytes-eq0 c = sym (read-empty _ c.if-bytes-eq0.true)
+returns-then-bytes-eq0 c = sym (read_empty _ c.if-bytes-eq0.true)
 
 pub returns-then-not-is_kind : goal.returns-then-not-is_kind
 returns-then-not-is_kind c =

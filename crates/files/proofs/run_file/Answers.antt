@@ -1,11 +1,11 @@
 use native.Mathlib.Omega.{arith}
 use Rattle.rules.specs.Tables.{Lent}
 use Rattle.starting.proofs.Start.{started}
-use Rattle.files.proofs.Call.{answered, call-refused}
+use Rattle.files.proofs.Call.{answered, call_refused}
 use Rattle.files.proofs.run_file.Goals as goal
 
 pub returns-then-answers-n : goal.returns-then-answers-n
-returns-then-answers-n c = let a = c.args in call-refused a.file.now a.memory.now a.answers.now (rw (← c.record_count-n.ensures) c.if-answers-n.true)
+returns-then-answers-n c = let a = c.args in call_refused a.file.now a.memory.now a.answers.now (rw (← c.record_count-n.ensures) c.if-answers-n.true)
 
 pub run_records-requires : goal.run_records-requires
 run_records-requires c = omega (arith)

@@ -1,4 +1,4 @@
-use Rattle.files.proofs.Walked.{front-inside, turn-board, turn-bytes, turn_inside, walked_none}
+use Rattle.files.proofs.Walked.{front_inside, turn_board, turn_bytes, turn_inside, walked_none}
 use Rattle.files.specs.Parts.{size_of}
 use Rattle.rows.specs.Whole.{board_of}
 use Rattle.rules.specs.Step.{step}
@@ -23,7 +23,7 @@ overflow_add-at c =
     let f = c.args.file.now in
     let at = c.loop-left.at in
     let k : c.record_size-k.result ≡ size_of (drop at f) = c.record_size-k.ensures ∙ ap size_of (rest f at) in
-    omega (arith, front-inside (board_of c.loop-left.head c.loop-left.threads c.loop-left.regions c.loop-left.owner c.loop-left.lock c.loop-left.cur c.loop-left.med c.loop-left.old c.loop-left.car) f at c.loop-left.invariant.0, c.well_formed.1.1.1.1.1.1.1.1.1.0)
+    omega (arith, front_inside (board_of c.loop-left.head c.loop-left.threads c.loop-left.regions c.loop-left.owner c.loop-left.lock c.loop-left.cur c.loop-left.med c.loop-left.old c.loop-left.car) f at c.loop-left.invariant.0, c.well_formed.1.1.1.1.1.1.1.1.1.0)
 
 pub loop-left-preserved : goal.loop-left-preserved
 loop-left-preserved c =
@@ -40,10 +40,10 @@ loop-left-preserved c =
       (
         c.put_next-p.ensures.0 ∙ c.loop-left.invariant.1.0,
         (
-          turn-board B f at h left q _ _ E k ∙ W.0,
+          turn_board B f at h left q _ _ E k ∙ W.0,
           λ n. let I = W.1 n in
               let P = c.put_next-p.ensures.1 (omega (arith, I.0, c.loop-left.invariant.1.0, q)) in
-              rw (P.0, P.1) (omega (arith, I.0, q), turn-bytes B f at h left q _ _ E k c.loop-left.answers c.loop-left.p ∙ I.1),
+              rw (P.0, P.1) (omega (arith, I.0, q), turn_bytes B f at h left q _ _ E k c.loop-left.answers c.loop-left.p ∙ I.1),
         ),
       ),
     )

@@ -8,12 +8,12 @@ pub returns-then-any_round : goal.returns-then-any_round
 unfolding tangled_by
 returns-then-any_round c =
     -- as many rows as keys
-    let rows-long = length-take-le (length c.args.keys.now) c.reach_table-table.result (search rules) in
-    rw (← c.reach_table-table.ensures, ← rw rows-long at c.any_round.ensures, c.if-any_round.true)
+    let rows_long = length-take-le (length c.args.keys.now) c.reach_table-table.result (search rules) in
+    rw (← c.reach_table-table.ensures, ← rw rows_long at c.any_round.ensures, c.if-any_round.true)
 
 pub returns : goal.returns
 unfolding tangled_by
 returns c =
     -- as many rows as keys
-    let rows-long = length-take-le (length c.args.keys.now) c.reach_table-table.result (search rules) in
-    rw (← c.reach_table-table.ensures, ← rw rows-long at c.any_round.ensures, c.if-any_round.false, c.any_clash.ensures)
+    let rows_long = length-take-le (length c.args.keys.now) c.reach_table-table.result (search rules) in
+    rw (← c.reach_table-table.ensures, ← rw rows_long at c.any_round.ensures, c.if-any_round.false, c.any_clash.ensures)

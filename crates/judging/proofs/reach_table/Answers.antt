@@ -9,5 +9,5 @@ unfolding table_by
 returns c =
     let n = length c.args.keys.now in
     -- as many links as keys
-    let links-long = length-take-le n c.all_links-links.result (search rules) in
-    rw (length-take-le n c.args.regions (search rules), ← c.all_links-links.ensures) (rw links-long at c.rounds.ensures)
+    let links_long = length-take-le n c.all_links-links.result (search rules) in
+    rw (length-take-le n c.args.regions (search rules), ← c.all_links-links.ensures) (rw links_long at c.rounds.ensures)

@@ -1,6 +1,6 @@
 -- `laws::bench_recovers` meets its contract, which is the law.
-use Rattle.laws.proofs.Bench.{bench-recovers}
+use Rattle.laws.proofs.Bench.{bench_recovers}
 use Rattle.laws.proofs.bench_recovers.Goals as goal
 
 pub returns : goal.returns
-returns c = bench-recovers
+returns c = bench_recovers

@@ -3,9 +3,9 @@ use mathlib.Core.Path.{◌∙◌, sym, ◌≡◌}
 use lib.ListN.{length}
 use borrow.Author.Tests.{leb-true}
 use native.Mathlib.Omega.{arith}
-use Rattle.lines.proofs.Paste.{sets-part}
-use Rattle.rules.proofs.Codec.Bytes.{length-words}
-use Rattle.lines.proofs.Room.{put-room}
+use Rattle.lines.proofs.Paste.{sets_part}
+use Rattle.rules.proofs.Codec.Bytes.{length_words}
+use Rattle.lines.proofs.Room.{put_room}
 use Rattle.lines.specs.Room.{put_at}
 use Rattle.rules.specs.Bytes.{line_bytes}
 use borrow.Author.Rules.{rules}
@@ -35,9 +35,9 @@ pub returns-then-has_room : goal.returns-then-has_room
 returns-then-has_room c =
     let room : c.args.a + 64 ≤ length c.args.dst.now = leb-true _ _ (sym c.has_room.ensures ∙ c.if-has_room.true) in
     let bs = line_bytes c.args.line in
-    let l : length bs ≡ 64 = length-words 8 c.args.line in
+    let l : length bs ≡ 64 = length_words 8 c.args.line in
     let h = room in
-    rw (c.put_line.ensures, put-room 64 c.args.dst.now c.args.a bs h) (sets-part c.args.dst.now c.args.a (c.args.a + 64 - c.args.a) bs (omega arith) (omega arith))
+    rw (c.put_line.ensures, put_room 64 c.args.dst.now c.args.a bs h) (sets_part c.args.dst.now c.args.a (c.args.a + 64 - c.args.a) bs (omega arith) (omega arith))
 
 pub returns-else-has_room : goal.returns-else-has_room
 unfolding put_at

@@ -1,8 +1,8 @@
 -- `listing::listing_is_right` meets its contract, which is what holds of the layout.
 use Rattle.listing.proofs.Cases.{worked}
 use Rattle.listing.proofs.Lengths.{fixed}
-use Rattle.listing.proofs.One.{one-tables}
+use Rattle.listing.proofs.One.{one_tables}
 use Rattle.listing.proofs.listing_is_right.Goals as goal
 
 pub returns : goal.returns
-returns c = (fixed, (worked, one-tables))
+returns c = (fixed, (worked, one_tables))

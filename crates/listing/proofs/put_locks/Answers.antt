@@ -1,4 +1,4 @@
-use Rattle.listing.proofs.Bytes.{map-end, map_next}
+use Rattle.listing.proofs.Bytes.{map_end, map_next}
 use Rattle.output.specs.Room.{room}
 use mathlib.Core.Path.{◌∙◌, refl, sym}
 use borrow.Author.Rules.{rules}
@@ -14,4 +14,4 @@ pub shape_of-out : goal.shape_of-out
 shape_of-out c = c.loop-i.invariant.1.0
 
 pub returns : goal.returns
-returns c = let at = c.loop-i in sym (map-end (room at.out at.q) c.args.lock.now at.i (search rules)) ∙ at.invariant.1.1
+returns c = let at = c.loop-i in sym (map_end (room at.out at.q) c.args.lock.now at.i (search rules)) ∙ at.invariant.1.1

@@ -1,4 +1,4 @@
-use Rattle.listing.proofs.Bytes.{flat-end, flat-next}
+use Rattle.listing.proofs.Bytes.{flat_end, flat_next}
 use Rattle.output.specs.Room.{room}
 use Rattle.listing.specs.Layout.{slot_bytes}
 use Rattle.rules.specs.Tables.{no_slot}
@@ -10,10 +10,10 @@ pub loop-i-init : goal.loop-i-init
 loop-i-init c = (search rules, (refl, refl))
 
 pub loop-i-preserved : goal.loop-i-preserved
-loop-i-preserved c = let at = c.loop-i in let p = c.put_slot-q in (search rules, (p.auto.out ∙ at.invariant.1.0, rw p.ensures (sym (flat-next slot_bytes (room at.out at.q) c.args.slots at.i no_slot (search rules)) ∙ at.invariant.1.1)))
+loop-i-preserved c = let at = c.loop-i in let p = c.put_slot-q in (search rules, (p.auto.out ∙ at.invariant.1.0, rw p.ensures (sym (flat_next slot_bytes (room at.out at.q) c.args.slots at.i no_slot (search rules)) ∙ at.invariant.1.1)))
 
 pub shape_of-out : goal.shape_of-out
 shape_of-out c = c.loop-i.invariant.1.0
 
 pub returns : goal.returns
-returns c = let at = c.loop-i in sym (flat-end slot_bytes (room at.out at.q) c.args.slots at.i (search rules)) ∙ at.invariant.1.1
+returns c = let at = c.loop-i in sym (flat_end slot_bytes (room at.out at.q) c.args.slots at.i (search rules)) ∙ at.invariant.1.1

@@ -1,5 +1,5 @@
 use Rattle.events.proofs.Records.{stands}
-use Rattle.printing.proofs.Records.{line-puts, whole-line}
+use Rattle.printing.proofs.Records.{line_puts, whole_line}
 use Rattle.lines.proofs.Paste.{rest}
 use lib.ListN.{length-drop}
 use native.Mathlib.Omega.{arith}
@@ -18,4 +18,4 @@ pub put_body-p-requires : goal.put_body-p-requires
 put_body-p-requires c = rw (rest c.args.r.now 1, length-drop) (stands c.args.r.now c.requires).room_for
 
 pub returns : goal.returns
-returns c = let r = c.args.r.now in let b = rw (rest r 1) at c.put_body-p.ensures in rw (whole-line r c.requires, line-puts) cc
+returns c = let r = c.args.r.now in let b = rw (rest r 1) at c.put_body-p.ensures in rw (whole_line r c.requires, line_puts) cc

@@ -3,14 +3,14 @@ use Prim.Native.Nat.{◌-◌, ◌≤◌, ℕ}
 use native.Mathlib.Omega.{arith}
 use lib.ListN.{get_or-eq_default}
 use mathlib.Core.List.{[], ◌∷◌}
-use Rattle.reading.proofs.Tests.{few-held}
+use Rattle.reading.proofs.Tests.{few_held}
 use Rattle.reading.proofs.body_length.Goals as goal
 
 pub overflow_mul-result : goal.overflow_mul-result
-overflow_mul-result c = record { fits = omega (arith, few-held c.args.kind, c.held_by.ensures) }
+overflow_mul-result c = record { fits = omega (arith, few_held c.args.kind, c.held_by.ensures) }
 
 pub overflow_add-result : goal.overflow_add-result
-overflow_add-result c = record { fits = omega (arith, few-held c.args.kind, c.held_by.ensures) }
+overflow_add-result c = record { fits = omega (arith, few_held c.args.kind, c.held_by.ensures) }
 
 pub returns-then-is_header : goal.returns-then-is_header
 returns-then-is_header c = let h = sym c.is_header.ensures ∙ c.if-is_header.true in rw (h, rw h at c.held_by.ensures)

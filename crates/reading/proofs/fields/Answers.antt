@@ -1,7 +1,7 @@
 use mathlib.Core.Path.{◌∙◌, sym}
 use borrow.Author.Tests.{ne_eqb}
 use Rattle.reading.specs.Item.{fields_item}
-use Rattle.reading.proofs.Tests.{log-body}
+use Rattle.reading.proofs.Tests.{log_body}
 use Rattle.reading.proofs.fields.Goals as goal
 
 pub head-requires : goal.head-requires
@@ -23,7 +23,7 @@ unfolding fields_item
 returns-then-k-eq34 c = rw (c.if-k-eq34.true, c.region.ensures, c.listed_at.ensures)
 
 pub entries-requires : goal.entries-requires
-entries-requires c = rw (log-body c.args.k (sym c.is_log_kind.ensures ∙ c.if-is_log_kind.true)) at c.requires
+entries-requires c = rw (log_body c.args.k (sym c.is_log_kind.ensures ∙ c.if-is_log_kind.true)) at c.requires
 
 pub returns-then-is_log_kind : goal.returns-then-is_log_kind
 unfolding fields_item

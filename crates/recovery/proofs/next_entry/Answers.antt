@@ -4,11 +4,11 @@ use mathlib.Core.Path.{◌∙◌, ◌≡◌, sym}
 use mathlib.Core.Bool.{Bool, true}
 use mathlib.Core.List.{List}
 use native.Mathlib.Omega.{arith}
-use Rattle.lines.proofs.Room.{line-room}
+use Rattle.lines.proofs.Room.{line_room}
 use Rattle.rules.specs.Marks.{no_mark}
 use Rattle.reading.specs.declared.Read.{Read}
-use Rattle.recovery.proofs.Places.{all-bytes}
-use Rattle.recovery.proofs.Leaves.{at_small, index-small, logged-small, next_more, next_past, next-refused, old-room}
+use Rattle.recovery.proofs.Places.{all_bytes}
+use Rattle.recovery.proofs.Leaves.{at_small, index_small, logged_small, next_more, next_past, next_refused, old_room}
 use Rattle.recovery.specs.Places.{found_at}
 use Rattle.rules.specs.Claim.{is_byte}
 use Rattle.rules.specs.Lists.{all}
@@ -21,8 +21,8 @@ returns-then-read-ne0 c =
     let read : Read = c.read_image-read.result in
     let place : ℕ = c.args.at in
     let form : Bool = c.args.headed in
-    let bytes : all is_byte (image) ≡ true = all-bytes (image) (λ i. (c.shared_slice_known-1.given i).fits) in
-    rw c.no_entry.ensures (next-refused (form) (image) (bytes) (read) c.read_image-read.ensures (place) c.if-read-ne0.true)
+    let bytes : all is_byte (image) ≡ true = all_bytes (image) (λ i. (c.shared_slice_known-1.given i).fits) in
+    rw c.no_entry.ensures (next_refused (form) (image) (bytes) (read) c.read_image-read.ensures (place) c.if-read-ne0.true)
 
 pub returns-in_default : goal.returns-in_default
 returns-in_default c =
@@ -30,7 +30,7 @@ returns-in_default c =
     let read : Read = c.read_image-read.result in
     let place : ℕ = c.args.at in
     let form : Bool = c.args.headed in
-    let bytes : all is_byte (image) ≡ true = all-bytes (image) (λ i. (c.shared_slice_known-1.given i).fits) in
+    let bytes : all is_byte (image) ≡ true = all_bytes (image) (λ i. (c.shared_slice_known-1.given i).fits) in
     let f = sym (rw c.order_of-order.ensures at c.found_at-found.ensures) ∙ c.in_default.is in
     rw c.no_entry-in_default.ensures (next_past (form) (image) (bytes) (read) c.read_image-read.ensures (place) c.if-read-ne0.false f)
 
@@ -40,13 +40,13 @@ offset_bounds-log-i c =
     let read : Read = c.read_image-read.result in
     let place : ℕ = c.args.at in
     let form : Bool = c.args.headed in
-    let bytes : all is_byte (image) ≡ true = all-bytes (image) (λ i. (c.shared_slice_known-1.given i).fits) in
+    let bytes : all is_byte (image) ≡ true = all_bytes (image) (λ i. (c.shared_slice_known-1.given i).fits) in
     let index : ℕ = c.in-At.i in
     let accepted : (read).refusal ≡ 0 = c.if-read-ne0.false in
     let found : found_at (read).scan (place) ≡ At (index) = sym (rw c.order_of-order.ensures at c.found_at-found.ensures)
     ∙ c.in-At.is in
-    let few : (read).scan.logged ≤ 256 = logged-small (form) (image) (bytes) (read) c.read_image-read.ensures (place) (accepted) in
-    let inside : index < (read).scan.logged = index-small (form) (image) (bytes) (read) c.read_image-read.ensures (place) (accepted) (index) (found) in
+    let few : (read).scan.logged ≤ 256 = logged_small (form) (image) (bytes) (read) c.read_image-read.ensures (place) (accepted) in
+    let inside : index < (read).scan.logged = index_small (form) (image) (bytes) (read) c.read_image-read.ensures (place) (accepted) (index) (found) in
     record { fits = omega (arith, few, inside) }
 
 pub bounds-log-i : goal.bounds-log-i
@@ -55,13 +55,13 @@ bounds-log-i c =
     let read : Read = c.read_image-read.result in
     let place : ℕ = c.args.at in
     let form : Bool = c.args.headed in
-    let bytes : all is_byte (image) ≡ true = all-bytes (image) (λ i. (c.shared_slice_known-1.given i).fits) in
+    let bytes : all is_byte (image) ≡ true = all_bytes (image) (λ i. (c.shared_slice_known-1.given i).fits) in
     let index : ℕ = c.in-At.i in
     let accepted : (read).refusal ≡ 0 = c.if-read-ne0.false in
     let found : found_at (read).scan (place) ≡ At (index) = sym (rw c.order_of-order.ensures at c.found_at-found.ensures)
     ∙ c.in-At.is in
-    let few : (read).scan.logged ≤ 256 = logged-small (form) (image) (bytes) (read) c.read_image-read.ensures (place) (accepted) in
-    let inside : index < (read).scan.logged = index-small (form) (image) (bytes) (read) c.read_image-read.ensures (place) (accepted) (index) (found) in
+    let few : (read).scan.logged ≤ 256 = logged_small (form) (image) (bytes) (read) c.read_image-read.ensures (place) (accepted) in
+    let inside : index < (read).scan.logged = index_small (form) (image) (bytes) (read) c.read_image-read.ensures (place) (accepted) (index) (found) in
     omega (arith, few, inside)
 
 pub overflow_add-after : goal.overflow_add-after
@@ -70,7 +70,7 @@ overflow_add-after c =
     let read : Read = c.read_image-read.result in
     let place : ℕ = c.args.at in
     let form : Bool = c.args.headed in
-    let bytes : all is_byte (image) ≡ true = all-bytes (image) (λ i. (c.shared_slice_known-1.given i).fits) in
+    let bytes : all is_byte (image) ≡ true = all_bytes (image) (λ i. (c.shared_slice_known-1.given i).fits) in
     let index : ℕ = c.in-At.i in
     let accepted : (read).refusal ≡ 0 = c.if-read-ne0.false in
     let found : found_at (read).scan (place) ≡ At (index) = sym (rw c.order_of-order.ensures at c.found_at-found.ensures)
@@ -84,7 +84,7 @@ returns c =
     let read : Read = c.read_image-read.result in
     let place : ℕ = c.args.at in
     let form : Bool = c.args.headed in
-    let bytes : all is_byte (image) ≡ true = all-bytes (image) (λ i. (c.shared_slice_known-1.given i).fits) in
+    let bytes : all is_byte (image) ≡ true = all_bytes (image) (λ i. (c.shared_slice_known-1.given i).fits) in
     let index : ℕ = c.in-At.i in
     let accepted : (read).refusal ≡ 0 = c.if-read-ne0.false in
     let found : found_at (read).scan (place) ≡ At (index) = sym (rw c.order_of-order.ensures at c.found_at-found.ensures)
@@ -92,7 +92,7 @@ returns c =
     rw (
       c.more-left.ensures,
       c.take_line-old.ensures,
-      line-room (image) _ (old-room (form) (image) (bytes) (read) c.read_image-read.ensures (place) (accepted) (index) (found) no_mark),
+      line_room (image) _ (old_room (form) (image) (bytes) (read) c.read_image-read.ensures (place) (accepted) (index) (found) no_mark),
     )
     (next_more (form) (image) (bytes) (read) c.read_image-read.ensures (place) (accepted) (index) (found) no_mark _
     (rw c.order_of-order.ensures at c.found_at.ensures))

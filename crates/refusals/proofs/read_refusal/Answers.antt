@@ -3,7 +3,7 @@ use native.Mathlib.Omega.{arith}
 use Rattle.std.proofs.lemmas.Bool.Decides.{nat_tests}
 use Rattle.rules.specs.Refusal.{refusal, tests_of}
 use Rattle.rows.specs.Whole.{tables_of}
-use Rattle.refusals.proofs.Laws.{asked, last-below}
+use Rattle.refusals.proofs.Laws.{asked, last_below}
 use Rattle.refusals.proofs.read_refusal.Goals as goal
 
 pub returns-then-c-ne0 : goal.returns-then-c-ne0
@@ -18,7 +18,7 @@ returns-then-is_foreign c =
     let s = c.args in
     λ lock.
     let ts = tables_of s.h s.threads.now s.regions.now s.owner.now lock in
-    grind (arith, nat_tests, c.access_refusal-c.ensures 0 s.regions.now s.owner.now lock, asked _ s.l _ ts c.current-k.ensures _ c.last_writer-x.ensures (last-below s.threads.now s.t))
+    grind (arith, nat_tests, c.access_refusal-c.ensures 0 s.regions.now s.owner.now lock, asked _ s.l _ ts c.current-k.ensures _ c.last_writer-x.ensures (last_below s.threads.now s.t))
 
 pub returns-then-lacks_dep : goal.returns-then-lacks_dep
 unfolding refusal tests_of
@@ -26,7 +26,7 @@ returns-then-lacks_dep c =
     let s = c.args in
     λ lock.
     let ts = tables_of s.h s.threads.now s.regions.now s.owner.now lock in
-    grind (arith, nat_tests, c.access_refusal-c.ensures 0 s.regions.now s.owner.now lock, asked _ s.l _ ts c.current-k.ensures _ c.last_writer-x.ensures (last-below s.threads.now s.t))
+    grind (arith, nat_tests, c.access_refusal-c.ensures 0 s.regions.now s.owner.now lock, asked _ s.l _ ts c.current-k.ensures _ c.last_writer-x.ensures (last_below s.threads.now s.t))
 
 pub returns-else-lacks_dep : goal.returns-else-lacks_dep
 unfolding refusal tests_of
@@ -34,4 +34,4 @@ returns-else-lacks_dep c =
     let s = c.args in
     λ lock.
     let ts = tables_of s.h s.threads.now s.regions.now s.owner.now lock in
-    grind (arith, nat_tests, c.access_refusal-c.ensures 0 s.regions.now s.owner.now lock, asked _ s.l _ ts c.current-k.ensures _ c.last_writer-x.ensures (last-below s.threads.now s.t))
+    grind (arith, nat_tests, c.access_refusal-c.ensures 0 s.regions.now s.owner.now lock, asked _ s.l _ ts c.current-k.ensures _ c.last_writer-x.ensures (last_below s.threads.now s.t))

@@ -40,45 +40,45 @@ module _ {S : Type 0} (ok : ℕ → Bool) where
   either b x y e f = test b (λ t. rw t e) (λ t. rw t f)
 
 module _ (ok : ℕ → Bool) (h : ImageRefusals ok) where
-  listed-stops : (p : Persistent) (r : Listed) → stops_by ok (listed_turn p r) ≡ true
+  listed_stops : (p : Persistent) (r : Listed) → stops_by ok (listed_turn p r) ≡ true
   unfolding listed_turn
-  listed-stops p r =
+  listed_stops p r =
       either ok (all (is_known_thread p.threads) (r.key ∷ r.deps)) _ (Stop 3)
       (either ok (eqb (length p.regions) 0 || ltb (last_listed p.regions) r.key) _ (Stop 7)
       (either ok (ltb (length p.regions) 32) (Next _) (Stop 7) refl h.seven) h.seven) h.three
 
-  logged-stops : (p : Persistent) (e : Logged) → stops_by ok (logged_turn p e) ≡ true
+  logged_stops : (p : Persistent) (e : Logged) → stops_by ok (logged_turn p e) ≡ true
   unfolding logged_turn
-  logged-stops p e =
+  logged_stops p e =
       either ok (is_known_thread p.threads e.key) _ (Stop 3)
       (either ok (ltb e.line p.lines) _ (Stop 4)
       (either ok (leb (last_logged p.log) e.key) _ (Stop 7)
       (either ok (ltb (count (is_logged_by (thread_of e.key)) p.log) 32) (Next _) (Stop 7) refl h.seven) h.seven) h.four) h.three
 
-  pub fields-stop : (p : Persistent) (k : ℕ) (bs : List ℕ) → stops_by ok (fields_turn p k bs) ≡ true
+  pub fields_stop : (p : Persistent) (k : ℕ) (bs : List ℕ) → stops_by ok (fields_turn p k bs) ≡ true
   unfolding fields_turn head_turn line_turn end_turn
-  fields-stop p k bs =
+  fields_stop p k bs =
       either ok (eqb k 32) _ _ (either ok (in_range (get_or bs 0 0) (num_of (take 2 (drop 1 bs)))) (Next _) (Stop 6) refl h.six)
       (either ok (eqb k 33) (Next _) _ refl
-      (either ok (eqb k 34) (listed_turn p (listed_at bs)) _ (listed-stops p (listed_at bs))
-      (either ok (eqb k 35) (logged_turn p (logged_at bs)) _ (logged-stops p (logged_at bs))
+      (either ok (eqb k 34) (listed_turn p (listed_at bs)) _ (listed_stops p (listed_at bs))
+      (either ok (eqb k 35) (logged_turn p (logged_at bs)) _ (logged_stops p (logged_at bs))
       (either ok (eqb (length bs) 0) (Last p) (Stop 7) refl h.seven))))
 
-  turn-stops : (p : Persistent) (k : ℕ) (bs : List ℕ) → stops_by ok (turn_of p (k ∷ bs)) ≡ true
+  turn_stops : (p : Persistent) (k : ℕ) (bs : List ℕ) → stops_by ok (turn_of p (k ∷ bs)) ≡ true
   unfolding turn_by
-  turn-stops p k bs =
+  turn_stops p k bs =
       either ok (is_image_kind k) _ (Stop 2)
-      (either ok (is_placed p k) _ (Stop 7) (either ok (leb (image_body k) (length bs)) _ (Stop 1) (fields-stop p k bs) h.one) h.seven) h.two
+      (either ok (is_placed p k) _ (Stop 7) (either ok (leb (image_body k) (length bs)) _ (Stop 1) (fields_stop p k bs) h.one) h.seven) h.two
 
-  pub records-refuse : (bs : List ℕ) → refuses_by ok (records_read nothing 0 bs) ≡ true
-  records-refuse bs =
-      along turn_of image_body (λ p bs. Unit {0}) (λ v. refuses_by ok v ≡ true) h.one (λ p n b bs g t. rw t at (turn-stops p b bs)) (λ p q b bs g t. tt) (λ p q b bs g t. refl) bs 0 nothing tt
+  pub records_refuse : (bs : List ℕ) → refuses_by ok (records_read nothing 0 bs) ≡ true
+  records_refuse bs =
+      along turn_of image_body (λ p bs. Unit {0}) (λ v. refuses_by ok v ≡ true) h.one (λ p n b bs g t. rw t at (turn_stops p b bs)) (λ p q b bs g t. tt) (λ p q b bs g t. refl) bs 0 nothing tt
 
   -- 8 is one of them
-  pub unless-refuses : (v : Verdict Persistent) → refuses_by ok v ≡ true → refuses_by ok (unless_contradicted v) ≡ true
-  unless-refuses (Refuses n) e = e
-  unless-refuses (Reads p) e = test (contradicts p) (λ c. rw c h.eight) (λ c. rw c)
+  pub unless_refuses : (v : Verdict Persistent) → refuses_by ok v ≡ true → refuses_by ok (unless_contradicted v) ≡ true
+  unless_refuses (Refuses n) e = e
+  unless_refuses (Reads p) e = test (contradicts p) (λ c. rw c h.eight) (λ c. rw c)
 
-  pub image-refuses : (bs : List ℕ) → refuses_by ok (read_image bs) ≡ true
+  pub image_refuses : (bs : List ℕ) → refuses_by ok (read_image bs) ≡ true
   unfolding read_image
-  image-refuses bs = unless-refuses (records_read nothing 0 bs) (records-refuse bs)
+  image_refuses bs = unless_refuses (records_read nothing 0 bs) (records_refuse bs)

@@ -29,17 +29,17 @@ module _ {A : Type 0} (f : A → ℕ) (d : ℕ) where
   bound k [] = k
   bound k (x ∷ xs) = bound (d + f x) xs
 
-  pub rises-append : (k : ℕ) (xs ys : List A) → rises k (xs ++ ys) ≡ (rises k xs && rises (bound k xs) ys)
-  rises-append k [] ys = refl
-  rises-append k (x ∷ xs) ys = test (leb k (f x)) (λ e. rw e (rises-append (d + f x) xs ys)) (λ e. rw e)
+  pub rises_append : (k : ℕ) (xs ys : List A) → rises k (xs ++ ys) ≡ (rises k xs && rises (bound k xs) ys)
+  rises_append k [] ys = refl
+  rises_append k (x ∷ xs) ys = test (leb k (f x)) (λ e. rw e (rises_append (d + f x) xs ys)) (λ e. rw e)
 
   -- it is d above the last one
-  pub bound-last : (k : ℕ) (x : A) (xs : List A) (z : A) → bound k (x ∷ xs) ≡ d + f (get_or (x ∷ xs) (length (x ∷ xs) - 1) z)
-  bound-last k x [] z = refl
-  bound-last k x (y ∷ ys) z =
+  pub bound_last : (k : ℕ) (x : A) (xs : List A) (z : A) → bound k (x ∷ xs) ≡ d + f (get_or (x ∷ xs) (length (x ∷ xs) - 1) z)
+  bound_last k x [] z = refl
+  bound_last k x (y ∷ ys) z =
       let a : suc (suc (length ys)) - 1 ≡ suc (length ys) = omega arith in
       let b : suc (length ys) - 1 ≡ length ys = omega arith in
-      rw a (rw b at (bound-last (d + f x) y ys z))
+      rw a (rw b at (bound_last (d + f x) y ys z))
 
 -- ---- regions and log entries that fit their records
 
@@ -74,25 +74,25 @@ Valid p = Sound p p.lines
 
 -- ---- the reader's tests of the order are the same
 
-pub listed-test : (rs : List Listed) (k : ℕ) → (eqb (length rs) 0 || ltb (last_listed rs) k) ≡ leb (bound key_of_listed 1 0 rs) k
-listed-test [] k = sym (le-leb 0 k (omega arith))
-listed-test (r ∷ rs) k =
+pub listed_test : (rs : List Listed) (k : ℕ) → (eqb (length rs) 0 || ltb (last_listed rs) k) ≡ leb (bound key_of_listed 1 0 rs) k
+listed_test [] k = sym (le-leb 0 k (omega arith))
+listed_test (r ∷ rs) k =
     let e : eqb (suc (length rs)) 0 ≡ false = ne_eqb (suc (length rs)) 0 (λ e. omega arith) in
-    let b : bound key_of_listed 1 0 (r ∷ rs) ≡ suc (last_listed (r ∷ rs)) = bound-last key_of_listed 1 0 r rs no_listed ∙ omega arith in
+    let b : bound key_of_listed 1 0 (r ∷ rs) ≡ suc (last_listed (r ∷ rs)) = bound_last key_of_listed 1 0 r rs no_listed ∙ omega arith in
     rw (e, b)
 
-pub logged-test : (es : List Logged) (k : ℕ) → leb (last_logged es) k ≡ leb (bound key_of_logged 0 0 es) k
-logged-test [] k = refl
-logged-test (e ∷ es) k =
-    let b : bound key_of_logged 0 0 (e ∷ es) ≡ last_logged (e ∷ es) = bound-last key_of_logged 0 0 e es no_logged ∙ omega arith in
+pub logged_test : (es : List Logged) (k : ℕ) → leb (last_logged es) k ≡ leb (bound key_of_logged 0 0 es) k
+logged_test [] k = refl
+logged_test (e ∷ es) k =
+    let b : bound key_of_logged 0 0 (e ∷ es) ≡ last_logged (e ∷ es) = bound_last key_of_logged 0 0 e es no_logged ∙ omega arith in
     rw b
 
 -- ---- counts
 
 module _ {A : Type 0} (p : A → Bool) where
-  pub count-append : (xs ys : List A) → count p (xs ++ ys) ≡ count p xs + count p ys
+  pub count_append : (xs ys : List A) → count p (xs ++ ys) ≡ count p xs + count p ys
   unfolding count
-  count-append [] ys = omega arith
-  count-append (x ∷ xs) ys =
-      let ih = count-append xs ys in
+  count_append [] ys = omega arith
+  count_append (x ∷ xs) ys =
+      let ih = count_append xs ys in
       test (p x) (λ e. rw (e, ih) (omega arith)) (λ e. rw (e, ih))

@@ -14,7 +14,7 @@ use lib.ListN.{get_or, length, length-set, set}
 use native.Mathlib.Omega.{arith}
 use borrow.Author.Tests.{leb-true, ne_eqb}
 use Rattle.rules.proofs.Places.{eqb_swap}
-use Rattle.rules.proofs.Lists.{get_or-set}
+use Rattle.rules.proofs.Lists.{get_or_set}
 use Rattle.rules.proofs.Sim.State.{GoodEntry, GoodRegions, GoodThreads, Logs, Looks, Memories, Rest, Shape, Sim, Told, conv}
 use Rattle.rules.proofs.Views.{entry_at}
 use Rattle.rules.specs.History.{Account, Change, depth_in, ends_in, last_writer, lines_in, opened_in, read_in, uses_in, writes_in}
@@ -26,17 +26,17 @@ use Rattle.rules.specs.declared.Tables.{Tables}
 use Rattle.rules.specs.declared.Thread.{Thread}
 use Rattle.serial.specs.Looks.{Look}
 use Rattle.undo.proofs.Inv.{owner}
-use Rattle.undo.proofs.Laws.{and-true, is_same, test}
+use Rattle.undo.proofs.Laws.{and_true, is_same, test}
 use Rattle.undo.proofs.Steps.{reached}
 use Rattle.undo.specs.Claim.{Reach}
 
 -- ---- keys
 
-pub key-thread : (t n : ℕ) → n < 65536 → thread_of (key_of t n) ≡ t
-key-thread t n h = omega arith
+pub key_thread : (t n : ℕ) → n < 65536 → thread_of (key_of t n) ≡ t
+key_thread t n h = omega arith
 
-pub key-number : (t n : ℕ) → n < 65536 → number_of (key_of t n) ≡ n
-key-number t n h = omega arith
+pub key_number : (t n : ℕ) → n < 65536 → number_of (key_of t n) ≡ n
+key_number t n h = omega arith
 
 pub key_split : (k : ℕ) → key_of (thread_of k) (number_of k) ≡ k
 key_split k = omega arith
@@ -44,44 +44,44 @@ key_split k = omega arith
 -- ---- threads
 
 -- at most 8 threads
-pub threads-8 : (ts : Tables) → Shape ts → ts.size.threads ≤ 8
-threads-8 ts sh =
+pub threads_8 : (ts : Tables) → Shape ts → ts.size.threads ≤ 8
+threads_8 ts sh =
     test (is_set_up ts)
-    (λ e. let z = and-true (leb 1 ts.size.threads && leb ts.size.threads 8) (leb 1 ts.size.lines && leb ts.size.lines 256) e in
-    leb-true ts.size.threads 8 (and-true (leb 1 ts.size.threads) (leb ts.size.threads 8) z.0).1)
+    (λ e. let z = and_true (leb 1 ts.size.threads && leb ts.size.threads 8) (leb 1 ts.size.lines && leb ts.size.lines 256) e in
+    leb-true ts.size.threads 8 (and_true (leb 1 ts.size.threads) (leb ts.size.threads 8) z.0).1)
     (λ e. rw (sh.size e) (omega arith))
 
 -- at most 256 lines once set up
-pub lines-256 : (ts : Tables) → is_set_up ts ≡ true → ts.size.lines ≤ 256
-lines-256 ts e =
-    let z = and-true (leb 1 ts.size.threads && leb ts.size.threads 8) (leb 1 ts.size.lines && leb ts.size.lines 256) e in
-    leb-true ts.size.lines 256 (and-true (leb 1 ts.size.lines) (leb ts.size.lines 256) z.1).1
+pub lines_256 : (ts : Tables) → is_set_up ts ≡ true → ts.size.lines ≤ 256
+lines_256 ts e =
+    let z = and_true (leb 1 ts.size.threads && leb ts.size.threads 8) (leb 1 ts.size.lines && leb ts.size.lines 256) e in
+    leb-true ts.size.lines 256 (and_true (leb 1 ts.size.lines) (leb ts.size.lines 256) z.1).1
 
-pub thread-stored : (t : ℕ) (th : Thread) (ts : Tables) → t < length ts.threads → (k : ℕ) → thread_at k (with_thread t th ts) ≡ cond (eqb k t) th (thread_at k ts)
-thread-stored t th ts h k = get_or-set ts.threads t k th no_thread h
+pub thread_stored : (t : ℕ) (th : Thread) (ts : Tables) → t < length ts.threads → (k : ℕ) → thread_at k (with_thread t th ts) ≡ cond (eqb k t) th (thread_at k ts)
+thread_stored t th ts h k = get_or_set ts.threads t k th no_thread h
 
 -- ---- the tables with other sizes, clock and threads
 
 abbrev pub alter : Size → Bool → ℕ → List Thread → Tables → Tables
 alter z c n ths ts = with_size z (with_cut c (with_clock n (with_threads ths ts)))
 
-pub memories-same : {b : Board} (ts : Tables) → Memories b → Memories (with_tables ts b)
-memories-same ts m =
+pub memories_same : {b : Board} (ts : Tables) → Memories b → Memories (with_tables ts b)
+memories_same ts m =
     record {
       cur = m.cur;
       med = m.med;
       old = m.old;
       car = m.car;
-      cur-lines = m.cur-lines;
-      med-lines = m.med-lines;
-      old-lines = m.old-lines;
-      car-lines = m.car-lines;
+      cur_lines = m.cur_lines;
+      med_lines = m.med_lines;
+      old_lines = m.old_lines;
+      car_lines = m.car_lines;
     }
 
 -- the log is as it was
-pub logs-same : {b b' : Board} {s : u.State (List ℕ)} → ((t : ℕ) → (thread_at t b'.tables).log ≡ (thread_at t b.tables).log) → b'.old ≡ b.old
+pub logs_same : {b b' : Board} {s : u.State (List ℕ)} → ((t : ℕ) → (thread_at t b'.tables).log ≡ (thread_at t b.tables).log) → b'.old ≡ b.old
     → b'.tables.size.lines ≡ b.tables.size.lines → Logs b s → Logs b' s
-logs-same {b} {b'} {s} f o z g =
+logs_same {b} {b'} {s} f o z g =
     record {
       entry = λ t i n. rw (f t) (good t i (entry_at t i b.tables) (g.entry t i (rw (f t) at n)));
       empty = λ t i e. rw (f t) (g.empty t i (rw (f t) at e));
@@ -95,9 +95,9 @@ logs-same {b} {b'} {s} f o z g =
         record { thread = x.thread; line = rw z x.line; rank = rw (f t) x.rank; old = rw o x.old; flight = x.flight }
 
 -- thread t, which is in use, is stored anew
-pub threads-stored : (t : ℕ) (th : Thread) (ts : Tables) → t < ts.size.threads → length th.log ≡ 32 → Shape ts
+pub threads_stored : (t : ℕ) (th : Thread) (ts : Tables) → t < ts.size.threads → length th.log ≡ 32 → Shape ts
     → GoodThreads ts.size.threads (set ts.threads t th)
-threads-stored t th ts h e sh =
+threads_stored t th ts h e sh =
     record {
       count = length-set ts.threads t th ∙ sh.threads.count;
       logs = λ k. rw (at k) (test (eqb k t) (λ d. rw d e) (λ d. rw d (sh.threads.logs k)));
@@ -105,23 +105,23 @@ threads-stored t th ts h e sh =
     }
   where
     at : (k : ℕ) → thread_at k (with_thread t th ts) ≡ cond (eqb k t) th (thread_at k ts)
-    at = thread-stored t th ts (omega (arith, threads-8 ts sh, sh.threads.count))
+    at = thread_stored t th ts (omega (arith, threads_8 ts sh, sh.threads.count))
 
 -- the tables after an event that is neither setup nor cut: what its regions, threads, owners and locks are to be
-pub shape-kept : (ts ts' : Tables) → ts'.size ≡ ts.size → ts'.cut ≡ ts.cut → GoodRegions ts'.regions → GoodThreads ts.size.threads ts'.threads
+pub shape_kept : (ts ts' : Tables) → ts'.size ≡ ts.size → ts'.cut ≡ ts.cut → GoodRegions ts'.regions → GoodThreads ts.size.threads ts'.threads
     → length ts'.owner ≡ 256 → length ts'.lock ≡ 256 → Shape ts → Shape ts'
-shape-kept ts ts' z c rs ths ow lo sh =
+shape_kept ts ts' z c rs ths ow lo sh =
     record {
       regions = rs;
       threads = rw z ths;
       owner = ow;
       lock = lo;
       size = rw z sh.size;
-      cut-setup = rw (z, c) sh.cut-setup;
+      cut_setup = rw (z, c) sh.cut_setup;
     }
 
-pub shape-thread : (t : ℕ) (th : Thread) (ts : Tables) → t < ts.size.threads → length th.log ≡ 32 → Shape ts → Shape (with_thread t th ts)
-shape-thread t th ts h e sh = shape-kept ts _ refl refl sh.regions (threads-stored t th ts h e sh) sh.owner sh.lock sh
+pub shape_thread : (t : ℕ) (th : Thread) (ts : Tables) → t < ts.size.threads → length th.log ≡ 32 → Shape ts → Shape (with_thread t th ts)
+shape_thread t th ts h e sh = shape_kept ts _ refl refl sh.regions (threads_stored t th ts h e sh) sh.owner sh.lock sh
 
 -- ---- the history
 
@@ -141,10 +141,10 @@ pub no_change : (es : List Account) → Alike es es
 no_change es =
     record { opened = λ t. refl; inside = λ t n. n; outside = λ t n. n; ends = refl; writes = refl; uses = refl; reads = λ t l. refl; looks = λ ks x. x }
 
-pub told-alike : {b b' : Board} {es es' : List Account} {s : u.State (List ℕ)} {h : v.History (List ℕ)} → Alike es es'
+pub told_alike : {b b' : Board} {es es' : List Account} {s : u.State (List ℕ)} {h : v.History (List ℕ)} → Alike es es'
     → ((t : ℕ) → (thread_at t b'.tables).depth ≡ depth_in t es') → ((t : ℕ) → (thread_at t b'.tables).last ≡ (thread_at t b.tables).last)
     → (is_set_up b'.tables ≡ true → lines_in es' ≡ b'.tables.size.lines) → b'.tables.owner ≡ b.tables.owner → Told b es s h → Told b' es' s h
-told-alike {b} {b'} {es} {es'} {s} {h} a f g n o i =
+told_alike {b} {b'} {es} {es'} {s} {h} a f g n o i =
     record {
       depth = f;
       last = λ t. rw (g t, a.opened t) (i.last t);
@@ -154,21 +154,21 @@ told-alike {b} {b'} {es} {es'} {s} {h} a f g n o i =
       ends = rw a.ends i.ends;
       writes = rw a.writes i.writes;
       uses = λ k q d. i.uses k q (rw a.uses at d);
-      open-last = λ k p. let z = i.open-last k p in (rw (a.opened (thread_of k)) z.0, a.inside (thread_of k) z.1);
-      last-open = λ t p. rw (a.opened t) (i.last-open t (a.outside t p));
+      open_last = λ k p. let z = i.open_last k p in (rw (a.opened (thread_of k)) z.0, a.inside (thread_of k) z.1);
+      last_open = λ t p. rw (a.opened t) (i.last_open t (a.outside t p));
       owner = λ l. rw (o, a.writes) (i.owner l);
     }
 
 -- ---- the relation when regions, owners and locks stay
 
-pub sim-alter : {b : Board} {es es' : List Account} {s : u.State (List ℕ)} {h : v.History (List ℕ)} (z : Size) (c : Bool) (n : ℕ) (ths : List Thread)
+pub sim_alter : {b : Board} {es es' : List Account} {s : u.State (List ℕ)} {h : v.History (List ℕ)} (z : Size) (c : Bool) (n : ℕ) (ths : List Thread)
     → Shape (alter z c n ths b.tables) → Logs (with_tables (alter z c n ths b.tables) b) s → Told (with_tables (alter z c n ths b.tables) b) es' s h
     → Sim b es s h → Sim (with_tables (alter z c n ths b.tables) b) es' s h
 unfolding owner_of
-sim-alter {b} z c n ths sh lg tl i =
+sim_alter {b} z c n ths sh lg tl i =
     record {
       shape = sh;
-      memories = memories-same (alter z c n ths b.tables) i.memories;
+      memories = memories_same (alter z c n ths b.tables) i.memories;
       logs = lg;
       told = tl;
       cur = i.cur;
@@ -182,8 +182,8 @@ sim-alter {b} z c n ths sh lg tl i =
       waits = i.waits;
     }
 
-pub rest-alter : {b : Board} (z : Size) (c : Bool) (n : ℕ) (ths : List Thread) → Rest b → Rest (with_tables (alter z c n ths b.tables) b)
-rest-alter z c n ths r = record { flown = r.flown; finished = r.finished; settled = r.settled }
+pub rest_alter : {b : Board} (z : Size) (c : Bool) (n : ℕ) (ths : List Thread) → Rest b → Rest (with_tables (alter z c n ths b.tables) b)
+rest_alter z c n ths r = record { flown = r.flown; finished = r.finished; settled = r.settled }
 
 -- ---- a line's last writer, in both histories
 
@@ -191,17 +191,17 @@ abbrev pub or_zero : o.Option ℕ → ℕ
 or_zero o.none = 0
 or_zero (o.some k) = k
 
-pub writer-same : (l : ℕ) (ws : List Change) → last_writer l ws ≡ or_zero (v.last_writer l (conv ws))
+pub writer_same : (l : ℕ) (ws : List Change) → last_writer l ws ≡ or_zero (v.last_writer l (conv ws))
 unfolding last_writer
-writer-same l [] = refl
-writer-same l (w ∷ ws) =
-    let ih = writer-same l ws in
+writer_same l [] = refl
+writer_same l (w ∷ ws) =
+    let ih = writer_same l ws in
     test (eqb l w.line) (λ d. rw (d, eqb_swap w.line l, d)) (λ d. rw (d, eqb_swap w.line l, d) ih)
 
 module _ {m : ℕ → List ℕ} {b : Board} {es : List Account} {s : u.State (List ℕ)} {h : v.History (List ℕ)} (rc : Reach m s h) (i : Sim b es s h) where
   -- a line's owner has begun, if it has one
-  pub owner-born : (l : ℕ) → (get_or b.tables.owner l 0 ≡ 0) ⊎ (s.born (get_or b.tables.owner l 0) ≡ true)
-  owner-born l = rw (i.told.owner l, writer-same l (writes_in es), ← i.told.writes) (go ((reached rc).last l) (λ r e. ((reached rc).listed l r e).0))
+  pub owner_born : (l : ℕ) → (get_or b.tables.owner l 0 ≡ 0) ⊎ (s.born (get_or b.tables.owner l 0) ≡ true)
+  owner_born l = rw (i.told.owner l, writer_same l (writes_in es), ← i.told.writes) (go ((reached rc).last l) (λ r e. ((reached rc).listed l r e).0))
     where
       go : {w : o.Option ℕ} {es : List (u.Entry (List ℕ))} → n.Last s.done w es → ((r : ℕ) → c.logged r es ≡ true → s.born r ≡ true)
           → (or_zero w ≡ 0) ⊎ (s.born (or_zero w) ≡ true)
@@ -210,8 +210,8 @@ module _ {m : ℕ → List ℕ} {b : Board} {es : List Account} {s : u.State (Li
       go (n.owner {q = q} {e = e} e') f = inr (f q (rw (e', is_same e.rid)))
 
 -- the log of a state with the same chains and locks
-pub logs-over : {b : Board} {s s' : u.State (List ℕ)} → ((l : ℕ) → s'.chain l ≡ s.chain l) → ((l : ℕ) → s'.lock l ≡ s.lock l) → Logs b s → Logs b s'
-logs-over {b} {s} {s'} f g lg =
+pub logs_over : {b : Board} {s s' : u.State (List ℕ)} → ((l : ℕ) → s'.chain l ≡ s.chain l) → ((l : ℕ) → s'.lock l ≡ s.lock l) → Logs b s → Logs b s'
+logs_over {b} {s} {s'} f g lg =
     record {
       entry = λ t i n. good t i (entry_at t i b.tables) (lg.entry t i n);
       empty = lg.empty;
@@ -231,5 +231,5 @@ logs-over {b} {s} {s'} f g lg =
         }
 
 -- a slot that is clear does not wait
-pub clear-waits : ◌≡◌ {A = u.Carry (List ℕ)} u.Clear u.Waits → ⊥
-clear-waits e = let z : ◌≡◌ {A = ℕ} 0 1 = cc in omega arith
+pub clear_waits : ◌≡◌ {A = u.Carry (List ℕ)} u.Clear u.Waits → ⊥
+clear_waits e = let z : ◌≡◌ {A = ℕ} 0 1 = cc in omega arith

@@ -10,14 +10,14 @@ use lib.Dec.{eqb}
 use lib.ListN.{get_or, length-map, length-set, set}
 use native.Mathlib.Omega.{arith}
 use borrow.Author.Tests.{eqb-false, eqb-true, leb-false, not-false}
-use Rattle.rules.proofs.Places.{Good, Unique, entry_at, key-at, listed_at, listed-key, listed-stored, region-stored}
-use Rattle.rules.proofs.Lists.{get_or-set, place-lt, place-true}
+use Rattle.rules.proofs.Places.{Good, Unique, entry_at, key_at, listed_at, listed_key, listed_stored, region_stored}
+use Rattle.rules.proofs.Lists.{get_or_set, place_lt, place_true}
 use Rattle.rules.proofs.Sim.State.{GoodRegion, Keeps, Kept, Memories, Sim, Simulated, by, other}
-use Rattle.rules.proofs.Sim.Base.{clear-waits, lines-256}
+use Rattle.rules.proofs.Sim.Base.{clear_waits, lines_256}
 use Rattle.rules.proofs.Sim.Commit.{settles}
-use Rattle.rules.proofs.Sim.Looks.{acted, marks-same, reach}
-use Rattle.rules.proofs.Sim.Parts.{Flown, Quiet, logs-kept, once-at, owner-stored, part-stored, rebuilt, shape-stored, told-kept}
-use Rattle.rules.proofs.SlotLaws.{distinct-dropped, dropped-none, flight-carried, flight-state, landed-dropped, state-dropped, state-dropped-other}
+use Rattle.rules.proofs.Sim.Looks.{acted, marks_same, reach}
+use Rattle.rules.proofs.Sim.Parts.{Flown, Quiet, logs_kept, once_at, owner_stored, part_stored, rebuilt, shape_stored, told_kept}
+use Rattle.rules.proofs.SlotLaws.{distinct_dropped, dropped_none, flight_carried, flight_state, landed_dropped, state_dropped, state_dropped_other}
 use Rattle.rules.proofs.Views.{carry_of, newest, slot_view, state_of}
 use Rattle.rules.specs.Acknowledge.{data_ack, dropped_slot, flight_place, kept, landed}
 use Rattle.rules.specs.History.{Account, Nothing, depth_in, ends_in, has_read_in, lines_in, opened_in, uses_in, writes_in}
@@ -41,120 +41,120 @@ abbrev landed_board : ℕ → ℕ → Board → Board
 landed_board k l b =
     rebuilt (set b.tables.regions (place_of k b.tables.regions) (landed_region k l b)) b.cur (set b.med l (line_of l b.car)) b.car b
 
-quiet-data : (l : ℕ) (es : List Account) → Quiet es (Nothing ∷ es)
+quiet_data : (l : ℕ) (es : List Account) → Quiet es (Nothing ∷ es)
 unfolding depth_in opened_in lines_in ends_in
-quiet-data l es = record { depth = λ t. refl; opened = λ t. refl; lines = refl; ends = refl }
+quiet_data l es = record { depth = λ t. refl; opened = λ t. refl; lines = refl; ends = refl }
 
 module _ {m : ℕ → List ℕ} {b : Board} {es : List Account} {s : u.State (List ℕ)} {h : v.History (List ℕ)} (k l : ℕ) (rc : Reach m s h) (i : Sim b es s h)
     (ln : l < 256) (in' : listed k b.tables.regions ≡ true) (fl : any (carries l) (region_at k b.tables.regions).slots ≡ true) where
-  good-at : GoodRegion (region_at k b.tables.regions)
-  good-at = i.shape.regions.good (place_of k b.tables.regions)
+  good_at : GoodRegion (region_at k b.tables.regions)
+  good_at = i.shape.regions.good (place_of k b.tables.regions)
 
   key : is_placed k (landed_region k l b) ≡ true
   key = entry_at k b.tables.regions in'
 
-  in-flight : is_flight (state_of l (region_at k b.tables.regions).slots) ≡ true
-  in-flight = sym (flight-carried l good-at.distinct) ∙ fl
+  in_flight_lem : is_flight (state_of l (region_at k b.tables.regions).slots) ≡ true
+  in_flight_lem = sym (flight_carried l good_at.distinct) ∙ fl
 
-  pub flies-here : s.slot l k ≡ u.Flies (line_of l b.car)
-  flies-here = i.slot l k ∙ ap (carry_of b.car l) (flight-state (state_of l (region_at k b.tables.regions).slots) in-flight)
+  pub flies_here : s.slot l k ≡ u.Flies (line_of l b.car)
+  flies_here = i.slot l k ∙ ap (carry_of b.car l) (flight_state (state_of l (region_at k b.tables.regions).slots) in_flight_lem)
 
-  good-landed : GoodRegion (landed_region k l b)
-  good-landed =
+  good_landed : GoodRegion (landed_region k l b)
+  good_landed =
       record {
-        free = λ e. absurd (eqb-false k 0 (listed-key k b.tables.regions in') (sym (key-at k b.tables.regions in') ∙ e));
-        deps = good-at.deps;
-        slots = length-map (region_at k b.tables.regions).slots (dropped_slot l) ∙ good-at.slots;
-        distinct = distinct-dropped l good-at.distinct;
-        finished = λ e. let z = good-at.finished e in (z.0, dropped-none l (region_at k b.tables.regions).slots z.1);
+        free = λ e. absurd (eqb-false k 0 (listed_key k b.tables.regions in') (sym (key_at k b.tables.regions in') ∙ e));
+        deps = good_at.deps;
+        slots = length-map (region_at k b.tables.regions).slots (dropped_slot l) ∙ good_at.slots;
+        distinct = distinct_dropped l good_at.distinct;
+        finished = λ e. let z = good_at.finished e in (z.0, dropped_none l (region_at k b.tables.regions).slots z.1);
       }
 
   stored_at : (q : ℕ) → region_at q (landed_board k l b).tables.regions ≡ cond (eqb q k) (landed_region k l b) (region_at q b.tables.regions)
-  stored_at = region-stored k b.tables.regions (landed_region k l b) in' key
+  stored_at = region_stored k b.tables.regions (landed_region k l b) in' key
 
-  landed-line : (j : ℕ) → line_of j (landed_board k l b).med ≡ cond (eqb j l) (line_of l b.car) (line_of j b.med)
-  landed-line j = get_or-set b.med l j (line_of l b.car) [] (omega (arith, i.memories.med))
+  landed_line : (j : ℕ) → line_of j (landed_board k l b).med ≡ cond (eqb j l) (line_of l b.car) (line_of j b.med)
+  landed_line j = get_or_set b.med l j (line_of l b.car) [] (omega (arith, i.memories.med))
 
-  landed-memories : Memories (landed_board k l b)
-  landed-memories =
+  landed_memories : Memories (landed_board k l b)
+  landed_memories =
       record {
         cur = i.memories.cur;
         med = length-set b.med l (line_of l b.car) ∙ i.memories.med;
         old = i.memories.old;
         car = i.memories.car;
-        cur-lines = i.memories.cur-lines;
-        med-lines = λ j n. rw (landed-line j) (test (eqb j l) (λ d. rw d (i.memories.car-lines l ln)) (λ d. rw d (i.memories.med-lines j n)));
-        old-lines = i.memories.old-lines;
-        car-lines = i.memories.car-lines;
+        cur_lines = i.memories.cur_lines;
+        med_lines = λ j n. rw (landed_line j) (test (eqb j l) (λ d. rw d (i.memories.car_lines l ln)) (λ d. rw d (i.memories.med_lines j n)));
+        old_lines = i.memories.old_lines;
+        car_lines = i.memories.car_lines;
       }
 
-  landed-slot : (j q : ℕ) → put l (put k u.Clear (s.slot l)) s.slot j q ≡ slot_view (landed_board k l b) j q
-  landed-slot j q =
+  landed_slot : (j q : ℕ) → put l (put k u.Clear (s.slot l)) s.slot j q ≡ slot_view (landed_board k l b) j q
+  landed_slot j q =
       rw (stored_at q)
       (test (eqb q k)
       (λ d. rw (d, eqb-true q k d) (test (eqb j l)
-      (λ e. rw (e, eqb-true j l e, state-dropped l good-at.distinct, in-flight, is_same k))
-      (λ e. rw (e, state-dropped-other l j (region_at k b.tables.regions).slots e) (i.slot j k))))
+      (λ e. rw (e, eqb-true j l e, state_dropped l good_at.distinct, in_flight_lem, is_same k))
+      (λ e. rw (e, state_dropped_other l j (region_at k b.tables.regions).slots e) (i.slot j k))))
       (λ d. rw d (test (eqb j l) (λ e. rw (e, d, eqb-true j l e) (i.slot l q)) (λ e. rw e (i.slot j q)))))
 
-  landed-waits : (j q : ℕ) → put l (put k u.Clear (s.slot l)) s.slot j q ≡ u.Waits → newest (s.chain j) ≡ q
-  landed-waits j q w =
+  landed_waits : (j q : ℕ) → put l (put k u.Clear (s.slot l)) s.slot j q ≡ u.Waits → newest (s.chain j) ≡ q
+  landed_waits j q w =
       test (eqb j l)
       (λ e. test (eqb q k)
-      (λ d. absurd (clear-waits (rw (e, d) at w)))
+      (λ d. absurd (clear_waits (rw (e, d) at w)))
       (λ d. rw (eqb-true j l e) (i.waits l q (rw (e, d) at w))))
       (λ e. i.waits j q (rw e at w))
 
-  landed-sim : Sim (landed_board k l b) (Nothing ∷ es) (u.act s (u.DataAck k l (line_of l b.car))) h
+  landed_sim : Sim (landed_board k l b) (Nothing ∷ es) (u.act s (u.DataAck k l (line_of l b.car))) h
   unfolding u.act writes_in uses_in
-  landed-sim =
+  landed_sim =
       record {
-        shape = shape-stored b.tables k (landed_region k l b) in' key good-landed (once-at k i.shape) i.shape;
-        memories = landed-memories;
-        logs = logs-kept (set b.tables.regions (place_of k b.tables.regions) (landed_region k l b)) b.cur (set b.med l (line_of l b.car)) b.car
+        shape = shape_stored b.tables k (landed_region k l b) in' key good_landed (once_at k i.shape) i.shape;
+        memories = landed_memories;
+        logs = logs_kept (set b.tables.regions (place_of k b.tables.regions) (landed_region k l b)) b.cur (set b.med l (line_of l b.car)) b.car
             refl refl i.logs;
-        told = told-kept (λ t. refl) (λ t. refl) refl (quiet-data l es) refl refl refl i.told.writes i.told.uses i.told.owner i.told;
+        told = told_kept (λ t. refl) (λ t. refl) refl (quiet_data l es) refl refl refl i.told.writes i.told.uses i.told.owner i.told;
         cur = i.cur;
-        med = λ j. rw (landed-line j) (test (eqb j l) (λ d. rw d) (λ d. rw d (i.med j)));
+        med = λ j. rw (landed_line j) (test (eqb j l) (λ d. rw d) (λ d. rw d (i.med j)));
         lock = i.lock;
-        slot = landed-slot;
-        dep = λ a d. i.dep a d ∙ sym (rw (part-stored b.tables k (landed_region k l b) in' key (λ x. x.deps) refl a));
-        live = λ q. listed-stored k b.tables.regions (landed_region k l b) in' key q ∙ i.live q;
-        ended = λ q e. part-stored b.tables k (landed_region k l b) in' key (λ x. x.ended) refl q
-            ∙ i.ended q (sym (listed-stored k b.tables.regions (landed_region k l b) in' key q) ∙ e);
-        top = λ j. i.top j ∙ sym (owner-stored b.tables k (landed_region k l b) in' key j);
-        waits = landed-waits;
+        slot = landed_slot;
+        dep = λ a d. i.dep a d ∙ sym (rw (part_stored b.tables k (landed_region k l b) in' key (λ x. x.deps) refl a));
+        live = λ q. listed_stored k b.tables.regions (landed_region k l b) in' key q ∙ i.live q;
+        ended = λ q e. part_stored b.tables k (landed_region k l b) in' key (λ x. x.ended) refl q
+            ∙ i.ended q (sym (listed_stored k b.tables.regions (landed_region k l b) in' key q) ∙ e);
+        top = λ j. i.top j ∙ sym (owner_stored b.tables k (landed_region k l b) in' key j);
+        waits = landed_waits;
       }
 
-  landed-allowed : u.Allowed s (u.DataAck k l (line_of l b.car))
-  landed-allowed = u.data-acks flies-here
+  landed_allowed : u.Allowed s (u.DataAck k l (line_of l b.car))
+  landed_allowed = u.data_acks flies_here
 
-  landed-flown : Flown b → Flown (landed_board k l b)
-  landed-flown f q j c e w =
+  landed_flown : Flown b → Flown (landed_board k l b)
+  landed_flown f q j c e w =
       test (eqb q k)
       (λ d. test (eqb j l)
-      (λ x. absurd (empty-waits (sym (rw (stored_at q, d, eqb-true j l x, state-dropped l good-at.distinct, in-flight)) ∙ w)))
-      (λ x. f k j c (rw (stored_at q, d) at e) (rw (stored_at q, d, state-dropped-other l j (region_at k b.tables.regions).slots x) at w)))
+      (λ x. absurd (empty_waits (sym (rw (stored_at q, d, eqb-true j l x, state_dropped l good_at.distinct, in_flight_lem)) ∙ w)))
+      (λ x. f k j c (rw (stored_at q, d) at e) (rw (stored_at q, d, state_dropped_other l j (region_at k b.tables.regions).slots x) at w)))
       (λ d. f q j c (rw (stored_at q, d) at e) (rw (stored_at q, d) at w))
     where
-      empty-waits : Empty ≡ Waiting c → ⊥
-      empty-waits e = let z : ◌≡◌ {A = ℕ} 0 1 = cc in omega arith
+      empty_waits : Empty ≡ Waiting c → ⊥
+      empty_waits e = let z : ◌≡◌ {A = ℕ} 0 1 = cc in omega arith
 
   -- the region that is found by its flight is region k
-  ack-is : flight_place l b.tables.regions ≡ place_of k b.tables.regions → data_ack l b ≡ landed_board k l b
+  ack_is : flight_place l b.tables.regions ≡ place_of k b.tables.regions → data_ack l b ≡ landed_board k l b
   unfolding data_ack landed
-  ack-is q = rw (q, landed-dropped l good-at.distinct fl)
+  ack_is q = rw (q, landed_dropped l good_at.distinct fl)
 
 -- where a flight of line l is found
 module _ (rs : List Region) (l : ℕ) (g : Good rs) (e : any (λ r. any (carries l) r.slots) rs ≡ true) where
-  pub found-flight : any (carries l) (get_or rs (flight_place l rs) no_region).slots ≡ true
-  found-flight = place-true (λ r. any (carries l) r.slots) rs no_region e
+  pub found_flight : any (carries l) (get_or rs (flight_place l rs) no_region).slots ≡ true
+  found_flight = place_true (λ r. any (carries l) r.slots) rs no_region e
 
-  pub found-key : (get_or rs (flight_place l rs) no_region).key ≢ 0
-  found-key z = false≢true (rw ((g (flight_place l rs)).free z) at found-flight)
+  pub found_key : (get_or rs (flight_place l rs) no_region).key ≢ 0
+  found_key z = false≢true (rw ((g (flight_place l rs)).free z) at found_flight)
 
-  pub found-listed : Unique rs → listed (get_or rs (flight_place l rs) no_region).key rs ≡ true
-  found-listed un = listed_at (flight_place l rs) rs un found-key (place-lt (λ r. any (carries l) r.slots) rs e)
+  pub found_listed : Unique rs → listed (get_or rs (flight_place l rs) no_region).key rs ≡ true
+  found_listed un = listed_at (flight_place l rs) rs un found_key (place_lt (λ r. any (carries l) r.slots) rs e)
 
 pub lands : (l : ℕ) (m : Memory) (b : Board) (es : List Account) → refusal b.tables (DataAck l) ≡ 0 → Kept m b es
     → Simulated m (data_ack l b) (Nothing ∷ es) × Flown (data_ack l b)
@@ -167,7 +167,7 @@ lands l m b es r kept = go kept.simulated
     ln : l < 256
     ln =
         let z : l < b.tables.size.lines = leb-false b.tables.size.lines l (p 4) in
-        omega (arith, lines-256 b.tables (not-false (is_set_up b.tables) (p 6)))
+        omega (arith, lines_256 b.tables (not-false (is_set_up b.tables) (p 6)))
 
     flying : any (λ r. any (carries l) r.slots) b.tables.regions ≡ true
     flying = not-false (in_flight l b.tables) (p 22)
@@ -179,16 +179,16 @@ lands l m b es r kept = go kept.simulated
     go : Simulated m b es → Simulated m (data_ack l b) (Nothing ∷ es) × Flown (data_ack l b)
     go (by s h w i) =
         let rc = reach w in
-        let in' : listed k b.tables.regions ≡ true = found-listed b.tables.regions l i.shape.regions.good flying i.shape.regions.unique in
+        let in' : listed k b.tables.regions ≡ true = found_listed b.tables.regions l i.shape.regions.good flying i.shape.regions.unique in
         let at : place_of k b.tables.regions ≡ flight_place l b.tables.regions
-        = i.shape.regions.unique (flight_place l b.tables.regions) (found-key b.tables.regions l i.shape.regions.good flying) in
-        let fl : any (carries l) (region_at k b.tables.regions).slots ≡ true = rw at (found-flight b.tables.regions l i.shape.regions.good flying) in
-        rw (ack-is k l rc i ln in' fl (sym at)) (
-          by _ _ (acted w (λ ks x. other refl x) (marks-same (λ t. refl) (λ t x. refl)) (u.DataAck k l (line_of l b.car)) (landed-allowed k l rc i ln in' fl) refl)
-              (landed-sim k l rc i ln in' fl),
-          landed-flown k l rc i ln in' fl kept.rest.flown,
+        = i.shape.regions.unique (flight_place l b.tables.regions) (found_key b.tables.regions l i.shape.regions.good flying) in
+        let fl : any (carries l) (region_at k b.tables.regions).slots ≡ true = rw at (found_flight b.tables.regions l i.shape.regions.good flying) in
+        rw (ack_is k l rc i ln in' fl (sym at)) (
+          by _ _ (acted w (λ ks x. other refl x) (marks_same (λ t. refl) (λ t x. refl)) (u.DataAck k l (line_of l b.car)) (landed_allowed k l rc i ln in' fl) refl)
+              (landed_sim k l rc i ln in' fl),
+          landed_flown k l rc i ln in' fl kept.rest.flown,
         )
 
-pub keeps-data : (l : ℕ) → Keeps (DataAck l)
+pub keeps_data : (l : ℕ) → Keeps (DataAck l)
 unfolding apply
-keeps-data l m b es r k = let z = lands l m b es r k in settles z.0 z.1
+keeps_data l m b es r k = let z = lands l m b es r k in settles z.0 z.1

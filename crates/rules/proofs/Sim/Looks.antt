@@ -15,20 +15,20 @@ use lib.ListN.{get_or, length, length-set}
 use lib.Seq.{get_or-set_other, get_or-set_same}
 use native.Mathlib.Omega.{arith}
 use borrow.Author.Tests.{eq-eqb, eqb-false, eqb-true, ltb-false, ltb-true, ne_eqb, not-true}
-use Rattle.rules.proofs.Bits.{bit-or, bit-pow}
+use Rattle.rules.proofs.Bits.{bit_or_lem, bit_pow}
 use Rattle.rules.proofs.Lists.{any_none}
 use Rattle.rules.proofs.Sim.State.{Looks, Marks, Sim, Watched, looks, other, unread}
-use Rattle.rules.proofs.Sim.Base.{Alike, thread-stored, threads-8}
-use Rattle.rules.proofs.Sim.OneMore.{depth-uses, opened-uses, read-uses}
+use Rattle.rules.proofs.Sim.Base.{Alike, thread_stored, threads_8}
+use Rattle.rules.proofs.Sim.OneMore.{depth_uses, opened_uses, read_uses}
 use Rattle.rules.proofs.Words.{eight}
 use Rattle.rules.specs.Access.{also_read, has_read, is_set, note_read, word_places}
 use Rattle.rules.specs.History.{Account, Closes, Cuts, Nothing, Opens, Sets, Stores, Uses, depth_in, has_read_in, opened_in, read_in, region_in}
 use Rattle.rules.specs.Refusal.{is_read_elsewhere}
 use Rattle.rules.specs.Tables.{Board, key_of, thread_at, thread_of, with_reads, with_tables}
 use Rattle.rules.specs.declared.Thread.{Thread}
-use Rattle.serial.proofs.Main.{begun, fair-read, fair-write, reaches}
+use Rattle.serial.proofs.Main.{begun, fair_read, fair_write, reaches}
 use Rattle.serial.specs.Looks.{Look, Neither, Seeing, Writes, access_of, is_fair, look_at, see, then}
-use Rattle.undo.proofs.Laws.{and-true, never, or_right, test}
+use Rattle.undo.proofs.Laws.{and_true, never, or_right, test}
 use Rattle.undo.specs.Claim.{Reach}
 
 pub reach : {m : ℕ → List ℕ} {b : Board} {es : List Account} {s : u.State (List ℕ)} {h : v.History (List ℕ)} → Watched m b es s h → Reach m s h
@@ -37,9 +37,9 @@ reach {m} {b} {es} {s} {h} w = reaches m s h w.seen w.seeing
 -- ---- one action or one event more
 
 -- the marks stay
-pub marks-same : {b b' : Board} {es es' : List Account} → ((t : ℕ) → (thread_at t b'.tables).reads ≡ (thread_at t b.tables).reads)
+pub marks_same : {b b' : Board} {es es' : List Account} → ((t : ℕ) → (thread_at t b'.tables).reads ≡ (thread_at t b.tables).reads)
     → ((t l : ℕ) → read_in t l es' ≡ read_in t l es) → Marks b es → Marks b' es'
-marks-same f g w = record { words = λ t. rw (f t) (w.words t); marks = λ t l h. rw (f t, g t l) (w.marks t l h) }
+marks_same f g w = record { words = λ t. rw (f t) (w.words t); marks = λ t l h. rw (f t, g t l) (w.marks t l h) }
 
 module _ {m : ℕ → List ℕ} {b b' : Board} {es es' : List Account} {s : u.State (List ℕ)} {h : v.History (List ℕ)} (w : Watched m b es s h)
     (f : (ks : List (Look (List ℕ))) → Looks es ks → Looks es' ks) (g : Marks b es → Marks b' es') where
@@ -60,17 +60,17 @@ module _ {m : ℕ → List ℕ} {b b' : Board} {es es' : List Account} {s : u.St
 -- an event that reads nothing and ends no region
 pub alike : {m : ℕ → List ℕ} {b b' : Board} {es es' : List Account} {s : u.State (List ℕ)} {h : v.History (List ℕ)} → Alike es es'
     → ((t : ℕ) → (thread_at t b'.tables).reads ≡ (thread_at t b.tables).reads) → Watched m b es s h → Watched m b' es' s h
-alike a f w = stayed w a.looks (marks-same f a.reads)
+alike a f w = stayed w a.looks (marks_same f a.reads)
 
 -- the same events, with tables whose marks are the same
-pub acted-same : {m : ℕ → List ℕ} {b b' : Board} {es : List Account} {s : u.State (List ℕ)} {h : v.History (List ℕ)} → Watched m b es s h
+pub acted_same : {m : ℕ → List ℕ} {b b' : Board} {es : List Account} {s : u.State (List ℕ)} {h : v.History (List ℕ)} → Watched m b es s h
     → ((t : ℕ) → (thread_at t b'.tables).reads ≡ (thread_at t b.tables).reads)
     → (a : u.Action (List ℕ)) → u.Allowed s a → access_of a ≡ Neither → Watched m b' es (act s a) (note h a)
-acted-same w f a ok q = acted w (λ ks x. x) (marks-same f (λ t l. refl)) a ok q
+acted_same w f a ok q = acted w (λ ks x. x) (marks_same f (λ t l. refl)) a ok q
 
-pub stayed-same : {m : ℕ → List ℕ} {b b' : Board} {es : List Account} {s : u.State (List ℕ)} {h : v.History (List ℕ)} → Watched m b es s h
+pub stayed_same : {m : ℕ → List ℕ} {b b' : Board} {es : List Account} {s : u.State (List ℕ)} {h : v.History (List ℕ)} → Watched m b es s h
     → ((t : ℕ) → (thread_at t b'.tables).reads ≡ (thread_at t b.tables).reads) → Watched m b' es s h
-stayed-same w f = stayed w (λ ks x. x) (marks-same f (λ t l. refl))
+stayed_same w f = stayed w (λ ks x. x) (marks_same f (λ t l. refl))
 
 -- ---- the bit of a line: one more is set, the others stay
 
@@ -80,8 +80,8 @@ read_more l x rs h n =
     test (eqb (x / 64) (l / 64))
     (λ d. let q : x / 64 ≡ l / 64 = eqb-true (x / 64) (l / 64) d in
     rw (q, get_or-set_same rs (l / 64) (bit_or (2 ^ (l % 64)) (get_or rs (l / 64) 0)) 0 (omega arith))
-    (bit-or (2 ^ (l % 64)) (get_or rs (l / 64) 0) (x % 64)
-    ∙ ap (λ y. y || is_set (x % 64) (get_or rs (l / 64) 0)) (bit-pow (l % 64) (x % 64) ∙ low q)))
+    (bit_or_lem (2 ^ (l % 64)) (get_or rs (l / 64) 0) (x % 64)
+    ∙ ap (λ y. y || is_set (x % 64) (get_or rs (l / 64) 0)) (bit_pow (l % 64) (x % 64) ∙ low q)))
     (λ d. let ne : x / 64 ≢ l / 64 = eqb-false (x / 64) (l / 64) d in
     rw (get_or-set_other rs (l / 64) (x / 64) (bit_or (2 ^ (l % 64)) (get_or rs (l / 64) 0)) 0 ne, ne_eqb l x (λ q. ne (rw q))))
   where
@@ -94,23 +94,23 @@ read_more l x rs h n =
 -- ---- what regions have read, by the events
 
 -- a look is of a line that its region has read
-look-read : {es : List Account} {ks : List (Look (List ℕ))} → Looks es ks → (k : Look (List ℕ)) → Memᴰ k ks → has_read_in k.rid k.line es ≡ true
+look_read : {es : List Account} {ks : List (Look (List ℕ))} → Looks es ks → (k : Look (List ℕ)) → Memᴰ k ks → has_read_in k.rid k.line es ≡ true
 unfolding has_read_in
-look-read unread k i = absurd (Memᴰ.not-nil i)
-look-read (looks {t = t} {l = l} {es = es} j r x y lk) k i =
+look_read unread k i = absurd (Memᴰ.not-nil i)
+look_read (looks {t = t} {l = l} {es = es} j r x y lk) k i =
     ⊎_elim
     (λ q. let a : region_in t es ≡ k.rid = sym (ap (λ (p : Look (List ℕ)). p.rid) q ∙ r) in
     let c : l ≡ k.line = sym (ap (λ (p : Look (List ℕ)). p.line) q ∙ x) in
     rw (eq-eqb (region_in t es) k.rid a, eq-eqb l k.line c))
-    (λ q. or_right (eqb (region_in t es) k.rid && eqb l k.line) (look-read lk k q))
+    (λ q. or_right (eqb (region_in t es) k.rid && eqb l k.line) (look_read lk k q))
     (Memᴰ.cases_cons i)
-look-read (other {e = Sets n s} q lk) k i = look-read lk k i
-look-read (other {e = Opens u} q lk) k i = look-read lk k i
-look-read (other {e = Closes u} q lk) k i = look-read lk k i
-look-read (other {e = Uses u x} q lk) k i = absurd (true≢false q)
-look-read (other {e = Stores u x f} q lk) k i = look-read lk k i
-look-read (other {e = Cuts} q lk) k i = look-read lk k i
-look-read (other {e = Nothing} q lk) k i = look-read lk k i
+look_read (other {e = Sets n s} q lk) k i = look_read lk k i
+look_read (other {e = Opens u} q lk) k i = look_read lk k i
+look_read (other {e = Closes u} q lk) k i = look_read lk k i
+look_read (other {e = Uses u x} q lk) k i = absurd (true≢false q)
+look_read (other {e = Stores u x f} q lk) k i = look_read lk k i
+look_read (other {e = Cuts} q lk) k i = look_read lk k i
+look_read (other {e = Nothing} q lk) k i = look_read lk k i
 
 abbrev pub Few : List Account → Type 0
 Few es = (t : ℕ) → opened_in t es ≤ 65535
@@ -121,23 +121,23 @@ unfolding opened_in
 fewer u es h t = let z = h t in test (eqb u t && eqb (depth_in t es) 0) (λ d. let y : opened_in t es + 1 ≤ 65535 = rw d at z in omega arith) (λ d. rw d at z)
 
 -- a region that its thread has not opened yet has read nothing
-pub unread-yet : (es : List Account) → Few es → (t n l : ℕ) → opened_in t es < n → n ≤ 65535 → has_read_in (key_of t n) l es ≡ false
+pub unread_yet : (es : List Account) → Few es → (t n l : ℕ) → opened_in t es < n → n ≤ 65535 → has_read_in (key_of t n) l es ≡ false
 unfolding has_read_in opened_in
-unread-yet [] few t n l h g = refl
-unread-yet (Sets m s ∷ es) few t n l h g = unread-yet es few t n l h g
-unread-yet (Opens u ∷ es) few t n l h g =
-    unread-yet es (fewer u es few) t n l
+unread_yet [] few t n l h g = refl
+unread_yet (Sets m s ∷ es) few t n l h g = unread_yet es few t n l h g
+unread_yet (Opens u ∷ es) few t n l h g =
+    unread_yet es (fewer u es few) t n l
     (test (eqb u t && eqb (depth_in t es) 0) (λ d. let z : opened_in t es + 1 < n = rw d at h in omega arith) (λ d. rw d at h)) g
-unread-yet (Closes u ∷ es) few t n l h g = unread-yet es few t n l h g
-unread-yet (Uses u x ∷ es) few t n l h g =
+unread_yet (Closes u ∷ es) few t n l h g = unread_yet es few t n l h g
+unread_yet (Uses u x ∷ es) few t n l h g =
     let ne : eqb (region_in u es) (key_of t n) ≡ false = ne_eqb (region_in u es) (key_of t n) (λ q. later (few u) q) in
-    rw ne (unread-yet es few t n l h g)
+    rw ne (unread_yet es few t n l h g)
   where
     later : opened_in u es ≤ 65535 → key_of u (opened_in u es) ≡ key_of t n → ⊥
     later f q = let e : u ≡ t = omega arith in let z : opened_in u es < n = rw e h in omega arith
-unread-yet (Stores u x f ∷ es) few t n l h g = unread-yet es few t n l h g
-unread-yet (Cuts ∷ es) few t n l h g = unread-yet es few t n l h g
-unread-yet (Nothing ∷ es) few t n l h g = unread-yet es few t n l h g
+unread_yet (Stores u x f ∷ es) few t n l h g = unread_yet es few t n l h g
+unread_yet (Cuts ∷ es) few t n l h g = unread_yet es few t n l h g
+unread_yet (Nothing ∷ es) few t n l h g = unread_yet es few t n l h g
 
 -- ---- an accepted write of thread t to line l breaks no look
 
@@ -147,68 +147,68 @@ module _ {m : ℕ → List ℕ} {b : Board} {es : List Account} {s : u.State (Li
   inside : (x : ℕ) → depth_in x es ≢ 0 → x < 8
   inside x n =
       test (ltb x b.tables.size.threads)
-      (λ d. omega (arith, ltb-true x b.tables.size.threads d, threads-8 b.tables i.shape))
+      (λ d. omega (arith, ltb-true x b.tables.size.threads d, threads_8 b.tables i.shape))
       (λ d. absurd (n (sym (i.told.depth x) ∙ ap {A = Thread} (λ th. th.depth) (i.shape.threads.range x (ltb-false x b.tables.size.threads d)))))
 
   -- no other thread's open region has read the line
-  pub read-alone : (x : ℕ) → read_in x l es ≡ true → x ≡ t
-  read-alone x r =
-      let g : x < 8 = inside x (eqb-false (depth_in x es) 0 (not-true (eqb (depth_in x es) 0) (and-true (not (eqb (depth_in x es) 0)) (has_read_in (region_in x es) l es) r).0)) in
+  pub read_alone : (x : ℕ) → read_in x l es ≡ true → x ≡ t
+  read_alone x r =
+      let g : x < 8 = inside x (eqb-false (depth_in x es) 0 (not-true (eqb (depth_in x es) 0) (and_true (not (eqb (depth_in x es) 0)) (has_read_in (region_in x es) l es) r).0)) in
       test (eqb x t)
       (λ d. eqb-true x t d)
       (λ d. let z = any_none (λ y. not (eqb y t) && has_read l (thread_at y b.tables)) word_places x 0 free g in
       never (w.marks.marks x l lt ∙ r) (rw d at (rw (eight (λ y. y) x g) at z)))
 
   -- a look at the line is the writer's own, or of a region that has ended
-  ended-look : (k : Look (List ℕ)) → Memᴰ k w.seen → k.line ≡ l → eqb (region_in t es) k.rid ≡ false → s.over k.rid ≡ true
-  ended-look k p e n =
+  ended_look : (k : Look (List ℕ)) → Memᴰ k w.seen → k.line ≡ l → eqb (region_in t es) k.rid ≡ false → s.over k.rid ≡ true
+  ended_look k p e n =
       test (s.over k.rid) (λ d. d)
       (λ d. let x : ℕ = thread_of k.rid in
-      let o = i.told.open-last k.rid (record { began = begun m s h w.seen w.seeing k p; goes_on = d }) in
-      let r : read_in x l es ≡ true = rw (ne_eqb (depth_in x es) 0 o.1, ← o.0, ← e) (look-read w.looks k p) in
-      absurd (eqb-false (region_in t es) k.rid n (sym (o.0 ∙ ap (λ a. region_in a es) (read-alone x r)))))
+      let o = i.told.open_last k.rid (record { began = begun m s h w.seen w.seeing k p; goes_on = d }) in
+      let r : read_in x l es ≡ true = rw (ne_eqb (depth_in x es) 0 o.1, ← o.0, ← e) (look_read w.looks k p) in
+      absurd (eqb-false (region_in t es) k.rid n (sym (o.0 ∙ ap (λ a. region_in a es) (read_alone x r)))))
 
   -- the write as an action; the line's marks stay
-  pub watched-write : {b' : Board} (f : List ℕ → List ℕ) → ((x : ℕ) → (thread_at x b'.tables).reads ≡ (thread_at x b.tables).reads)
+  pub watched_write : {b' : Board} (f : List ℕ → List ℕ) → ((x : ℕ) → (thread_at x b'.tables).reads ≡ (thread_at x b.tables).reads)
       → (a : u.Action (List ℕ)) → u.Allowed s a → access_of a ≡ Writes (region_in t es) l → Watched m b' (Stores t l f ∷ es) (act s a) (note h a)
   unfolding has_read_in depth_in opened_in
-  watched-write f same a ok q =
+  watched_write f same a ok q =
       record {
         seen = w.seen;
         seeing = subst (λ c. Seeing m (act s a) (note h a) (see s h w.seen c)) q
-            (then w.seeing a ok (ap (is_fair s w.seen) q ∙ fair-write s (region_in t es) l w.seen ended-look));
+            (then w.seeing a ok (ap (is_fair s w.seen) q ∙ fair_write s (region_in t es) l w.seen ended_look));
         looks = other refl w.looks;
-        marks = marks-same same (λ x y. refl) w.marks;
+        marks = marks_same same (λ x y. refl) w.marks;
       }
 
 -- an accepted read of thread t from line l, which is then marked
-pub watched-read : {m : ℕ → List ℕ} {b b' : Board} {es : List Account} {s : u.State (List ℕ)} {h : v.History (List ℕ)} (t l : ℕ) → Watched m b es s h → Sim b es s h
+pub watched_read : {m : ℕ → List ℕ} {b b' : Board} {es : List Account} {s : u.State (List ℕ)} {h : v.History (List ℕ)} (t l : ℕ) → Watched m b es s h → Sim b es s h
     → u.Open s (region_in t es) → u.Allowed s (u.Read (region_in t es) l) → Marks b' (Uses t l ∷ es)
     → Watched m b' (Uses t l ∷ es) (act s (u.Read (region_in t es) l)) (note h (u.Read (region_in t es) l))
-watched-read {s = s} {h = h} t l w i o ok mk =
+watched_read {s = s} {h = h} t l w i o ok mk =
     record {
       seen = look_at s h (region_in t _) l ∷ w.seen;
-      seeing = then w.seeing (u.Read (region_in t _) l) ok (fair-read s (region_in t _) l w.seen o);
+      seeing = then w.seeing (u.Read (region_in t _) l) ok (fair_read s (region_in t _) l w.seen o);
       looks = looks (look_at s h (region_in t _) l) refl refl i.told.writes w.looks;
       marks = mk;
     }
 
 -- the bit of line l of thread t is set
-pub marks-read : {b : Board} {es : List Account} (t l : ℕ) → l < 256 → t < length b.tables.threads → depth_in t es ≢ 0 → Few es → Marks b es
+pub marks_read : {b : Board} {es : List Account} (t l : ℕ) → l < 256 → t < length b.tables.threads → depth_in t es ≢ 0 → Few es → Marks b es
     → Marks (with_tables (note_read t l b.tables) b) (Uses t l ∷ es)
 unfolding note_read
-marks-read {b} {es} t l h g deep few w =
+marks_read {b} {es} t l h g deep few w =
     record {
       words = λ x. rw (at x) (test (eqb x t)
           (λ d. rw d (length-set (thread_at t b.tables).reads (l / 64) _ ∙ w.words t))
           (λ d. rw d (w.words x)));
-      marks = λ x y n. rw (at x, depth-uses t l x es, opened-uses t l x es, read-uses t (region_in x es) y es l, mine x) (test (eqb x t)
+      marks = λ x y n. rw (at x, depth_uses t l x es, opened_uses t l x es, read_uses t (region_in x es) y es l, mine x) (test (eqb x t)
           (λ d. rw (d, eqb-true x t d, read_more l y (thread_at t b.tables).reads h (w.words t), w.marks t y n, ne_eqb (depth_in t es) 0 deep))
           (λ d. rw d (w.marks x y n)));
     }
   where
     at : (x : ℕ) → thread_at x (note_read t l b.tables) ≡ cond (eqb x t) (with_reads (also_read l (thread_at t b.tables).reads) (thread_at t b.tables)) (thread_at x b.tables)
-    at = thread-stored t (with_reads (also_read l (thread_at t b.tables).reads) (thread_at t b.tables)) b.tables g
+    at = thread_stored t (with_reads (also_read l (thread_at t b.tables).reads) (thread_at t b.tables)) b.tables g
 
     -- two threads' regions are two
     mine : (x : ℕ) → eqb (region_in t es) (region_in x es) ≡ eqb x t

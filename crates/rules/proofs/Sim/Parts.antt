@@ -10,7 +10,7 @@ use mathlib.Core.List.{List, [], ◌∷◌}
 use lib.Dec.{eqb}
 use lib.ListN.{get_or, set}
 use borrow.Author.Tests.{eqb-true}
-use Rattle.rules.proofs.Places.{Once, listed-stored, region-stored, regions-stored}
+use Rattle.rules.proofs.Places.{Once, listed_stored, region_stored, regions_stored}
 use Rattle.rules.proofs.Sim.State.{GoodRegion, Logs, Shape, Sim, Told, conv}
 use Rattle.rules.proofs.Views.{state_of}
 use Rattle.rules.specs.History.{Account, depth_in, draws_on, ends_in, last_writer, lines_in, opened_in, region_in, uses_in, writes_in}
@@ -21,9 +21,9 @@ use Rattle.rules.specs.declared.Tables.{Tables}
 use Rattle.undo.proofs.Laws.{is_same, never, test}
 use Rattle.undo.proofs.Main.{structured}
 use Rattle.undo.specs.Claim.{Reach}
-use Rattle.rules.proofs.Sim.Base.{shape-kept}
+use Rattle.rules.proofs.Sim.Base.{shape_kept}
 use Rattle.rules.specs.Measures.{ripe_count}
-use Rattle.rules.proofs.Recover.Live.{live-listed}
+use Rattle.rules.proofs.Recover.Live.{live_listed}
 
 -- between two events no slot that could fly waits
 abbrev pub Flown : Board → Type 0
@@ -41,19 +41,19 @@ pub record Quiet (es es' : List Account) : Type 0 where
   pub lines : lines_in es' ≡ lines_in es
   pub ends : ends_in es' ≡ ends_in es
 
-pub no-event : (es : List Account) → Quiet es es
-no-event es = record { depth = λ t. refl; opened = λ t. refl; lines = refl; ends = refl }
+pub no_event : (es : List Account) → Quiet es es
+no_event es = record { depth = λ t. refl; opened = λ t. refl; lines = refl; ends = refl }
 
 -- depths, numbers and the lives of regions stay; writes, uses and owners are as told
 module _ {b b' : Board} {es es' : List Account} {s s' : u.State (List ℕ)} {h h' : v.History (List ℕ)} where
-  pub told-kept : ((t : ℕ) → (thread_at t b'.tables).depth ≡ (thread_at t b.tables).depth)
+  pub told_kept : ((t : ℕ) → (thread_at t b'.tables).depth ≡ (thread_at t b.tables).depth)
       → ((t : ℕ) → (thread_at t b'.tables).last ≡ (thread_at t b.tables).last) → b'.tables.size ≡ b.tables.size → Quiet es es'
       → s'.born ≡ s.born → s'.over ≡ s.over → h'.ends ≡ h.ends
       → h'.writes ≡ conv (writes_in es')
       → ((k q : ℕ) → draws_on k q (uses_in es') ≡ true → q ≢ 0 → (v.used k q h'.uses ≡ true) ⊎ (s'.done q ≡ true))
       → ((l : ℕ) → get_or b'.tables.owner l 0 ≡ last_writer l (writes_in es'))
       → Told b es s h → Told b' es' s' h'
-  told-kept dp la sz q bo ov en wr us ow i =
+  told_kept dp la sz q bo ov en wr us ow i =
       record {
         depth = λ t. dp t ∙ i.depth t ∙ sym (q.depth t);
         last = λ t. la t ∙ i.last t ∙ sym (q.opened t);
@@ -63,17 +63,17 @@ module _ {b b' : Board} {es es' : List Account} {s s' : u.State (List ℕ)} {h h
         ends = en ∙ i.ends ∙ sym q.ends;
         writes = wr;
         uses = us;
-        open-last = λ k o. rw (q.opened (thread_of k), q.depth (thread_of k))
-            (i.open-last k (record { began = rw bo at o.began; goes_on = rw ov at o.goes_on }));
-        last-open = λ t n. let o : u.Open s (region_in t es) = i.last-open t (rw (q.depth t) at n) in
+        open_last = λ k o. rw (q.opened (thread_of k), q.depth (thread_of k))
+            (i.open_last k (record { began = rw bo at o.began; goes_on = rw ov at o.goes_on }));
+        last_open = λ t n. let o : u.Open s (region_in t es) = i.last_open t (rw (q.depth t) at n) in
             rw (q.opened t) (record { began = rw bo o.began; goes_on = rw ov o.goes_on });
         owner = ow;
       }
 
 -- the log stays
-pub logs-kept : {b : Board} {s s' : u.State (List ℕ)} (rs : List Region) (cu me ca : List (List ℕ)) → s'.chain ≡ s.chain → s'.lock ≡ s.lock
+pub logs_kept : {b : Board} {s s' : u.State (List ℕ)} (rs : List Region) (cu me ca : List (List ℕ)) → s'.chain ≡ s.chain → s'.lock ≡ s.lock
     → Logs b s → Logs (rebuilt rs cu me ca b) s'
-logs-kept {b} {s} {s'} rs cu me ca ch lo i =
+logs_kept {b} {s} {s'} rs cu me ca ch lo i =
     record {
       entry = λ t j n. let g = i.entry t j n in
           record {
@@ -92,21 +92,21 @@ logs-kept {b} {s} {s'} rs cu me ca ch lo i =
 -- ---- the regions, one of them stored anew
 
 module _ (ts : Tables) (k : ℕ) (r : Region) (in' : listed k ts.regions ≡ true) (e : is_placed k r ≡ true) where
-  pub shape-stored : GoodRegion r → Once r.deps → Shape ts → Shape (with_regions (set ts.regions (place_of k ts.regions) r) ts)
-  shape-stored g o i = shape-kept ts _ refl refl (regions-stored k ts.regions r in' e g o i.regions) i.threads i.owner i.lock i
+  pub shape_stored : GoodRegion r → Once r.deps → Shape ts → Shape (with_regions (set ts.regions (place_of k ts.regions) r) ts)
+  shape_stored g o i = shape_kept ts _ refl refl (regions_stored k ts.regions r in' e g o i.regions) i.threads i.owner i.lock i
 
-  pub owner-stored : (l : ℕ) → owner_of l (with_regions (set ts.regions (place_of k ts.regions) r) ts) ≡ owner_of l ts
+  pub owner_stored : (l : ℕ) → owner_of l (with_regions (set ts.regions (place_of k ts.regions) r) ts) ≡ owner_of l ts
   unfolding owner_of
-  owner-stored l = rw (listed-stored k ts.regions r in' e (get_or ts.owner l 0))
+  owner_stored l = rw (listed_stored k ts.regions r in' e (get_or ts.owner l 0))
 
   -- what is left alone of region k is left alone of each
-  pub part-stored : {A : Type 0} (f : Region → A) → f r ≡ f (region_at k ts.regions)
+  pub part_stored : {A : Type 0} (f : Region → A) → f r ≡ f (region_at k ts.regions)
       → (q : ℕ) → f (region_at q (set ts.regions (place_of k ts.regions) r)) ≡ f (region_at q ts.regions)
-  part-stored f d q = rw (region-stored k ts.regions r in' e q) (test (eqb q k) (λ g. rw (g, eqb-true q k g) d) (λ g. rw g))
+  part_stored f d q = rw (region_stored k ts.regions r in' e q) (test (eqb q k) (λ g. rw (g, eqb-true q k g) d) (λ g. rw g))
 
 -- a region's dependences are a set
-pub once-at : {ts : Tables} (k : ℕ) → Shape ts → Once (region_at k ts.regions).deps
-once-at {ts} k i = i.regions.deps-once (place_of k ts.regions)
+pub once_at : {ts : Tables} (k : ℕ) → Shape ts → Once (region_at k ts.regions).deps
+once_at {ts} k i = i.regions.deps_once (place_of k ts.regions)
 
 -- ---- a line's owner
 
@@ -117,18 +117,18 @@ pub data Owner (b : Board) (s : u.State (List ℕ)) (l : ℕ) : Type 0 where
       → s.done e.rid ≡ false → listed e.rid b.tables.regions ≡ true → Owner b s l
 
 module _ {m : ℕ → List ℕ} {b : Board} {es : List Account} {s : u.State (List ℕ)} {h : v.History (List ℕ)} (rc : Reach m s h) (i : Sim b es s h) where
-  pub logged-live : (k l : ℕ) → c.logged k (s.chain l) ≡ true → (s.born k ≡ true) × (s.done k ≡ false)
-  logged-live k l e = (structured m s h rc).of_live l k e
+  pub logged_live : (k l : ℕ) → c.logged k (s.chain l) ≡ true → (s.born k ≡ true) × (s.done k ≡ false)
+  logged_live k l e = (structured m s h rc).of_live l k e
 
-  pub open-listed : (k : ℕ) → u.Open s k → listed k b.tables.regions ≡ true
-  open-listed k o =
-      live-listed rc i k o.began (test (s.done k) (λ d. never ((structured m s h rc).committed k d) o.goes_on) (λ d. d))
+  pub open_listed : (k : ℕ) → u.Open s k → listed k b.tables.regions ≡ true
+  open_listed k o =
+      live_listed rc i k o.began (test (s.done k) (λ d. never ((structured m s h rc).committed k d) o.goes_on) (λ d. d))
 
-  pub owner-is : (l : ℕ) → Owner b s l
-  owner-is l = go (s.chain l) refl
+  pub owner_is : (l : ℕ) → Owner b s l
+  owner_is l = go (s.chain l) refl
     where
       go : (c : List (u.Entry (List ℕ))) → s.chain l ≡ c → Owner b s l
       go [] q = unowned q (sym (i.top l) ∙ rw q)
       go (e ∷ c) q =
-          let z = logged-live e.rid l (rw (q, is_same e.rid)) in
-          owned e c q (sym (i.top l) ∙ rw q) z.0 z.1 (live-listed rc i e.rid z.0 z.1)
+          let z = logged_live e.rid l (rw (q, is_same e.rid)) in
+          owned e c q (sym (i.top l) ∙ rw q) z.0 z.1 (live_listed rc i e.rid z.0 z.1)

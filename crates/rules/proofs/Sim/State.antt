@@ -60,7 +60,7 @@ pub record GoodRegions (rs : List Region) : Type 0 where
   pub unique : (i : ℕ) → (get_or rs i no_region).key ≢ 0 → place_of (get_or rs i no_region).key rs ≡ i
   pub channels : SixteenEach rs
   -- the dependences are a set
-  pub deps-once : (i a b : ℕ) → get_or (get_or rs i no_region).deps a 0 ≢ 0 → get_or (get_or rs i no_region).deps a 0 ≡ get_or (get_or rs i no_region).deps b 0 → a ≡ b
+  pub deps_once : (i a b : ℕ) → get_or (get_or rs i no_region).deps a 0 ≢ 0 → get_or (get_or rs i no_region).deps a 0 ≡ get_or (get_or rs i no_region).deps b 0 → a ≡ b
 
 -- the threads, of which the first n are in use
 pub record GoodThreads (n : ℕ) (ths : List Thread) : Type 0 where
@@ -75,17 +75,17 @@ pub record Shape (ts : Tables) : Type 0 where
   pub lock : length ts.lock ≡ 256
   -- before setup nothing has happened: at most 8 threads and 256 lines after it
   pub size : is_set_up ts ≡ false → ts.size.threads ≡ 0
-  pub cut-setup : ts.cut ≡ true → is_set_up ts ≡ true
+  pub cut_setup : ts.cut ≡ true → is_set_up ts ≡ true
 
 pub record Memories (b : Board) : Type 0 where
   pub cur : length b.cur ≡ 256
   pub med : length b.med ≡ 256
   pub old : length b.old ≡ 256
   pub car : length b.car ≡ 256
-  pub cur-lines : (l : ℕ) → l < 256 → is_line (line_of l b.cur) ≡ true
-  pub med-lines : (l : ℕ) → l < 256 → is_line (line_of l b.med) ≡ true
-  pub old-lines : (l : ℕ) → l < 256 → is_line (line_of l b.old) ≡ true
-  pub car-lines : (l : ℕ) → l < 256 → is_line (line_of l b.car) ≡ true
+  pub cur_lines : (l : ℕ) → l < 256 → is_line (line_of l b.cur) ≡ true
+  pub med_lines : (l : ℕ) → l < 256 → is_line (line_of l b.med) ≡ true
+  pub old_lines : (l : ℕ) → l < 256 → is_line (line_of l b.old) ≡ true
+  pub car_lines : (l : ℕ) → l < 256 → is_line (line_of l b.car) ≡ true
 
 -- ---- the log: each entry is one of the chain of its line
 
@@ -122,8 +122,8 @@ pub record Told (b : Board) (es : List Account) (s : u.State (List ℕ)) (h : v.
   pub writes : h.writes ≡ conv (writes_in es)
   pub uses : (k q : ℕ) → draws_on k q (uses_in es) ≡ true → q ≢ 0 → (v.used k q h.uses ≡ true) ⊎ (s.done q ≡ true)
   -- an open region is its thread's last one, and the thread is inside it
-  pub open-last : (k : ℕ) → u.Open s k → (k ≡ region_in (thread_of k) es) × (depth_in (thread_of k) es ≢ 0)
-  pub last-open : (t : ℕ) → depth_in t es ≢ 0 → u.Open s (region_in t es)
+  pub open_last : (k : ℕ) → u.Open s k → (k ≡ region_in (thread_of k) es) × (depth_in (thread_of k) es ≢ 0)
+  pub last_open : (t : ℕ) → depth_in t es ≢ 0 → u.Open s (region_in t es)
   pub owner : (l : ℕ) → get_or b.tables.owner l 0 ≡ last_writer l (writes_in es)
 
 abbrev pub is_use : Account → Bool
@@ -194,8 +194,8 @@ pub shape_of : {m : Memory} {b : Board} {es : List Account} → Simulated m b es
 shape_of (by s h w i) = i.shape
 
 -- the thread's depth by the events
-pub depth-of : {m : Memory} {b : Board} {es : List Account} → Simulated m b es → (t : ℕ) → (thread_at t b.tables).depth ≡ depth_in t es
-depth-of (by s h w i) t = i.told.depth t
+pub depth_of_lem : {m : Memory} {b : Board} {es : List Account} → Simulated m b es → (t : ℕ) → (thread_at t b.tables).depth ≡ depth_in t es
+depth_of_lem (by s h w i) t = i.told.depth t
 
 -- what every accepted event keeps
 pub record Kept (m : Memory) (b : Board) (es : List Account) : Type 0 where

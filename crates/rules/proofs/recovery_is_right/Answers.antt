@@ -1,6 +1,6 @@
 -- `rules::recovery_is_right` meets its contract, which is the theorem.
-use Rattle.rules.proofs.Main.{recovery-is-right}
+use Rattle.rules.proofs.Main.{recovery_is_right}
 use Rattle.rules.proofs.recovery_is_right.Goals as goal
 
 pub returns : goal.returns
-returns c = recovery-is-right
+returns c = recovery_is_right

@@ -1,5 +1,5 @@
 use Rattle.rows.specs.Row.{region_of}
-use Rattle.rows.proofs.Laws.{got, got-behind}
+use Rattle.rows.proofs.Laws.{got, got_behind}
 use borrow.Author.Rules.{rules}
 use Rattle.tables.proofs.ended_at.Goals as goal
 
@@ -8,4 +8,4 @@ unfolding region_of
 returns-then-i-lt-MOST_REGIONS c = let s = c.args in rw (got s.regions.now s.i) c.ended_in.ensures
 
 pub returns-else-i-lt-MOST_REGIONS : goal.returns-else-i-lt-MOST_REGIONS
-returns-else-i-lt-MOST_REGIONS c = let s = c.args in rw (got-behind s.regions.now s.i (search rules))
+returns-else-i-lt-MOST_REGIONS c = let s = c.args in rw (got_behind s.regions.now s.i (search rules))

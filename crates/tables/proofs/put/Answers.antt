@@ -1,10 +1,10 @@
 use Rattle.rows.specs.Row.{region_of}
-use Rattle.rows.proofs.Laws.{map-set, put-behind}
+use Rattle.rows.proofs.Laws.{map_set, put_behind}
 use borrow.Author.Rules.{rules}
 use Rattle.tables.proofs.put.Goals as goal
 
 pub returns-then-i-lt-MOST_REGIONS : goal.returns-then-i-lt-MOST_REGIONS
-returns-then-i-lt-MOST_REGIONS c = rw (map-set region_of _ _ _, c.row_of-w.ensures)
+returns-then-i-lt-MOST_REGIONS c = rw (map_set region_of _ _ _, c.row_of-w.ensures)
 
 pub returns-else-i-lt-MOST_REGIONS : goal.returns-else-i-lt-MOST_REGIONS
-returns-else-i-lt-MOST_REGIONS c = let s = c.args in put-behind s.regions.now s.i s.r (search rules)
+returns-else-i-lt-MOST_REGIONS c = let s = c.args in put_behind s.regions.now s.i s.r (search rules)

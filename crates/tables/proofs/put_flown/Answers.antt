@@ -1,7 +1,7 @@
 use native.Mathlib.Omega.{arith}
 use borrow.Author.Tests.{le-ltb, lt-ltb}
 use lib.ListN.{length}
-use Rattle.rows.proofs.Laws.{rows-length}
+use Rattle.rows.proofs.Laws.{rows_length}
 use Rattle.rows.specs.Row.{regions_of}
 use Rattle.tables.specs.Flight.{flown_at}
 use Rattle.tables.proofs.put_flown.Goals as goal
@@ -11,7 +11,7 @@ unfolding flown_at
 returns-then-i-lt-MOST_REGIONS c =
     λ h threads owner med old.
     let s = c.args in
-    let n = rows-length s.regions.now c.regions_length.ensures in
+    let n = rows_length s.regions.now c.regions_length.ensures in
     let g = c.fly-now in
     rw (
       lt-ltb s.i (length (regions_of s.regions.now)) (omega (arith, n, c.if-i-lt-MOST_REGIONS.true)),
@@ -25,5 +25,5 @@ unfolding flown_at
 returns-else-i-lt-MOST_REGIONS c =
     λ h threads owner med old.
     let s = c.args in
-    let n = rows-length s.regions.now c.regions_length.ensures in
+    let n = rows_length s.regions.now c.regions_length.ensures in
     rw (le-ltb s.i (length (regions_of s.regions.now)) (omega (arith, n, c.if-i-lt-MOST_REGIONS.false)))

@@ -1,5 +1,5 @@
 use Rattle.std.proofs.Common.{arith}
-use Rattle.parsing.proofs.Lines.{last-in}
+use Rattle.parsing.proofs.Lines.{last_in}
 use Rattle.tobytes.specs.Results.{line_end}
 use Rattle.tobytes.proofs.line_end.Goals as goal
 
@@ -9,4 +9,4 @@ returns-then-last c = (rw c.if-last.true, omega arith)
 
 pub returns : goal.returns
 unfolding line_end
-returns c = (rw c.if-last.false c.whole_lines.ensures, omega (arith, c.whole_lines.ensures, last-in c.args.piece.now))
+returns c = (rw c.if-last.false c.whole_lines.ensures, omega (arith, c.whole_lines.ensures, last_in c.args.piece.now))

@@ -1,5 +1,5 @@
 use Rattle.std.proofs.Common.{◌≡◌, ◌≤◌, leb, length, take, arith, length-take-le, take-take}
-use Rattle.pieces.proofs.Move.{refilled-front, shifted-front}
+use Rattle.pieces.proofs.Move.{refilled_front, shifted_front}
 use Rattle.tobytes.specs.Results.{line_end}
 use Rattle.tobytes.proofs.piece.Goals as goal
 
@@ -20,8 +20,8 @@ returns g c =
       pieced =
           record {
             piece = take n d;
-            begins = refilled-front c.args.text.now d c.args.have n f.ensures.refilled f.auto.buf;
-            left = rw (h.1, h.0, ← k) (shifted-front d b.result n counts);
+            begins = refilled_front c.args.text.now d c.args.have n f.ensures.refilled f.auto.buf;
+            left = rw (h.1, h.0, ← k) (shifted_front d b.result n counts);
             reads = rw (← k, t) a.ensures.lined.reads;
             form = rw (← k, t) a.ensures.lined.form;
             ends = rw l;

@@ -1,6 +1,6 @@
 use Rattle.std.proofs.Common.{◌≡◌, ℕ, drop, take, arith, ap, sym, ◌∙◌, length-take-le}
 use Rattle.events.specs.Whole.{whole_length}
-use Rattle.pieces.proofs.Move.{moved_all, refilled-front, shifted-front}
+use Rattle.pieces.proofs.Move.{moved_all, refilled_front, shifted_front}
 use Rattle.totext.proofs.piece.Goals as goal
 
 pub slice_bounds-may_come-end : goal.slice_bounds-may_come-end
@@ -21,12 +21,12 @@ returns g c =
     let w = c.shift-held in
     let counts = r.ensures.refilled.counts in
     let l : take w.result w.new.buf ≡ drop (whole_length (take n d)) (take n d) =
-    rw (w.ensures.1, w.ensures.0) (shifted-front d s.result.passed n counts ∙ ap (λ (x : ℕ). drop x (take n d)) s.ensures.passed) in
+    rw (w.ensures.1, w.ensures.0) (shifted_front d s.result.passed n counts ∙ ap (λ (x : ℕ). drop x (take n d)) s.ensures.passed) in
     record {
       pieced =
           record {
             piece = take n d;
-            begins = refilled-front c.args.file.now d c.args.have n r.ensures.refilled r.auto.buf;
+            begins = refilled_front c.args.file.now d c.args.have n r.ensures.refilled r.auto.buf;
             left = l;
             more = rw (← l, length-take-le n d counts) c.may_come.ensures;
             ends = rw (length-take-le n d counts);

@@ -1,5 +1,5 @@
 use Rattle.std.proofs.Common.{take, refl, length-take-le}
-use Rattle.pieces.proofs.Move.{refilled-front, shifted-front}
+use Rattle.pieces.proofs.Move.{refilled_front, shifted_front}
 use Rattle.trace.proofs.Over.{turned_over}
 use Rattle.trace.proofs.turn.Goals as goal
 
@@ -17,12 +17,12 @@ returns g c =
     turned_over _ _ _ _ _ _ w.result
     (record {
       piece = take n d;
-      begins = refilled-front c.args.buffer.now d c.args.s.held n q.refilled f.auto.buf;
+      begins = refilled_front c.args.buffer.now d c.args.s.held n q.refilled f.auto.buf;
       still = λ e. rw l (q.none e);
       ends = rw l;
       traced = p.result;
       ran = rw l p.ensures;
-      left = rw (h.1, h.0) (shifted-front d p.result.passed n counts);
+      left = rw (h.1, h.0) (shifted_front d p.result.passed n counts);
       sent = w.result;
       told = rw l c.goes_on.ensures;
     })

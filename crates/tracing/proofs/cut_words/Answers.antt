@@ -1,7 +1,7 @@
 use mathlib.Core.Path.{◌∙◌, ap}
 use Rattle.output.specs.Room.{puts, room}
 use Rattle.rows.specs.Whole.{board_of}
-use Rattle.tracing.proofs.Saved.{cut-said}
+use Rattle.tracing.proofs.Saved.{cut_said}
 use Rattle.tracing.proofs.cut_words.Goals as goal
 
 pub returns : goal.returns
@@ -11,4 +11,4 @@ returns c =
     λ owner lock cur car.
     c.saved_words.ensures owner lock cur car
     ∙ ap (puts (room a.dst.now a.c))
-    (cut-said (board_of a.h a.threads.now a.regions.now owner lock cur a.med.now a.old.now car) i.result i.ensures)
+    (cut_said (board_of a.h a.threads.now a.regions.now owner lock cur a.med.now a.old.now car) i.result i.ensures)

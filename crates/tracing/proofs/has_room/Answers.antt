@@ -7,8 +7,8 @@ use borrow.Author.Tests.{le-leb, leb-false, leb-true, lt-leb}
 use Rattle.undo.proofs.Laws.{test}
 use Rattle.tracing.proofs.has_room.Goals as goal
 
-leb-less : (a k n : ℕ) → k ≤ n → leb a (n - k) ≡ leb (a + k) n
-leb-less a k n h =
+leb_less : (a k n : ℕ) → k ≤ n → leb a (n - k) ≡ leb (a + k) n
+leb_less a k n h =
     test (leb (a + k) n)
     (λ e. rw (e, le-leb a (n - k) (omega (arith, leb-true (a + k) n e))))
     (λ e. rw (e, lt-leb a (n - k) (omega (arith, leb-false (a + k) n e))))
@@ -17,4 +17,4 @@ pub returns-then-n-lt-LONGEST_TEXT : goal.returns-then-n-lt-LONGEST_TEXT
 returns-then-n-lt-LONGEST_TEXT c = sym (lt-leb (c.args.at + longest_text) c.args.n (omega arith))
 
 pub returns : goal.returns
-returns c = leb-less c.args.at longest_text c.args.n (omega arith)
+returns c = leb_less c.args.at longest_text c.args.n (omega arith)

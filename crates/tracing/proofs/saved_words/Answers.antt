@@ -7,7 +7,7 @@ use native.Mathlib.Omega.{arith}
 use Rattle.output.specs.Room.{puts, room}
 use Rattle.rows.specs.Whole.{board_of}
 use Rattle.rules.specs.Tables.{Board}
-use Rattle.tracing.proofs.Saved.{none-saved, saved-fits, some-saved, taken}
+use Rattle.tracing.proofs.Saved.{none_saved, saved_fits, some_saved, taken}
 use Rattle.tracing.proofs.Texts.{nothing}
 use Rattle.tracing.proofs.saved_words.Goals as goal
 
@@ -18,7 +18,7 @@ returns-then-saved-ne0 c =
     let a = c.args in
     λ owner lock cur car.
     nothing _
-    (none-saved (from owner lock cur car) a.image.now (saved) c.save-saved.result (c.save-saved.ensures owner lock cur car) a.h.size.lines c.if-saved-ne0.true)
+    (none_saved (from owner lock cur car) a.image.now (saved) c.save-saved.result (c.save-saved.ensures owner lock cur car) a.h.size.lines c.if-saved-ne0.true)
 
 pub slice_bounds-image_words-end : goal.slice_bounds-image_words-end
 slice_bounds-image_words-end c =
@@ -27,7 +27,7 @@ slice_bounds-image_words-end c =
     let fits : c.save-saved.result.refusal ≡ 0 → c.save-saved.result.value ≤ length (saved) = λ h. omega (
       arith,
       c.save-saved.auto.image,
-      saved-fits (from [] [] [] []) c.args.image.now (saved) c.save-saved.result (c.save-saved.ensures [] [] [] []) h,
+      saved_fits (from [] [] [] []) c.args.image.now (saved) c.save-saved.result (c.save-saved.ensures [] [] [] []) h,
     ) in
     fits c.if-saved-ne0.false
 
@@ -38,7 +38,7 @@ slice_bounds-image_words-end-2 c =
     let fits : c.save-saved.result.refusal ≡ 0 → c.save-saved.result.value ≤ length (saved) = λ h. omega (
       arith,
       c.save-saved.auto.image,
-      saved-fits (from [] [] [] []) c.args.image.now (saved) c.save-saved.result (c.save-saved.ensures [] [] [] []) h,
+      saved_fits (from [] [] [] []) c.args.image.now (saved) c.save-saved.result (c.save-saved.ensures [] [] [] []) h,
     ) in
     taken c.save-saved.result.value (saved) (fits c.if-saved-ne0.false)
 
@@ -50,4 +50,4 @@ returns c =
     λ owner lock cur car.
     c.image_words.ensures.1
     ∙ ap (puts (room a.dst.now a.c))
-    (sym (some-saved (from owner lock cur car) a.image.now (saved) c.save-saved.result (c.save-saved.ensures owner lock cur car) a.h.size.lines c.if-saved-ne0.false))
+    (sym (some_saved (from owner lock cur car) a.image.now (saved) c.save-saved.result (c.save-saved.ensures owner lock cur car) a.h.size.lines c.if-saved-ne0.false))

@@ -9,7 +9,7 @@ use Rattle.rows.specs.Whole.{board_of, stepped}
 use Rattle.rules.specs.Step.{Stepped, step}
 use Rattle.rules.specs.Tables.{Board}
 use Rattle.tracing.proofs.Due.{is_false, is_true}
-use Rattle.tracing.proofs.Texts.{event-put}
+use Rattle.tracing.proofs.Texts.{event_put}
 use Rattle.tracing.specs.Text.{longest_text}
 use Rattle.tracing.proofs.trace_event.Goals as goal
 
@@ -32,7 +32,7 @@ returns c =
     (record {
       told = refl;
       stands = ap (λ (s : Stepped). s.board) {x = gives} {y = step (from) a.bytes.now} c.event-o.ensures;
-      written = event-put (from) a.bytes.now (gives) k.result c.event-o.ensures k.ensures _ _ _ _ _ _
+      written = event_put (from) a.bytes.now (gives) k.result c.event-o.ensures k.ensures _ _ _ _ _ _
           (leb-true (a.at + longest_text) (length a.dst.now) (roomy)) c.answer_line-p.ensures w;
       passes = c.record_length.ensures;
     })

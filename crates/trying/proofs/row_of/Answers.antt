@@ -1,6 +1,6 @@
 use mathlib.Core.Path.{◌∙◌, ap, sym}
 use Rattle.trying.specs.Line.{row_byte, row_from, row_of}
-use Rattle.trying.proofs.Turns.{row-end, row_on}
+use Rattle.trying.proofs.Turns.{row_end, row_on}
 use native.Mathlib.Omega.{arith}
 use borrow.Author.Rules.{rules}
 use Rattle.trying.proofs.row_of.Goals as goal
@@ -14,4 +14,4 @@ loop-i-preserved c = let at = c.loop-i in (search rules, rw c.row_with_byte-r.en
 
 pub returns : goal.returns
 unfolding row_of
-returns c = let at = c.loop-i in c.row_with_byte.ensures ∙ ap (λ x. row_byte x 32) (sym (row-end at.r c.args.line.now at.i (omega arith)) ∙ at.invariant.1)
+returns c = let at = c.loop-i in c.row_with_byte.ensures ∙ ap (λ x. row_byte x 32) (sym (row_end at.r c.args.line.now at.i (omega arith)) ∙ at.invariant.1)

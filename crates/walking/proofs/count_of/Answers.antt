@@ -3,7 +3,7 @@ use lib.Dec.{eqb}
 use native.Mathlib.Omega.{arith}
 use borrow.Author.Rules.{rules}
 use borrow.Author.Tests.{eq-eqb, ne_eqb}
-use Rattle.lookup.proofs.Search.{count-end, count-on}
+use Rattle.lookup.proofs.Search.{count_end, count_on}
 use Rattle.walking.proofs.count_of.Goals as goal
 use Rattle.walking.proofs.count_of.Goals.{then-log-i, else-log-i}
 
@@ -13,7 +13,7 @@ loop-i-init c = (search rules, (search rules, omega arith))
 pub loop-i-preserved : goal.loop-i-preserved
 loop-i-preserved c =
     let a = c.args in
-    let on = count-on (λ k. eqb k a.key) c.loop-i.i a.log.now 0 (search rules) c.loop-i.c in (
+    let on = count_on (λ k. eqb k a.key) c.loop-i.i a.log.now 0 (search rules) c.loop-i.c in (
       search rules,
       elim c.if-log-i.branch [
         | then-log-i w ↦ (omega arith, rw w.c-is (rw (eq-eqb _ _ w.if-log-i.true) at on ∙ c.loop-i.invariant.1.1))
@@ -24,4 +24,4 @@ loop-i-preserved c =
 pub returns : goal.returns
 returns c =
     let a = c.args in
-    sym (count-end (λ k. eqb k a.key) c.loop-i.c c.loop-i.i a.log.now (search rules)) ∙ c.loop-i.invariant.1.1
+    sym (count_end (λ k. eqb k a.key) c.loop-i.c c.loop-i.i a.log.now (search rules)) ∙ c.loop-i.invariant.1.1

@@ -2,7 +2,7 @@ use Prim.Native.Nat.{◌-◌}
 use mathlib.Core.Path.{◌∙◌, ◌≡◌, refl, sym}
 use borrow.Author.Rules.{rules}
 use borrow.Author.Tests.{eq-eqb, ne_eqb}
-use Rattle.walking.proofs.Indices.{nth_here, nth-less, nth-skip}
+use Rattle.walking.proofs.Indices.{nth_here, nth_less, nth_skip}
 use Rattle.walking.specs.Indices.{last_first, nth}
 use Rattle.walking.proofs.entry_in.Goals as goal
 
@@ -18,12 +18,12 @@ returns-then-left-eq0 c =
 pub loop-i-preserved-then-log-i : goal.loop-i-preserved-then-log-i
 loop-i-preserved-then-log-i c =
     let a = c.args in
-    (search rules, nth-less a.key a.log.now c.loop-i.i (c.loop-i.i - 1) (search rules) c.loop-i.left (c.loop-i.left - 1) (search rules) (eq-eqb _ _ c.if-log-i.true) ∙ c.loop-i.invariant.1)
+    (search rules, nth_less a.key a.log.now c.loop-i.i (c.loop-i.i - 1) (search rules) c.loop-i.left (c.loop-i.left - 1) (search rules) (eq-eqb _ _ c.if-log-i.true) ∙ c.loop-i.invariant.1)
 
 pub loop-i-preserved : goal.loop-i-preserved
 loop-i-preserved c =
     let a = c.args in
-    (search rules, nth-skip a.key a.log.now c.loop-i.i (c.loop-i.i - 1) (search rules) c.loop-i.left (ne_eqb _ _ c.if-log-i.false) ∙ c.loop-i.invariant.1)
+    (search rules, nth_skip a.key a.log.now c.loop-i.i (c.loop-i.i - 1) (search rules) c.loop-i.left (ne_eqb _ _ c.if-log-i.false) ∙ c.loop-i.invariant.1)
 
 pub returns : goal.returns
 unfolding last_first nth

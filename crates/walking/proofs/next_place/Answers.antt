@@ -3,7 +3,7 @@ use mathlib.Core.Bool.{not}
 use lib.Dec.{eqb}
 use native.Mathlib.Omega.{arith}
 use borrow.Author.Rules.{rules}
-use Rattle.lookup.proofs.Search.{place_end, place-hit, place-on}
+use Rattle.lookup.proofs.Search.{place_end, place_hit, place_on}
 use Rattle.undo.specs.Table.{any}
 use Rattle.walking.proofs.next_place.Goals as goal
 
@@ -13,7 +13,7 @@ loop-first-init c = (search rules, omega arith)
 pub loop-first-preserved : goal.loop-first-preserved
 loop-first-preserved c =
     let a = c.args in
-    (search rules, place-on (λ k. not (any (any (eqb k)) a.deps.now)) c.loop-first.first a.keys.now 0 (search rules) (ap not (sym c.is_needed.ensures) ∙ c.if-not-is_needed.false-raw) ∙ c.loop-first.invariant.1)
+    (search rules, place_on (λ k. not (any (any (eqb k)) a.deps.now)) c.loop-first.first a.keys.now 0 (search rules) (ap not (sym c.is_needed.ensures) ∙ c.if-not-is_needed.false-raw) ∙ c.loop-first.invariant.1)
 
 pub returns-then-keys-first : goal.returns-then-keys-first
 returns-then-keys-first c =
@@ -23,4 +23,4 @@ returns-then-keys-first c =
 pub returns-then-not-is_needed : goal.returns-then-not-is_needed
 returns-then-not-is_needed c =
     let a = c.args in
-    sym (place-hit (λ k. not (any (any (eqb k)) a.deps.now)) c.loop-first.first a.keys.now 0 (search rules) (ap not (sym c.is_needed.ensures) ∙ c.if-not-is_needed.true-raw)) ∙ c.loop-first.invariant.1
+    sym (place_hit (λ k. not (any (any (eqb k)) a.deps.now)) c.loop-first.first a.keys.now 0 (search rules) (ap not (sym c.is_needed.ensures) ∙ c.if-not-is_needed.true-raw)) ∙ c.loop-first.invariant.1

@@ -2,7 +2,7 @@ use mathlib.Core.Path.{◌∙◌, refl}
 use mathlib.Core.List.{[]}
 use lib.ListN.{length-set}
 use borrow.Author.Rules.{rules}
-use Rattle.walking.proofs.Turns.{moved-end, moved_up}
+use Rattle.walking.proofs.Turns.{moved_end, moved_up}
 use Rattle.walking.proofs.remove.Goals as goal
 
 pub loop-i-init : goal.loop-i-init
@@ -27,6 +27,6 @@ pub returns : goal.returns
 returns c =
     let a = c.args in
     let v = c.loop-i.invariant.1.1 in (
-      record { long = v.0.0; front = moved-end a.n c.loop-i.keys (search rules) c.loop-i.i (search rules) (search rules) ∙ v.0.1 },
-      record { long = v.1.0; front = moved-end a.n c.loop-i.deps (search rules) c.loop-i.i (search rules) (search rules) ∙ v.1.1 },
+      record { long = v.0.0; front = moved_end a.n c.loop-i.keys (search rules) c.loop-i.i (search rules) (search rules) ∙ v.0.1 },
+      record { long = v.1.0; front = moved_end a.n c.loop-i.deps (search rules) c.loop-i.i (search rules) (search rules) ∙ v.1.1 },
     )

@@ -1,5 +1,5 @@
-use Rattle.wording.proofs.Expected.{words-expected}
+use Rattle.wording.proofs.Expected.{words_expected}
 use Rattle.wording.proofs.words_are_right.Goals as goal
 
 pub returns : goal.returns
-returns c = words-expected
+returns c = words_expected

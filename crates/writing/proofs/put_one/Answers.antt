@@ -1,6 +1,6 @@
 use mathlib.Core.Path.{◌∙◌, refl, sym}
 use mathlib.Core.List.{[], ◌∷◌}
-use Rattle.writing.proofs.Emit.{puts_none, puts-some, room_for}
+use Rattle.writing.proofs.Emit.{puts_none, puts_some, room_for}
 use Rattle.writing.proofs.put_one.Goals as goal
 
 pub returns-then-not-has_room : goal.returns-then-not-has_room
@@ -16,4 +16,4 @@ put_byte-requires c =
 pub returns : goal.returns
 returns c =
     let a = c.args in
-    puts-some a.dst.now a.at (a.x ∷ []) 1 refl (sym c.has_room.ensures ∙ c.if-not-has_room.false) c.put_byte.ensures
+    puts_some a.dst.now a.at (a.x ∷ []) 1 refl (sym c.has_room.ensures ∙ c.if-not-has_room.false) c.put_byte.ensures

@@ -1,15 +1,15 @@
 use mathlib.Core.List.{[], ◌∷◌}
 use native.Mathlib.Omega.{arith}
-use Rattle.rules.proofs.Codec.Bytes.{length-bytes}
+use Rattle.rules.proofs.Codec.Bytes.{length_bytes}
 use Rattle.rules.specs.Bytes.{bytes_of}
-use Rattle.writing.proofs.Emit.{last, on, same-long, start}
+use Rattle.writing.proofs.Emit.{last, on, same_long, start}
 use Rattle.writing.proofs.put_two.Goals as goal
 
 pub put_byte-a-requires : goal.put_byte-a-requires
-put_byte-a-requires c = omega (arith, length-bytes 2 c.args.x)
+put_byte-a-requires c = omega (arith, length_bytes 2 c.args.x)
 
 pub put_byte-requires : goal.put_byte-requires
-put_byte-requires c = let g = c.put_byte-a.ensures in let l = same-long c.args.dst.now c.args.at (c.low.result ∷ []) g.0 in omega (arith, g.1, l, length-bytes 2 c.args.x)
+put_byte-requires c = let g = c.put_byte-a.ensures in let l = same_long c.args.dst.now c.args.at (c.low.result ∷ []) g.0 in omega (arith, g.1, l, length_bytes 2 c.args.x)
 
 pub returns : goal.returns
 unfolding bytes_of

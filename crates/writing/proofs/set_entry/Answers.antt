@@ -1,7 +1,7 @@
 use mathlib.Core.List.{[], ◌∷◌}
 use Rattle.rules.specs.Bytes.{line_bytes}
 use Rattle.rules.specs.Image.{entry_record, key_bytes}
-use Rattle.writing.proofs.Emit.{last, on, room, room-last, start}
+use Rattle.writing.proofs.Emit.{last, on, room, room_last, start}
 use Rattle.writing.proofs.set_entry.Goals as goal
 
 pub set_header-a-requires : goal.set_header-a-requires
@@ -22,7 +22,7 @@ unfolding entry_record
 put_line-requires c =
     let a = c.args in let w0 = start a.dst.now a.at (entry_record (record { key = a.key; line = a.line; old = a.old })) in
     let w1 = on (35 ∷ key_bytes a.key) (a.line ∷ line_bytes a.old) w0 c.set_header-a.ensures in
-    room-last (line_bytes a.old) (on (a.line ∷ []) (line_bytes a.old) w1 c.put_byte-b.ensures) c.requires
+    room_last (line_bytes a.old) (on (a.line ∷ []) (line_bytes a.old) w1 c.put_byte-b.ensures) c.requires
 
 pub returns : goal.returns
 unfolding entry_record

@@ -1,7 +1,7 @@
 use mathlib.Core.List.{[], ◌∷◌}
 use Rattle.rules.specs.Bytes.{bytes_of}
 use Rattle.rules.specs.Image.{head_record}
-use Rattle.writing.proofs.Emit.{last, on, room, room-last, start}
+use Rattle.writing.proofs.Emit.{last, on, room, room_last, start}
 use Rattle.writing.proofs.set_head.Goals as goal
 
 pub put_byte-a-requires : goal.put_byte-a-requires
@@ -18,7 +18,7 @@ pub put_two-requires : goal.put_two-requires
 unfolding head_record
 put_two-requires c =
     let a = c.args in let w = on (32 ∷ []) (a.threads ∷ bytes_of 2 a.lines) (start a.dst.now a.at (head_record a.threads a.lines)) c.put_byte-a.ensures in
-    room-last (bytes_of 2 a.lines) (on (a.threads ∷ []) (bytes_of 2 a.lines) w c.put_byte-b.ensures) c.requires
+    room_last (bytes_of 2 a.lines) (on (a.threads ∷ []) (bytes_of 2 a.lines) w c.put_byte-b.ensures) c.requires
 
 pub returns : goal.returns
 unfolding head_record
