@@ -1,4 +1,4 @@
--- what each test tells of the regions, whose keys it was given, is in judged-keys
+-- what each test tells of the regions, whose keys it was given, is in `judged_keys`
 use borrow.Author.Rules.{rules}
 use Rattle.judging.proofs.Keys.{judged_keys}
 use lib.ListN.{take}
