@@ -1,29 +1,22 @@
--- A log entry in the lent rows of the threads.
-use Rattle.std.specs.Prelude.{◌≤◌, ℕ, ◌≡◌, set}
-use Rattle.measures.specs.Loan.{Loan, Rows, left, was}
-use Rattle.rules.specs.Access.{is_of}
+-- A log entry in its thread's log.
+use Rattle.std.specs.Prelude.{◌≡◌, ◌<◌, ◌≤◌, ◌*◌, ◌+◌, ℕ, List, Option, MatchOption, length, set}
+use Rattle.rules.specs.Access.{free_entry, fresh_entry, is_of}
 use Rattle.rules.specs.Lists.{count, place}
-use Rattle.rules.specs.Tables.{no_entry, with_log, with_write}
+use Rattle.rules.specs.Measures.{most_entries}
+use Rattle.rules.specs.Tables.{line_of, no_entry, thread_at, with_log, with_old, with_tables, with_thread, with_write}
+use Rattle.rules.specs.declared.Board.{Board}
 use Rattle.rules.specs.declared.Entry.{Entry}
-use Rattle.rules.specs.declared.Thread.{Thread}
-use Rattle.rows.specs.Row.{threads_of}
-use Rattle.tables.specs.Held.{thread_held}
 
--- the first free place of a log
-abbrev pub free_in : Thread → ℕ
-free_in th = place (is_of 0) th.log
+-- an entry of region k for line l stands at the first free place, or there is none and the log is as it was
+abbrev pub IsAdded : ℕ → ℕ → List Entry → List Entry → Option ℕ → Type 0
+IsAdded k l es fs r =
+    MatchOption r ((length es ≤ place (is_of 0) es) × (fs ≡ es)) (λ i. (place (is_of 0) es ≡ i) × (i < length es) × (fs ≡ set es i (with_write k l (count (is_of k) es) no_entry)))
 
--- the next entry of region k, for line l
-abbrev pub entry_for : ℕ → ℕ → Thread → Entry
-entry_for k l th = with_write k l (count (is_of k) th.log) no_entry
-
--- r is the first free place of thread t's log, and the entry stands there now
-pub record Logs (r k l t : ℕ) (threads : Loan Rows) : Type 0 where
-  pub free : r ≡ free_in (thread_held (was threads) t)
-  pub below : r ≤ 32
-  pub entry :
-      threads_of (left threads)
-      ≡ set (threads_of (was threads)) t
-      (with_log
-      (set (thread_held (was threads) t).log (free_in (thread_held (was threads) t)) (entry_for k l (thread_held (was threads) t)))
-      (thread_held (was threads) t))
+-- the old line l and its entry of region k stand in the log of thread t
+abbrev pub entered : ℕ → ℕ → ℕ → Board → Board
+entered t k l b =
+    with_old (set b.log_lines (most_entries * t + free_entry t b.tables) (line_of l b.cur))
+    (with_tables
+    (with_thread t
+    (with_log (set (thread_at t b.tables).log (free_entry t b.tables) (fresh_entry t k l b.tables)) (thread_at t b.tables))
+    b.tables) b)

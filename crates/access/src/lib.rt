@@ -1,171 +1,166 @@
 #![tactic(auto)]
 
-// What an accepted read does and what a write does behind its tests before 20, in place. Each function has the rule of document 01 for its contract, for
-// every number and every content of the rows.
-ghost use Rattle.std.specs.Prelude.{◌≡◌};
-ghost use Rattle.measures.specs.Loan.{lent, shown};
-ghost use Rattle.rules.specs.Tables.{with_deps, with_recent, with_slots};
-ghost use Rattle.rules.specs.Access.{change_line, joined, logged, logged_once, note_read, read, stored_in};
-ghost use Rattle.rules.specs.declared.Event.TheVariants.{Write};
-ghost use Rattle.access.specs.Log.{Logs};
-ghost use Rattle.access.specs.Parts.{OnLog, OnRead, OnWrite};
+// What a read and a write do, where the board stands. Each answers for every value of its arguments; a thread above 7 has no log and no marks.
+// Kept: thread, line, word, mask and value travel as the record has them, `Event::Write` of crate rules, and each function looks at some of them alone: a struct of them is no plainer.
+ghost use Rattle.std.specs.Prelude.{◌≡◌, ◌<◌, ◌&&◌, cond, not, position, count_by, IfOk, IfSome, OnOk, OnErr};
+ghost use Rattle.undo.specs.Table.{any};
+ghost use Rattle.rules.specs.Tables.{region_at, thread_at};
+ghost use Rattle.rules.specs.Access.{change_line, is_of, logged, logged_once, needs_log, note_read, read, stored_in, write, wrote};
+ghost use Rattle.rules.specs.Slots.{is_full, slot_for};
+ghost use Rattle.rules.specs.Codes.{code_of};
+ghost use Rattle.lookup.specs.Place.{IsPlace};
+ghost use Rattle.refusals.specs.Order.{late};
+ghost use Rattle.access.specs.Log.{IsAdded, entered};
 
-use measures::{
-    Lines, Locks, MOST_ENTRIES, MOST_LOGGED, MOST_RECENT, MOST_SLOTS, MOST_THREADS, OldLines,
-    Owners, Regions, Threads,
-};
-use rules::{Found, Region, Slot};
+use measures::{Lines, MOST_ENTRIES, MOST_THREADS};
+use rules::{Board, Entry, Refusal, Region, Tables};
+
+// ---- read
+
+// "If the line's owner is uncommitted and not the current region, it joins the current region's dependences"
+fn depend(tables: &mut Tables, key: u32, line: u8)
+    ensures { tables.new ≡ read key line tables.old }
+{
+    let dep = tables::dependence(&tables.regions, tables.owner[line as usize], key);
+    if let Some(at) = tables::place_of(&tables.regions, key) {
+        lookup::join(&mut tables.regions[at].deps, dep);
+    }
+}
+
+/// What a read of a line by region `key` of a thread does: the line's owner becomes a dependence, and the line is marked as read.
+pub fn read(tables: &mut Tables, thread: u8, key: u32, line: u8)
+    ensures { tables.new ≡ note_read thread line (read key line tables.old) }
+{
+    depend(tables, key, line);
+    tables::note_read(tables, thread, line);
+}
 
 // ---- the log
 
-// Region k gets an entry for line l at the first free place of thread t's log. A full log, and a thread behind the list, stay as they are.
-fn log_entry(threads: &mut Threads, t: u8, k: u32, l: u8) -> usize
-    ensures { Logs result k l t (lent threads) }
+fn count_entries(log: &[Entry; MOST_ENTRIES], key: u32) -> usize
+    ensures { result ≡ count_by (is_of key) log.now }
 {
-    rows::threads_length(threads);
-    let ti = t as usize;
-    if MOST_THREADS <= ti {
-        return 0;
-    }
-    let i = rows::free_entry(&threads[ti]);
-    let mut e = rows::no_entry();
-    e.key = k;
-    e.line = l;
-    e.rank = rows::entry_count(&threads[ti], k);
-    rows::put_entry(&mut threads[ti], i, e);
-    i
+    log.iter().filter(|entry| entry.key == key).count()
 }
 
-// The line becomes a log entry of region k of thread t.
-fn log_line(
-    threads: &mut Threads,
-    owner: &mut Owners,
-    lock: &mut Locks,
-    cur: &Lines,
-    old: &mut OldLines,
-    t: u8,
-    k: u32,
-    l: u8,
-)
-    ensures { OnLog (logged t k l) (lent threads) (lent owner) (lent lock) (shown cur) (lent old) }
+// Kept: as `first_unheld` of crate tables.
+fn first_free(log: &[Entry; MOST_ENTRIES]) -> Option<usize>
+    ensures { result ≡ position (is_of 0) log.now }
 {
-    let li = l as usize;
-    let i = log_entry(threads, t, k, l);
-    owner[li] = k;
-    lock[li] = true;
-    rows::old_length(old);
-    let at = MOST_ENTRIES * (t as usize) + i;
-    if at < MOST_LOGGED {
-        let before = lines::line_of(cur, l);
-        old[at] = before;
-    }
+    log.iter().position(|entry| entry.key == 0)
 }
 
-// The same unless region k wrote the line last.
-fn log_once(
-    threads: &mut Threads,
-    owner: &mut Owners,
-    lock: &mut Locks,
-    cur: &Lines,
-    old: &mut OldLines,
-    t: u8,
-    k: u32,
-    l: u8,
-)
-    ensures { OnLog (logged_once t k l) (lent threads) (lent owner) (lent lock) (shown cur) (lent old) }
+#[tactic(auto, using(lookup::proofs::Lists::is_place))]
+fn free_entry(log: &[Entry; MOST_ENTRIES]) -> Option<usize>
+    ensures place { IsPlace (is_of 0) log.now result }
+    ensures within { IfSome result (λ at. at < 32) }
 {
-    let li = l as usize;
-    if owner[li] == k {
-        return;
-    }
-    log_line(threads, owner, lock, cur, old, t, k, l);
+    first_free(log)
 }
 
-// ---- the region
-
-// The region with the dependence d, 0 for none.
-fn joined_region(r: Region, d: u32) -> Region
-    ensures { result ≡ with_deps (joined d r.deps) r }
+// An entry of region `key` for the line, in flight, takes the first free place; the log stays as it is where none is free.
+fn add_entry(log: &mut [Entry; MOST_ENTRIES], key: u32, line: u8) -> Option<usize>
+    ensures added { IsAdded key line log.old log.new result }
+    ensures within { IfSome result (λ at. at < 32) }
 {
-    let deps = r.deps;
-    let now = lookup::join(deps, d);
-    let mut q = r;
-    q.deps = now;
-    q
-}
-
-// The region after a write that brings the dependence d, with its last four different lines and its slots.
-fn wrote_region(r: Region, d: u32, recent: [u8; MOST_RECENT], slots: [Slot; MOST_SLOTS]) -> Region
-    ensures { result ≡ with_slots slots (with_recent recent (with_deps (joined d r.deps) r)) }
-{
-    let mut q = joined_region(r, d);
-    q.recent = recent;
-    q.slots = slots;
-    q
-}
-
-// ---- write and read
-
-// The bytes of v at the bits of a mask go into word w of line l.
-fn store(cur: &mut Lines, l: u8, w: u8, mask: u8, v: u64)
-    ensures { cur.new ≡ change_line l (stored_in w mask v) cur.old }
-{
-    let x = lines::line_of(cur, l);
-    let y = lines::store_bytes(x, w as usize, mask, v);
-    lines::set_line(cur, l, y);
-}
-
-// A write of thread t to word w of line l that has passed the tests before 20: the refusal of the other two, or 0 and the write is done. One pass over the
-// region's slots gives test 20 its answer and the region its slots.
-pub fn write(
-    threads: &mut Threads,
-    regions: &mut Regions,
-    owner: &mut Owners,
-    lock: &mut Locks,
-    cur: &mut Lines,
-    old: &mut OldLines,
-    car: &mut Lines,
-    t: u8,
-    l: u8,
-    w: u8,
-    mask: u8,
-    v: u64,
-) -> u8
-    ensures { OnWrite result (Write t l w mask v) (lent threads) (lent regions) (lent owner) (lent lock) (lent cur) (lent old) (lent car) }
-{
-    let k = tables::current(threads, t);
-    let i = tables::place_of(regions, k);
-    let r = tables::get(regions, i);
-    let before = r.recent;
-    let slots = r.slots;
-    let recent = slots::renewed(before, l);
-    let pass = slots::one_pass(slots, recent, l);
-    let found = pass.slot;
-    let Found::At(at) = found else {
-        return 20;
+    let at = free_entry(log)?;
+    let rank = count_entries(log, key) as u8;
+    log[at] = Entry {
+        key,
+        line,
+        rank,
+        persistent: false,
     };
-    let o = owner[l as usize];
-    if refusals::lacks_entry(threads, t, o != k) {
-        return 21;
-    }
-    let d = tables::dependence(regions, o, k);
-    log_once(threads, owner, lock, cur, old, t, k, l);
-    let counted = pass.slots;
-    let now = slots::taken(counted, at, l);
-    let q = wrote_region(r, d, recent, now);
-    store(cur, l, w, mask, v);
-    tables::put_flown(regions, lock, cur, car, i, q);
-    0
+    Some(at)
 }
 
-// A read of line l by thread t in its region k: the dependence that it brings, and the line's mark.
-pub fn read(threads: &mut Threads, regions: &mut Regions, owner: &Owners, t: u8, k: u32, l: u8)
-    ensures { OnRead (λ ts. note_read t l (read k l ts)) (lent threads) (lent regions) (shown owner) }
+// "the whole old line becomes a log entry, in flight": refusal 21 where the log is full. A thread above 7 has no place for one, and nothing changes.
+fn keep_old_line(board: &mut Board, thread: u8, key: u32, line: u8) -> Result<(), Refusal>
+    ensures entered { OnOk result (board.new ≡ entered thread key line board.old) }
+    ensures kept { OnErr result (board.new ≡ board.old) }
+    ensures code { code_of result ≡ cond (not (any (is_of 0) (thread_at thread board.old.tables).log)) 21 0 }
 {
-    let d = tables::dependence(regions, owner[l as usize], k);
-    let i = tables::place_of(regions, k);
-    let r = tables::get(regions, i);
-    let q = joined_region(r, d);
-    tables::put(regions, i, q);
-    tables::note_read(threads, t, l);
+    tables::threads_are_eight(&board.tables.threads);
+    if MOST_THREADS <= thread as usize {
+        return Ok(());
+    }
+    let Some(at) = add_entry(&mut board.tables.threads[thread as usize].log, key, line) else {
+        return Err(Refusal::LogFull);
+    };
+    board.log_lines[MOST_ENTRIES * thread as usize + at] = board.cur[line as usize];
+    Ok(())
+}
+
+// "the current region becomes owner, the line is locked, and the whole old line becomes a log entry"
+#[tactic(auto, unfolding(rules::specs::Access::logged))]
+fn log_line(board: &mut Board, thread: u8, key: u32, line: u8) -> Result<(), Refusal>
+    ensures logged { OnOk result (board.new ≡ logged thread key line board.old) }
+    ensures kept { OnErr result (board.new ≡ board.old) }
+    ensures code { code_of result ≡ cond (not (any (is_of 0) (thread_at thread board.old.tables).log)) 21 0 }
+{
+    keep_old_line(board, thread, key, line)?;
+    board.tables.owner[line as usize] = key;
+    board.tables.lock[line as usize] = true;
+    Ok(())
+}
+
+// A line that the region owns is logged already.
+#[tactic(auto, unfolding(rules::specs::Access::needs_log))]
+fn log_once(board: &mut Board, thread: u8, key: u32, line: u8) -> Result<(), Refusal>
+    ensures logged { OnOk result (board.new ≡ logged_once thread key line board.old) }
+    ensures kept { OnErr result (board.new ≡ board.old) }
+    ensures code { code_of result ≡ cond (needs_log key line board.old.tables && not (any (is_of 0) (thread_at thread board.old.tables).log)) 21 0 }
+{
+    if board.tables.owner[line as usize] == key {
+        return Ok(());
+    }
+    log_line(board, thread, key, line)
+}
+
+// ---- write
+
+// Region `key` as a write of the line leaves it; refusal 20 where no slot is free.
+fn wrote(tables: &Tables, key: u32, line: u8) -> Result<Region, Refusal>
+    ensures region { IfOk result (λ r. r ≡ wrote key line tables.now (region_at key tables.now.regions)) }
+    ensures code { code_of result ≡ cond (is_full (slot_for line (region_at key tables.now.regions).slots)) 20 0 }
+{
+    let mut region = tables::region_at(&tables.regions, key);
+    let dep = tables::dependence(&tables.regions, tables.owner[line as usize], key);
+    lookup::join(&mut region.deps, dep);
+    slots::take_slot(&mut region, line)?;
+    Ok(region)
+}
+
+fn store(cur: &mut Lines, line: u8, word: u8, mask: u8, value: u64)
+    ensures { cur.new ≡ change_line line (stored_in word mask value) cur.old }
+{
+    let before = lines::line_of(cur, line);
+    lines::set_line(
+        cur,
+        line,
+        lines::store_bytes(before, word as usize, mask, value),
+    );
+}
+
+/// What a write does that has passed its tests before 20: the last two, and then the log entry, the region's slots and dependences, the bytes of the mask's bits, and
+/// what flies. A refusal, 20 or 21, leaves the board as it was.
+pub fn write(
+    board: &mut Board,
+    thread: u8,
+    line: u8,
+    word: u8,
+    mask: u8,
+    value: u64,
+) -> Result<(), Refusal>
+    ensures done { OnOk result (board.new ≡ write thread line (stored_in word mask value) board.old) }
+    ensures kept { OnErr result (board.new ≡ board.old) }
+    ensures code { code_of result ≡ late thread line board.old.tables }
+{
+    let key = tables::current(&board.tables, thread);
+    let region = wrote(&board.tables, key, line)?;
+    log_once(board, thread, key, line)?;
+    tables::put_region(&mut board.tables, key, region);
+    store(&mut board.cur, line, word, mask, value);
+    tables::fly(board, key);
+    Ok(())
 }

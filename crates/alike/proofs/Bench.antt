@@ -18,7 +18,8 @@ use Rattle.rules.specs.Record.{records_of}
 use Rattle.rules.specs.Recovery.{Restore, is_finished, recovery_call}
 use Rattle.rules.specs.Refusal.{is_set_up}
 use Rattle.rules.specs.Run.{wrote_into}
-use Rattle.rules.specs.Tables.{Board, Lent}
+use Rattle.rules.specs.Tables.{Lent}
+use Rattle.rules.specs.declared.Board.{Board}
 use Rattle.torn.proofs.Bench.{torn_bench}
 use Rattle.torn.specs.Bench.{torn_call, torn_calls}
 use Rattle.torn.specs.Torn.{Between, Inside, TornAct, Whole}

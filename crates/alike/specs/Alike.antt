@@ -9,7 +9,8 @@ use Rattle.rules.specs.Claim.{board_after, is_byte, is_byte_memory}
 use Rattle.rules.specs.History.{accepted_in, committed, draws_on, expected_bytes, has_cut, memory_found, uses_in}
 use Rattle.rules.specs.Lists.{all}
 use Rattle.rules.specs.Recovery.{PowerCut, Recovering, act, is_finished, restore}
-use Rattle.rules.specs.Tables.{Board, Memory}
+use Rattle.rules.specs.Tables.{Memory}
+use Rattle.rules.specs.declared.Board.{Board}
 use Rattle.torn.specs.Torn.{Between, Inside, TornAct, Whole, is_cut, torn_image, torn_read, torn_recovering, torn_state}
 
 -- ---- the new image, and acts on it with the new step

@@ -11,7 +11,8 @@ use Rattle.rules.specs.Record.{shares_at}
 use Rattle.rules.specs.Refusal.{in_range, refusal, tests_of}
 use Rattle.rules.specs.Run.{start_call}
 use Rattle.rules.specs.Step.{apply, step_by, step_event}
-use Rattle.rules.specs.Tables.{Board, Lent, fresh, fresh_tables}
+use Rattle.rules.specs.Tables.{Lent, fresh, fresh_tables}
+use Rattle.rules.specs.declared.Board.{Board}
 use Rattle.rules.specs.declared.Event.TheVariants.{Setup}
 use Rattle.rules.specs.declared.Shares.{Shares}
 

@@ -1,6 +1,6 @@
 -- The commits of a step, one after the other, n of them made.
 use Prim.Native.Nat.{◌+◌, ◌-◌, ◌/◌, ◌<◌, ◌≤◌, suc, zero, ℕ}
-use mathlib.Core.Bool.{Bool, ◌&&◌, and-false, cond, false, not, true}
+use mathlib.Core.Bool.{Bool, ◌&&◌, ◌||◌, and-false, cond, false, not, true}
 use mathlib.Core.List.{List, [], ◌∷◌, map}
 use mathlib.Core.Path.{◌∙◌, ◌≡◌, ap, ap₂, refl, sym}
 use lib.ListN.{length}
@@ -11,12 +11,11 @@ use Rattle.undo.proofs.Laws.{or_false}
 use Rattle.undo.specs.Table.{any}
 use Rattle.rules.specs.Commit.{Settled, after_commit, before, commit, commits, done_region, earlier, earliest, earliest_from, freed, settle, settled}
 use Rattle.rules.specs.Slots.{has_slot}
-use Rattle.rules.specs.Tables.{is_held, no_region, thread_at, thread_of, with_regions}
+use Rattle.rules.specs.Tables.{is_held, no_region, thread_at, thread_of, with_done, with_regions}
 use Rattle.rules.specs.declared.Region.{Region}
 use Rattle.rules.specs.declared.Tables.{Tables}
 use Rattle.rules.proofs.Lists.{or_none}
 use Rattle.commits.specs.Ripe.{ripe}
-use Rattle.commits.proofs.Row.{done_same}
 
 -- tables and a number of commits
 pub record Counted : Type 0 where
@@ -63,6 +62,10 @@ settle_full n t h =
 pub commit_none : (k : ℕ) (t : Tables) → length t.threads ≤ k / 65536 → with_regions (map (after_commit k) t.regions) t ≡ commit k t
 unfolding commit
 commit_none k t h = rw (set_out t.threads (k / 65536) (freed k (thread_at (thread_of k) t)) h)
+
+done_same : (r : Region) → (r.done || (r.ended && not (has_slot r))) ≡ r.done → done_region r ≡ r
+unfolding done_region
+done_same r e = ap (λ d. with_done d r) e
 
 -- ---- where no region is ripe nothing changes
 

@@ -1,2 +1,1 @@
 pub mod Ripe
-pub mod Settles

@@ -1,227 +1,161 @@
 #![tactic(auto)]
 
-// What is done, and what commits, in place over the lent rows: the last part of a step. A row is judged by its numbers, and no region is taken out of it.
-ghost use Rattle.std.specs.Prelude.{◌≡◌, ◌&&◌, map, eqb};
-ghost use Rattle.measures.specs.Loan.{lent};
+// "Done" and "Commit" in the tables where they stand: regions become done, and commit until none can.
+ghost use Rattle.std.specs.Prelude.{◌≡◌, map, length, if◌then◌else◌};
 ghost use Rattle.undo.specs.Table.{any};
-ghost use Rattle.rules.specs.Lists.{all};
-ghost use Rattle.rules.specs.Slots.{has_slot};
-ghost use Rattle.rules.specs.Commit.{after_commit, commit, commits, done_region, earlier, earliest, without_dep};
-ghost use Rattle.rows.specs.Row.{region_of, regions_of};
-ghost use Rattle.rows.specs.Whole.{OnTables};
-ghost use Rattle.tables.specs.Held.{region_held};
+ghost use Rattle.rules.specs.Commit.{after_commit, commit, commits, done_region, earlier, earliest, freed_entry, settled, without_dep};
 ghost use Rattle.commits.specs.Ripe.{ripe};
-ghost use Rattle.commits.specs.Settles.{Settles};
 
-use measures::{MOST_REGIONS, MOST_THREADS, NUMBERS, RegionRow, Regions, Threads};
+use measures::{MOST_DEPS, MOST_ENTRIES, MOST_REGIONS, MOST_THREADS, NUMBERS};
+use rules::{Entry, Region, Tables};
 
-// ---- one row
+// ---- done
 
-// Whether there is a slot: a number below 256 is an empty one.
-fn has_slot(row: &RegionRow) -> bool
-    ensures { result ≡ has_slot (region_of row.now) }
+#[tactic(auto, unfolding(rules::specs::Commit::done_region))]
+fn become_done(region: &mut Region)
+    ensures { region.new ≡ done_region region.old }
 {
-    rows::one_of(
-        row[8] > 255,
-        row[9] > 255,
-        row[10] > 255,
-        row[11] > 255,
-        row[12] > 255,
-        row[13] > 255,
-        row[14] > 255,
-        row[15] > 255,
-    )
-}
-
-fn and4(a: bool, b: bool, c: bool, d: bool) -> bool
-    ensures { result ≡ (a && (b && (c && d))) }
-{
-    a && (b && (c && d))
-}
-
-// Whether there is no dependence.
-fn no_dependence(row: &RegionRow) -> bool
-    ensures { result ≡ all (eqb 0) (region_of row.now).deps }
-{
-    and4(row[4] == 0, row[5] == 0, row[6] == 0, row[7] == 0)
-}
-
-// Whether the region can commit: it is done and has no dependence.
-fn can_commit(row: &RegionRow) -> bool
-    ensures { result ≡ commits (region_of row.now) }
-{
-    row[0] != 0 && (rows::done_in(row[1]) && no_dependence(row))
-}
-
-// Whether the region can commit, or has yet to become done and can: it has ended and has no slot.
-fn is_ripe(row: &RegionRow) -> bool
-    ensures { result ≡ ripe (region_of row.now) }
-{
-    if rows::done_in(row[1]) {
-        return can_commit(row);
-    }
-    rows::ended_in(row[1]) && !has_slot(row)
-}
-
-// The region is done if it has ended and has no slot.
-fn become_done(row: &mut RegionRow)
-    ensures { region_of row.new ≡ done_region (region_of row.old) }
-{
-    rows::region_length(row);
-    if rows::ended_in(row[1]) {
-        if !has_slot(row) {
-            row[1] = rows::done_word(row[1]);
-        }
+    if region.ended && !slots::has_slot(region) {
+        region.done = true;
     }
 }
 
-// The dependence d, or none if it is on the committed region.
-fn without_dep(key: u32, d: u32) -> u32
-    ensures { result ≡ without_dep key d }
+#[tactic(auto, using(lookup::proofs::Lists::turn))]
+fn done_all(regions: &mut [Region; MOST_REGIONS])
+    ensures { regions.new ≡ map done_region regions.old }
 {
-    if d == key { 0 } else { d }
-}
-
-// Of the committed region nothing is left, of another all but its dependence on that one.
-fn after_commit(row: &mut RegionRow, key: u32)
-    ensures { region_of row.new ≡ after_commit key (region_of row.old) }
-{
-    rows::region_length(row);
-    if row[0] == key {
-        *row = [0; 16];
-        return;
-    }
-    row[4] = without_dep(key, row[4]);
-    row[5] = without_dep(key, row[5]);
-    row[6] = without_dep(key, row[6]);
-    row[7] = without_dep(key, row[7]);
-}
-
-// ---- all rows
-
-// Whether there is anything to settle. Most rows are left after one number.
-fn has_ripe(regions: &Regions) -> bool
-    ensures { result ≡ any ripe (regions_of regions.now) }
-{
-    rows::regions_length(regions);
-    let mut i: usize = 0;
-    while i < MOST_REGIONS {
-        if is_ripe(&regions[i]) {
-            return true;
-        }
-        i += 1;
-    }
-    false
-}
-
-// Every region is done that has ended and has no slot.
-fn done_all(regions: &mut Regions)
-    ensures { regions_of regions.new ≡ map done_region (regions_of regions.old) }
-{
-    rows::regions_length(regions);
-    let mut i: usize = 0;
-    while i < MOST_REGIONS {
-        become_done(&mut regions[i]);
-        i += 1;
+    for region in regions {
+        become_done(region);
     }
 }
 
-// Region `key` vanishes from the list and from the dependences of the others.
-fn without_region(regions: &mut Regions, key: u32)
-    ensures { regions_of regions.new ≡ map (after_commit key) (regions_of regions.old) }
+// ---- commit
+
+#[tactic(auto, unfolding(rules::specs::Commit::commits))]
+fn commits(region: &Region) -> bool
+    ensures { result ≡ commits region.now }
 {
-    rows::regions_length(regions);
-    let mut i: usize = 0;
-    while i < MOST_REGIONS {
-        after_commit(&mut regions[i], key);
-        i += 1;
+    region.key != 0 && region.done && region.deps.iter().all(|&dep| dep == 0)
+}
+
+fn without_dep(dep: u32, key: u32) -> u32
+    ensures { result ≡ without_dep key dep }
+{
+    if dep == key { 0 } else { dep }
+}
+
+#[tactic(auto, using(std::proofs::lemmas::List::Edits::map_over_more))]
+fn drop_deps(deps: &mut [u32; MOST_DEPS], key: u32)
+    ensures { deps.new ≡ map (without_dep key) deps.old }
+{
+    for dep in deps {
+        *dep = without_dep(*dep, key);
     }
 }
 
-// ---- the next commit
-
-// Whether the region at place i can commit.
-fn commits_at(regions: &Regions, i: usize) -> bool
-    ensures { result ≡ commits (region_held regions.now i) }
+#[tactic(auto, unfolding(rules::specs::Commit::after_commit))]
+fn after_commit(region: &mut Region, key: u32)
+    ensures { region.new ≡ after_commit key region.old }
 {
-    rows::regions_length(regions);
-    if i < MOST_REGIONS {
-        can_commit(&regions[i])
+    if region.key == key {
+        *region = Region::default();
     } else {
-        false
+        drop_deps(&mut region.deps, key);
     }
 }
 
-// The stamp at place i.
-fn stamp_at(regions: &Regions, i: usize) -> u32
-    ensures { result ≡ (region_held regions.now i).stamp }
+#[tactic(auto, using(lookup::proofs::Lists::turn))]
+fn without_region(regions: &mut [Region; MOST_REGIONS], key: u32)
+    ensures { regions.new ≡ map (after_commit key) regions.old }
 {
-    rows::regions_length(regions);
-    if i < MOST_REGIONS { regions[i][3] } else { 0 }
-}
-
-// The better of two places: the one whose region commits, of two the one whose region ended earlier.
-fn earlier_of(regions: &Regions, best: usize, i: usize) -> usize
-    ensures { region_held regions.now result ≡ earlier (region_held regions.now best) (region_held regions.now i) }
-{
-    if !commits_at(regions, i) {
-        return best;
-    }
-    if !commits_at(regions, best) {
-        return i;
-    }
-    if stamp_at(regions, i) < stamp_at(regions, best) {
-        i
-    } else {
-        best
+    for region in regions {
+        after_commit(region, key);
     }
 }
 
-// The place of the region that commits next; where none can commit, a place behind the list.
-fn next_commit(regions: &Regions) -> usize
-    ensures { region_held regions.now result ≡ earliest (regions_of regions.now) }
+fn free_entry(entry: &mut Entry, key: u32)
+    ensures { entry.new ≡ freed_entry key entry.old }
 {
-    rows::regions_length(regions);
-    let mut best: usize = MOST_REGIONS;
-    let mut i: usize = 0;
-    while i < MOST_REGIONS {
-        best = earlier_of(regions, best, i);
-        i += 1;
+    if entry.key == key {
+        *entry = Entry::default();
+    }
+}
+
+#[tactic(auto, using(lookup::proofs::Lists::turn))]
+fn free_entries(log: &mut [Entry; MOST_ENTRIES], key: u32)
+    ensures { log.new ≡ map (freed_entry key) log.old }
+{
+    for entry in log {
+        free_entry(entry, key);
+    }
+}
+
+fn commit(tables: &mut Tables, key: u32)
+    ensures { tables.new ≡ commit key tables.old }
+{
+    without_region(&mut tables.regions, key);
+    let thread = (key / NUMBERS) as usize;
+    tables::threads_are_eight(&tables.threads);
+    if thread < MOST_THREADS {
+        free_entries(&mut tables.threads[thread].log, key);
+    }
+}
+
+// ---- which region commits next
+
+#[tactic(auto, unfolding(rules::specs::Commit::earlier))]
+fn is_earlier(region: &Region, best: &Region) -> bool
+    ensures { earlier best.now region.now ≡ (if result then region.now else best.now) }
+{
+    commits(region) && (!commits(best) || region.stamp < best.stamp)
+}
+
+fn earliest(regions: &[Region; MOST_REGIONS]) -> Region
+    ensures { result ≡ earliest regions.now }
+{
+    let mut best = Region::default();
+    for region in regions {
+        if is_earlier(region, &best) {
+            best = *region;
+        }
     }
     best
 }
 
-// Region `key` commits. A key of no thread has no log entries.
-fn commit_region(threads: &mut Threads, regions: &mut Regions, key: u32)
-    ensures { OnTables (commit key) (lent threads) (lent regions) }
+// A done region that commits, or another that becomes done.
+fn is_ripe(region: &Region) -> bool
+    ensures { result ≡ ripe region.now }
 {
-    rows::threads_length(threads);
-    without_region(regions, key);
-    let i = (key / NUMBERS) as usize;
-    if i < MOST_THREADS {
-        rows::free_entries(&mut threads[i], key);
+    if region.done {
+        commits(region)
+    } else {
+        region.ended && !slots::has_slot(region)
     }
 }
 
-// Regions become done, then commit, the earliest ended first, until none can commit; the answer is how many did. Each commit frees a place of the list,
-// so there are at most 32. Mostly there is nothing to settle, and one look at the rows tells.
-pub fn settle(threads: &mut Threads, regions: &mut Regions) -> u64
-    ensures { Settles result (lent threads) (lent regions) }
+fn has_ripe(regions: &[Region; MOST_REGIONS]) -> bool
+    ensures found { result ≡ any ripe regions.now }
+    ensures long { length regions.now ≡ 32 }
 {
-    if !has_ripe(regions) {
+    regions.iter().any(is_ripe)
+}
+
+/// Every ended region without slots becomes done, and regions commit, the one that ended first before the others, until none can. The value is how many did. Where
+/// no region is ripe nothing is gone through.
+pub fn settle(tables: &mut Tables) -> u64
+    ensures tables { tables.new ≡ (settled tables.old).tables }
+    ensures count { result ≡ length (settled tables.old).keys }
+{
+    if !has_ripe(&tables.regions) {
         return 0;
     }
-    rows::regions_length(regions);
-    done_all(regions);
-    let mut n: u64 = 0;
-    while n < MOST_REGIONS as u64 {
-        let i = next_commit(regions);
-        if !commits_at(regions, i) {
-            break;
+    done_all(&mut tables.regions);
+    for committed in 0..MOST_REGIONS as u64 {
+        let next = earliest(&tables.regions);
+        if !commits(&next) {
+            return committed;
         }
-        let key = tables::key_at(regions, i);
-        commit_region(threads, regions, key);
-        n += 1;
+        commit(tables, next.key);
     }
-    n
+    MOST_REGIONS as u64
 }

@@ -6,7 +6,7 @@ use Rattle.drill.specs.Calls.{Calls, CallsRecover, call, stop}
 use Rattle.rules.proofs.Main.{recovery_is_right}
 use Rattle.rules.specs.Run.{run}
 use Rattle.rules.specs.Step.{Stepped}
-use Rattle.rules.specs.Tables.{Board}
+use Rattle.rules.specs.declared.Board.{Board}
 use Rattle.rules.specs.declared.Answer.{Answer}
 use Rattle.torn.proofs.Torn.{torn_recovery}
 

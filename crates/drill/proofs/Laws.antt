@@ -9,7 +9,6 @@ use lib.ListN.{drop, drop_of_length-le, get_or, length, length-append, length-ta
 use lib.Seq.{drop-append_seam, drop-cons, take-append_seam}
 use native.Mathlib.Nat.{zero-add}
 use native.Mathlib.Omega.{arith}
-use borrow.Author.Tests.{eq-eqb, ne_eqb}
 use Rattle.rules.proofs.Cuts.{cut_is}
 use Rattle.rules.proofs.Laws.{records_bytes}
 use Rattle.rules.specs.Bytes.{paste}
@@ -21,30 +20,30 @@ use Rattle.rules.specs.Record.{records_of}
 use Rattle.rules.specs.Recovery.{Recovering, Restored, act, is_finished, restore}
 use Rattle.rules.specs.Refusal.{is_set_up}
 use Rattle.rules.specs.Run.{Wrote, wrote_into}
-use Rattle.rules.specs.Tables.{Board, Lent, Memory}
+use Rattle.rules.specs.Tables.{Lent, Memory}
+use Rattle.rules.specs.declared.Board.{Board}
 use Rattle.rules.specs.declared.Answer.{Answer}
 use Rattle.torn.proofs.Choices.{at_the_cut}
 use Rattle.torn.proofs.Torn.{cut_place, torn_recovery}
-use Rattle.torn.specs.Torn.{Inside, TornHolds, torn_act, torn_acts, torn_recovering}
+use Rattle.torn.specs.Torn.{Between, Inside, Whole, TornHolds, torn_act, torn_acts, torn_recovering}
 use Rattle.undo.proofs.Laws.{and_true, test}
-use Rattle.drill.specs.Drilled.{Drilled, Recovered, Step, TornFrom, act_of, acts_of, after_acts, ended, last_step, step_of, stepped, choice_of}
+use Rattle.drill.specs.Drilled.{Drilled, Recovered, Step, TornFrom, act_of, acts_of, after_acts, ended, last_step, step_of, stepped}
 
 -- ---- acts one by one
 
 module _ (r : Recovering) where
-  pub act_between : (a : ℕ) → a ≡ 0 → ◌≡◌ {A = Recovering} (record { bytes = r.bytes; at = 0 }) (torn_act r (act_of a))
-  unfolding act_of torn_act act
-  act_between a e = rw (eq-eqb a 0 e)
+  pub act_between : ◌≡◌ {A = Recovering} (record { bytes = r.bytes; at = 0 }) (torn_act r Between)
+  unfolding torn_act act
+  act_between = refl
 
-  pub act_step : (a : ℕ) → a ≢ 0 → a ≡ 255 → (restore r).after ≡ torn_act r (act_of a)
-  unfolding act_of torn_act act
-  act_step a n e = rw (ne_eqb a 0 n, eq-eqb a 255 e)
+  pub act_step : (restore r).after ≡ torn_act r Whole
+  unfolding torn_act act
+  act_step = refl
 
-  pub act_inside : (a : ℕ) → a ≢ 0 → a ≢ 255 → ◌≡◌ {A = Recovering} (record { bytes = (torn_act r (Inside (choice_of a))).bytes; at = 0 }) (torn_act r (act_of a))
-  unfolding act_of
-  act_inside a n k =
-      let z : (torn_act r (Inside (choice_of a))).at ≡ 0 = cut_place r (Inside (choice_of a)) refl in
-      rw (ne_eqb a 0 n, ne_eqb a 255 k) (λ i. record { bytes = (torn_act r (Inside (choice_of a))).bytes; at = sym z i })
+  pub act_inside : (p : ℕ → Bool) → ◌≡◌ {A = Recovering} (record { bytes = (torn_act r (Inside p)).bytes; at = 0 }) (torn_act r (Inside p))
+  act_inside p =
+      let z : (torn_act r (Inside p)).at ≡ 0 = cut_place r (Inside p) refl in
+      λ i. record { bytes = (torn_act r (Inside p)).bytes; at = sym z i }
 
   module _ (as' : List ℕ) (i : ℕ) where
     pub acts_more : i < length as' → (s : Recovering) → s ≡ torn_act r (act_of (get_or as' i 0)) → torn_acts s (acts_of (drop (i + 1) as')) ≡ torn_acts r (acts_of (drop i as'))

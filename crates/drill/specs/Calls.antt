@@ -5,7 +5,8 @@ use Rattle.rules.specs.History.{accepted_in, has_cut}
 use Rattle.rules.specs.Lists.{all}
 use Rattle.rules.specs.Recovery.{Act}
 use Rattle.rules.specs.Step.{Stepped, step}
-use Rattle.rules.specs.Tables.{Board, Memory, fresh}
+use Rattle.rules.specs.Tables.{Memory, fresh}
+use Rattle.rules.specs.declared.Board.{Board}
 use Rattle.rules.specs.declared.Answer.{Answer}
 use Rattle.torn.specs.Torn.{TornAct, TornHolds}
 

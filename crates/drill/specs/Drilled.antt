@@ -1,5 +1,7 @@
 -- What a drill returns, and what is promised of it.
 use Rattle.std.specs.Prelude.{ℕ, ◌≡◌, ◌≢◌, Bool, cond, false, true, List, ◌++◌, map, eqb, drop, take}
+use Rattle.drill.specs.declared.Act.{Act}
+use Rattle.drill.specs.declared.Act.TheVariants as act
 use Rattle.drill.specs.declared.DrillAnswers.{DrillAnswers}
 use Rattle.rules.specs.Access.{is_set}
 use Rattle.rules.specs.Claim.{board_after, is_byte, is_byte_memory}
@@ -19,6 +21,12 @@ choice_of a w = is_set w a
 -- the act of a byte: 255 is a recovery step, 0 a power cut between two steps, any other one inside a step, by which the words of its bits had been restored
 unfoldable pub act_of : ℕ → TornAct
 act_of a = cond (eqb a 0) Between (cond (eqb a 255) Whole (Inside (choice_of a)))
+
+-- an act as the enum of the program has it
+abbrev pub torn_of : Act → TornAct
+torn_of act.Step = Whole
+torn_of act.CutBetween = Between
+torn_of (act.CutInside a) = Inside (choice_of a)
 
 abbrev pub acts_of : List ℕ → List TornAct
 acts_of as' = map act_of as'

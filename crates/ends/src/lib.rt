@@ -1,147 +1,127 @@
 #![tactic(auto)]
 
-// What an accepted end and the accepted acknowledgements do before regions become done and commit, in place. Each function has the rule of document 01 for its
-// contract, for every number and every content of the rows.
-ghost use Rattle.std.specs.Prelude.{◌-◌, ◌≡◌, map, set};
-ghost use Rattle.measures.specs.Loan.{lent, shown};
-ghost use Rattle.rules.specs.Acknowledge.{data_ack, dropped, log_ack};
-ghost use Rattle.rules.specs.End.{end_region, ended_region, outside, shallower, tick};
-ghost use Rattle.rules.specs.Flight.{flown};
-ghost use Rattle.rows.specs.Row.{regions_of};
-ghost use Rattle.rows.specs.Whole.{OnFlight};
-ghost use Rattle.tables.specs.Held.{region_held};
-ghost use Rattle.ends.specs.Parts.{OnDataAck, OnEnd, OnLogAck, OnThreads};
+// What an end and the acknowledgements do where the board stands, before regions become done and commit. Each answers for every value of its arguments; a thread above
+// 7 has nothing that could change.
+ghost use Rattle.std.specs.Prelude.{◌≡◌, ◌-◌, map};
+ghost use Rattle.rules.specs.Tables.{no_reads, with_depth, with_reads};
+ghost use Rattle.rules.specs.End.{closed, end_region, outside, shallower};
+ghost use Rattle.rules.specs.Acknowledge.{data_ack, dropped, kept_entry, log_ack, unlocked};
 
-use measures::{Lines, Locks, MOST_REGIONS, Owners, Regions, Threads};
-use rows::Head;
-use rules::Region;
-
-// Region k's slots fly where they can.
-fn fly(regions: &mut Regions, lock: &Locks, cur: &Lines, car: &mut Lines, k: u32)
-    ensures { OnFlight (flown k) (lent regions) (shown lock) (shown cur) (lent car) }
-{
-    let i = tables::place_of(regions, k);
-    let r = tables::get(regions, i);
-    tables::put_flown(regions, lock, cur, car, i, r);
-}
+use measures::{MOST_ENTRIES, MOST_REGIONS, MOST_THREADS, NUMBERS, READ_WORDS};
+use rules::{Board, Entry, Region, Tables, Thread};
 
 // ---- end
 
-// The clock counts one end more.
-fn tick(c: u32) -> u32
-    ensures { result ≡ tick c }
+// Back at depth 0 what the thread has read counts no more.
+fn leave(thread: &mut Thread)
+    ensures { thread.new ≡ with_reads no_reads (with_depth (thread.old.depth - 1) thread.old) }
 {
-    ((c as u64 + 1) % 4294967296) as u32
+    thread.depth = thread.depth.saturating_sub(1);
+    thread.reads = [0; READ_WORDS];
 }
 
-fn one_less(d: u8) -> u8
-    ensures { result ≡ d - 1 }
+#[tactic(auto, unfolding(rules::specs::End::outside))]
+fn outside(tables: &mut Tables, thread: u8)
+    ensures { tables.new ≡ outside thread tables.old }
 {
-    if d == 0 { 0 } else { d - 1 }
-}
-
-// The depth of thread t falls.
-pub fn shallower(threads: &mut Threads, t: u8)
-    ensures { OnThreads (shallower t) (lent threads) }
-{
-    let d = tables::depth_of(threads, t);
-    let n = tables::last_of(threads, t);
-    tables::set_thread(threads, t, one_less(d), n);
-}
-
-// Thread t comes back to depth 0: what it has read counts no more.
-fn outside(threads: &mut Threads, t: u8)
-    ensures { OnThreads (outside t) (lent threads) }
-{
-    shallower(threads, t);
-    tables::forget_reads(threads, t);
-}
-
-// The region, ended at the clock c.
-fn ended_region(r: Region, c: u32) -> Region
-    ensures { result ≡ ended_region c r }
-{
-    let mut q = r;
-    q.ended = true;
-    q.stamp = c;
-    q
-}
-
-// The region of thread t ends: it gets its stamp, and its slots fly.
-pub fn end_region(
-    h: Head,
-    threads: &mut Threads,
-    regions: &mut Regions,
-    lock: &Locks,
-    cur: &Lines,
-    car: &mut Lines,
-    t: u8,
-) -> Head
-    ensures { OnEnd (λ b. b) (end_region t) result h (lent threads) (lent regions) (shown lock) (shown cur) (lent car) }
-{
-    let k = tables::current(threads, t);
-    let c = tick(h.clock);
-    outside(threads, t);
-    let i = tables::place_of(regions, k);
-    let r = tables::get(regions, i);
-    let q = ended_region(r, c);
-    tables::put_flown(regions, lock, cur, car, i, q);
-    let mut head = h;
-    head.clock = c;
-    head
-}
-
-// ---- the acknowledgements
-
-// The flight of line l in the region at place i is dropped unless region k owns it.
-fn drop_at(regions: &mut Regions, i: usize, k: u32, l: u8)
-    ensures { regions_of regions.new ≡ set (regions_of regions.old) i (dropped k l (region_held regions.old i)) }
-{
-    if tables::carries_at(regions, i, l) {
-        let r = tables::get(regions, i);
-        let q = slots::dropped(r, k, l);
-        tables::put(regions, i, q);
+    tables::threads_are_eight(&tables.threads);
+    if (thread as usize) < MOST_THREADS {
+        leave(&mut tables.threads[thread as usize]);
     }
 }
 
-// Flights of regions other than k on line l are dropped.
-fn drop_flights(regions: &mut Regions, k: u32, l: u8)
-    ensures { regions_of regions.new ≡ map (dropped k l) (regions_of regions.old) }
+// Region `key` has ended, behind all that ended before it.
+fn close(tables: &mut Tables, key: u32)
+    ensures { tables.new ≡ closed key tables.old }
 {
-    rows::regions_length(regions);
-    let mut i: usize = 0;
-    while i < MOST_REGIONS {
-        drop_at(regions, i, k, l);
-        i += 1;
+    tables.clock = tables.clock.wrapping_add(1);
+    if let Some(at) = tables::place_of(&tables.regions, key) {
+        let clock = tables.clock;
+        let region = &mut tables.regions[at];
+        region.ended = true;
+        region.stamp = clock;
     }
 }
 
-// The line is unlocked, its log entry persistent, and the flights of other regions on it dropped; then its owner's slots fly.
-pub fn log_ack(
-    threads: &mut Threads,
-    regions: &mut Regions,
-    owner: &Owners,
-    lock: &mut Locks,
-    cur: &Lines,
-    car: &mut Lines,
-    l: u8,
-)
-    ensures { OnLogAck (λ b. b) (log_ack l) (lent threads) (lent regions) (shown owner) (lent lock) (shown cur) (lent car) }
+/// An end at depth 1: the thread's region ends, and its slots fly.
+#[tactic(auto, unfolding(rules::specs::End::end_region))]
+pub fn end_region(board: &mut Board, thread: u8)
+    ensures { board.new ≡ end_region thread board.old }
 {
-    let li = l as usize;
-    let k = owner[li];
-    drop_flights(regions, k, l);
-    tables::keep_of(threads, k, l);
-    lock[li] = false;
-    fly(regions, lock, cur, car, k);
+    let key = tables::current(&board.tables, thread);
+    outside(&mut board.tables, thread);
+    close(&mut board.tables, key);
+    tables::fly(board, key);
 }
 
-// The carried line is in the medium, and its slot is empty.
-pub fn data_ack(regions: &mut Regions, med: &mut Lines, car: &Lines, l: u8)
-    ensures { OnDataAck (data_ack l) (lent regions) (lent med) (shown car) }
+/// An end at any other depth: only the depth falls.
+pub fn shallower(tables: &mut Tables, thread: u8)
+    ensures { tables.new ≡ shallower thread tables.old }
 {
-    let x = lines::line_of(car, l);
-    lines::set_line(med, l, x);
-    let i = tables::flight_place(regions, l);
-    tables::land_at(regions, i, l);
+    tables::threads_are_eight(&tables.threads);
+    if (thread as usize) < MOST_THREADS {
+        let thread = &mut tables.threads[thread as usize];
+        thread.depth = thread.depth.saturating_sub(1);
+    }
+}
+
+// ---- acknowledgements
+
+#[tactic(auto, using(lookup::proofs::Lists::turn))]
+fn drop_flights(regions: &mut [Region; MOST_REGIONS], key: u32, line: u8)
+    ensures { regions.new ≡ map (dropped key line) regions.old }
+{
+    for region in regions {
+        slots::drop_flight(region, key, line);
+    }
+}
+
+#[tactic(auto, unfolding(rules::specs::Acknowledge::kept_entry))]
+fn keep_entry(entry: &mut Entry, key: u32, line: u8)
+    ensures { entry.new ≡ kept_entry key line entry.old }
+{
+    if entry.key == key && entry.line == line {
+        entry.persistent = true;
+    }
+}
+
+#[tactic(auto, using(lookup::proofs::Lists::turn))]
+fn keep_entries(log: &mut [Entry; MOST_ENTRIES], key: u32, line: u8)
+    ensures { log.new ≡ map (kept_entry key line) log.old }
+{
+    for entry in log {
+        keep_entry(entry, key, line);
+    }
+}
+
+fn unlock(tables: &mut Tables, key: u32, line: u8)
+    ensures { tables.new ≡ unlocked key line tables.old }
+{
+    drop_flights(&mut tables.regions, key, line);
+    tables.lock[line as usize] = false;
+    let thread = (key / NUMBERS) as usize;
+    tables::threads_are_eight(&tables.threads);
+    if thread < MOST_THREADS {
+        keep_entries(&mut tables.threads[thread].log, key, line);
+    }
+}
+
+/// A log acknowledgement of a line: it is unlocked, its log entry is persistent, flights of other regions on it are dropped, and its owner's slots fly.
+#[tactic(auto, unfolding(rules::specs::Acknowledge::log_ack))]
+pub fn log_ack(board: &mut Board, line: u8)
+    ensures { board.new ≡ log_ack line board.old }
+{
+    let key = board.tables.owner[line as usize];
+    unlock(&mut board.tables, key, line);
+    tables::fly(board, key);
+}
+
+/// A data acknowledgement of a line: the carried line is in the medium, and the slot that was in flight is empty.
+pub fn data_ack(board: &mut Board, line: u8)
+    ensures { board.new ≡ data_ack line board.old }
+{
+    board.med[line as usize] = board.car[line as usize];
+    if let Some(at) = tables::flight_place(&board.tables.regions, line) {
+        slots::land(&mut board.tables.regions[at], line);
+    }
 }

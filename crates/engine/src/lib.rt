@@ -1,305 +1,235 @@
 #![tactic(auto)]
 
-// One event of any content, in place: its refusal, or what it changes. A refusal changes nothing.
-ghost use Rattle.std.specs.Prelude.{◌<◌, ◌≡◌, true, set};
-ghost use Rattle.measures.specs.Loan.{lent, shown};
-ghost use Rattle.rules.specs.Tables.{channel_of, no_region, number_of, with_channel, with_deps, with_key};
-ghost use Rattle.rules.specs.Begin.{begin, opened};
-ghost use Rattle.rules.specs.Refusal.{first_bad, tests_of};
-ghost use Rattle.rules.specs.Step.{apply, did, fence, step, step_event};
-ghost use Rattle.rules.specs.declared.Event.TheVariants.{DataAck, End, LogAck, Read, Setup};
-ghost use Rattle.rows.specs.Whole.{OnTables, stepped, tables_of};
-ghost use Rattle.tables.specs.Held.{thread_held};
-ghost use Rattle.refusals.specs.Order.{before, step_from};
-ghost use Rattle.refusals.specs.Told.{ByRows};
-ghost use Rattle.ends.specs.Parts.{OnEnd, OnLogAck};
-ghost use Rattle.engine.specs.declared.Outcome.{Outcome};
-ghost use Rattle.engine.specs.Parts.{Deepens, OnBoard, OnDataAcked, OnNumbers, OnReadWord};
+// One event of any content, where the board stands: its refusal, or what it changes. A refusal changes nothing.
+ghost use Rattle.std.specs.Prelude.{◌≡◌, ◌<◌, ◌+◌, IfOk, OnErr};
+ghost use Rattle.rules.specs.Tables.{thread_at, with_depth, with_last};
+ghost use Rattle.rules.specs.Begin.{begin, begun, opened};
+ghost use Rattle.rules.specs.Codes.{answered, code_of};
+ghost use Rattle.rules.specs.Refusal.{refusal};
+ghost use Rattle.rules.specs.Step.{Stepped, apply, did, fence, settled_board, step, step_event};
+ghost use Rattle.rules.specs.declared.Event.TheVariants.{Begin, Cut, DataAck, End, Fence, LogAck, Read, Setup, Write};
 
-use measures::{Lines, Locks, NUMBERS, OldLines, Owners, Regions, Threads};
-use rows::Head;
-use rules::{Answer, Event, Reading, Region, Shares};
+use measures::{MOST_REGIONS, NUMBERS};
+use rules::{Answer, Board, Event, Refusal, Region, Shares, Tables, Thread};
 
 // ---- begin
 
-// Region k as it begins, in the channel of its number and with the dependence d on its predecessor.
-fn begun(k: u32, d: u32) -> Region
-    ensures { result ≡ with_deps (set no_region.deps 0 d) (with_channel (channel_of (number_of k)) (with_key k no_region)) }
+// Region `key` as it begins, in the channel of its number; it depends on its predecessor if that is uncommitted.
+fn begun(regions: &[Region; MOST_REGIONS], key: u32, before: u32) -> Region
+    ensures { result ≡ begun key before regions.now }
 {
-    let mut r = rows::no_region();
-    r.key = k;
-    r.channel = lookup::channel_of(k % NUMBERS);
-    r.deps = [d, 0, 0, 0];
-    r
+    let mut region = Region::default();
+    region.key = key;
+    region.channel = lookup::channel_of(key % NUMBERS);
+    region.deps[0] = tables::uncommitted(regions, before);
+    region
 }
 
-// Thread t opens its next region. Numbers are left: refusal 14.
-fn open(threads: &mut Threads, regions: &mut Regions, t: u8)
-    requires { (thread_held threads.old t).last < 65535 }
-    ensures { OnTables (opened t) (lent threads) (lent regions) }
+fn next_number(thread: &mut Thread)
+    requires { thread.old.last < 65535 }
+    ensures { thread.new ≡ with_depth 1 (with_last (thread.old.last + 1) thread.old) }
 {
-    let n = tables::last_of(threads, t);
-    let p = tables::current(threads, t);
-    let d = tables::uncommitted(regions, p);
-    let i = tables::free_place(regions);
-    let r = begun(NUMBERS * (t as u32) + (n as u32 + 1), d);
-    tables::put(regions, i, r);
-    tables::set_thread(threads, t, 1, n + 1);
+    thread.last += 1;
+    thread.depth = 1;
 }
 
-// The depth rises: refusal 13.
-fn begin(threads: &mut Threads, regions: &mut Regions, t: u8)
-    requires { Deepens (thread_held threads.old t) }
-    ensures { OnTables (begin t) (lent threads) (lent regions) }
+// "Begin at depth 0 opens the next number, entered in both lists."
+fn opened(tables: &mut Tables, thread: u8)
+    requires thread { thread < 8 }
+    requires number { (thread_at thread tables.old).last < 65535 }
+    ensures { tables.new ≡ opened thread tables.old }
 {
-    let d = tables::depth_of(threads, t);
-    if d == 0 {
-        open(threads, regions, t);
-        return;
-    }
-    let n = tables::last_of(threads, t);
-    tables::set_thread(threads, t, d + 1, n);
+    let before = tables::current(tables, thread);
+    let region = begun(&tables.regions, before + 1, before);
+    tables::enter(&mut tables.regions, region);
+    next_number(&mut tables.threads[thread as usize]);
 }
 
-// ---- each event
-
-// What an accepted event leaves beside the lists: the numbers, and the value of its answer.
-#[derive(Clone, Copy)]
-struct Effect {
-    head: Head,
-    value: u64,
-}
-
-// At depth 1 the region ends, and regions may become done and commit; at any other only the depth falls.
-fn end(
-    h: Head,
-    threads: &mut Threads,
-    regions: &mut Regions,
-    lock: &Locks,
-    cur: &Lines,
-    car: &mut Lines,
-    t: u8,
-) -> Effect
-    ensures { OnEnd (did result.value) (λ b. apply b (End t)) result.head h (lent threads) (lent regions) (shown lock) (shown cur) (lent car) }
+// "At other depths only the depth rises."
+#[tactic(auto, unfolding(rules::specs::Begin::begin))]
+fn begin(tables: &mut Tables, thread: u8)
+    requires thread { thread < 8 }
+    requires depth { (thread_at thread tables.old).depth < 15 }
+    requires number { (thread_at thread tables.old).depth ≡ 0 → (thread_at thread tables.old).last < 65535 }
+    ensures { tables.new ≡ begin thread tables.old }
 {
-    if tables::depth_of(threads, t) != 1 {
-        ends::shallower(threads, t);
-        return Effect { head: h, value: 0 };
-    }
-    let head = ends::end_region(h, threads, regions, lock, cur, car, t);
-    let value = commits::settle(threads, regions);
-    Effect {
-        head: head,
-        value: value,
-    }
-}
-
-// The value of a read is the word.
-fn read_word(
-    threads: &mut Threads,
-    regions: &mut Regions,
-    owner: &Owners,
-    cur: &Lines,
-    t: u8,
-    l: u8,
-    w: u8,
-) -> u64
-    requires { w < 8 }
-    ensures { OnReadWord (did result) (λ b. apply b (Read t l w)) (lent threads) (lent regions) (shown owner) (shown cur) }
-{
-    let k = tables::current(threads, t);
-    access::read(threads, regions, owner, t, k, l);
-    let x = cur[l as usize];
-    x[w as usize]
-}
-
-// A log acknowledgement, and what becomes done and commits after it.
-fn log_acked(
-    threads: &mut Threads,
-    regions: &mut Regions,
-    owner: &Owners,
-    lock: &mut Locks,
-    cur: &Lines,
-    car: &mut Lines,
-    l: u8,
-) -> u64
-    ensures { OnLogAck (did result) (λ b. apply b (LogAck l)) (lent threads) (lent regions) (shown owner) (lent lock) (shown cur) (lent car) }
-{
-    ends::log_ack(threads, regions, owner, lock, cur, car, l);
-    commits::settle(threads, regions)
-}
-
-// A data acknowledgement, and what becomes done and commits after it.
-fn data_acked(
-    threads: &mut Threads,
-    regions: &mut Regions,
-    med: &mut Lines,
-    car: &Lines,
-    l: u8,
-) -> u64
-    ensures { OnDataAcked (did result) (λ b. apply b (DataAck l)) (lent threads) (lent regions) (lent med) (shown car) }
-{
-    ends::data_ack(regions, med, car, l);
-    commits::settle(threads, regions)
-}
-
-// T and L stand, the parties and reserves too.
-fn set_up(h: Head, n: u8, l: u16, s: Shares) -> Effect
-    ensures { OnNumbers (did result.value) (λ b. apply b (Setup n l s)) result.head h }
-{
-    let mut size = h.size;
-    size.threads = n;
-    size.lines = l;
-    size.shares = s;
-    let mut head = h;
-    head.size = size;
-    Effect {
-        head: head,
-        value: 0,
-    }
-}
-
-// The value tells whether every region of the thread, other than the open one, has committed.
-fn fence(threads: &Threads, regions: &Regions, t: u8) -> u64
-    ensures { (h : Head) → ByRows (fence t) h (shown threads) (shown regions) result }
-{
-    let k = tables::open_region(threads, t);
-    if tables::has_other(regions, t, k) {
-        0
+    if tables::depth_of(tables, thread) == 0 {
+        opened(tables, thread);
     } else {
-        1
+        tables.threads[thread as usize].depth += 1;
     }
 }
 
-fn cut(h: Head) -> Head
-    ensures { ◌≡◌ {A = Head} result (record { size = h.size; cut = true; clock = h.clock }) }
+// ---- each event: the value of its answer, or its refusal
+
+#[tactic(auto, unfolding(rules::specs::Step::apply, rules::specs::Step::setup))]
+fn run_setup(board: &mut Board, threads: u8, lines: u16, shares: Shares) -> Result<u64, Refusal>
+    ensures done { IfOk result (λ v. did v board.new ≡ apply board.old (Setup threads lines shares)) }
+    ensures kept { OnErr result (board.new ≡ board.old) }
+    ensures code { code_of result ≡ refusal board.old.tables (Setup threads lines shares) }
 {
-    let mut head = h;
-    head.cut = true;
-    head
+    let size = &mut board.tables.size;
+    refusals::test_setup(*size, threads, lines, shares)?;
+    size.threads = threads;
+    size.lines = lines;
+    size.shares = shares;
+    Ok(0)
+}
+
+#[tactic(auto, unfolding(rules::specs::Step::apply))]
+fn run_begin(board: &mut Board, thread: u8) -> Result<u64, Refusal>
+    ensures done { IfOk result (λ v. did v board.new ≡ apply board.old (Begin thread)) }
+    ensures kept { OnErr result (board.new ≡ board.old) }
+    ensures code { code_of result ≡ refusal board.old.tables (Begin thread) }
+{
+    refusals::test_begin(&board.tables, thread)?;
+    begin(&mut board.tables, thread);
+    Ok(0)
+}
+
+// What becomes done and commits: the value is the number of commits.
+#[tactic(auto, unfolding(rules::specs::Step::settled_board))]
+fn settle(board: &mut Board) -> u64
+    ensures { did result board.new ≡ settled_board board.old }
+{
+    commits::settle(&mut board.tables)
+}
+
+#[tactic(auto, unfolding(rules::specs::Step::apply))]
+fn run_end(board: &mut Board, thread: u8) -> Result<u64, Refusal>
+    ensures done { IfOk result (λ v. did v board.new ≡ apply board.old (End thread)) }
+    ensures kept { OnErr result (board.new ≡ board.old) }
+    ensures code { code_of result ≡ refusal board.old.tables (End thread) }
+{
+    refusals::test_end(&board.tables, thread)?;
+    if tables::depth_of(&board.tables, thread) == 1 {
+        ends::end_region(board, thread);
+        return Ok(settle(board));
+    }
+    ends::shallower(&mut board.tables, thread);
+    Ok(0)
+}
+
+#[tactic(auto, unfolding(rules::specs::Step::apply))]
+fn run_read(board: &mut Board, thread: u8, line: u8, word: u8) -> Result<u64, Refusal>
+    ensures done { IfOk result (λ v. did v board.new ≡ apply board.old (Read thread line word)) }
+    ensures kept { OnErr result (board.new ≡ board.old) }
+    ensures code { code_of result ≡ refusal board.old.tables (Read thread line word) }
+{
+    refusals::test_read(&board.tables, thread, line, word)?;
+    let key = tables::current(&board.tables, thread);
+    access::read(&mut board.tables, thread, key, line);
+    Ok(lines::line_of(&board.cur, line)[word as usize])
+}
+
+#[tactic(auto, unfolding(rules::specs::Step::apply))]
+fn run_write(
+    board: &mut Board,
+    thread: u8,
+    line: u8,
+    word: u8,
+    mask: u8,
+    value: u64,
+) -> Result<u64, Refusal>
+    ensures done { IfOk result (λ v. did v board.new ≡ apply board.old (Write thread line word mask value)) }
+    ensures kept { OnErr result (board.new ≡ board.old) }
+    ensures code { code_of result ≡ refusal board.old.tables (Write thread line word mask value) }
+{
+    refusals::test_write(&board.tables, thread, line, word, mask, value)?;
+    access::write(board, thread, line, word, mask, value)?;
+    Ok(0)
+}
+
+// Kept: an acknowledgement each, which differ in their test and in what they do.
+#[tactic(auto, unfolding(rules::specs::Step::apply))]
+fn run_log_ack(board: &mut Board, line: u8) -> Result<u64, Refusal>
+    ensures done { IfOk result (λ v. did v board.new ≡ apply board.old (LogAck line)) }
+    ensures kept { OnErr result (board.new ≡ board.old) }
+    ensures code { code_of result ≡ refusal board.old.tables (LogAck line) }
+{
+    refusals::test_log_ack(&board.tables, line)?;
+    ends::log_ack(board, line);
+    Ok(settle(board))
+}
+
+// Kept: see `run_log_ack`.
+#[tactic(auto, unfolding(rules::specs::Step::apply))]
+fn run_data_ack(board: &mut Board, line: u8) -> Result<u64, Refusal>
+    ensures done { IfOk result (λ v. did v board.new ≡ apply board.old (DataAck line)) }
+    ensures kept { OnErr result (board.new ≡ board.old) }
+    ensures code { code_of result ≡ refusal board.old.tables (DataAck line) }
+{
+    refusals::test_data_ack(&board.tables, line)?;
+    ends::data_ack(board, line);
+    Ok(settle(board))
+}
+
+// 1 where every region of the thread, other than the open one, has committed.
+#[tactic(auto, unfolding(rules::specs::Step::fence))]
+fn fence(tables: &Tables, thread: u8) -> u64
+    ensures { result ≡ fence thread tables.now }
+{
+    let open = tables::open_region(tables, thread);
+    u64::from(!tables::has_other(&tables.regions, thread, open))
+}
+
+#[tactic(auto, unfolding(rules::specs::Step::apply))]
+fn run_fence(board: &Board, thread: u8) -> Result<u64, Refusal>
+    ensures done { IfOk result (λ v. did v board.now ≡ apply board.now (Fence thread)) }
+    ensures code { code_of result ≡ refusal board.now.tables (Fence thread) }
+{
+    refusals::test_fence(&board.tables, thread)?;
+    Ok(fence(&board.tables, thread))
+}
+
+#[tactic(auto, unfolding(rules::specs::Step::apply))]
+fn run_cut(board: &mut Board) -> Result<u64, Refusal>
+    ensures done { IfOk result (λ v. did v board.new ≡ apply board.old Cut) }
+    ensures kept { OnErr result (board.new ≡ board.old) }
+    ensures code { code_of result ≡ refusal board.old.tables Cut }
+{
+    refusals::test_cut(&board.tables)?;
+    board.tables.cut = true;
+    Ok(tables::count_held(&board.tables.regions) as u64)
 }
 
 // ---- an event
 
-// What an event leaves beside the lists: the numbers, and its answer.
-#[derive(Clone, Copy)]
-pub struct Outcome {
-    pub head: Head,
-    pub answer: Answer,
-}
-
-fn answered(head: Head, refusal: u8, value: u64) -> Outcome
-    ensures { ◌≡◌ {A = Outcome} result (record { head = head; answer = record { refusal = refusal; value = value } }) }
+fn run(board: &mut Board, event: Event) -> Result<u64, Refusal>
+    ensures done { IfOk result (λ v. did v board.new ≡ apply board.old event) }
+    ensures kept { OnErr result (board.new ≡ board.old) }
+    ensures code { code_of result ≡ refusal board.old.tables event }
 {
-    Outcome {
-        head: head,
-        answer: Answer {
-            refusal: refusal,
-            value: value,
-        },
+    match event {
+        Event::Setup(threads, lines, shares) => run_setup(board, threads, lines, shares),
+        Event::Begin(thread) => run_begin(board, thread),
+        Event::End(thread) => run_end(board, thread),
+        Event::Read(thread, line, word) => run_read(board, thread, line, word),
+        Event::Write(thread, line, word, mask, value) => run_write(
+            board, thread, line, word, mask, value,
+        ),
+        Event::LogAck(line) => run_log_ack(board, line),
+        Event::DataAck(line) => run_data_ack(board, line),
+        Event::Fence(thread) => run_fence(board, thread),
+        Event::Cut => run_cut(board),
     }
 }
 
-// What an event does that has passed its tests before 20; a write has two more.
-fn apply(
-    h: Head,
-    threads: &mut Threads,
-    regions: &mut Regions,
-    owner: &mut Owners,
-    lock: &mut Locks,
-    cur: &mut Lines,
-    med: &mut Lines,
-    old: &mut OldLines,
-    car: &mut Lines,
-    e: Event,
-) -> Outcome
-    requires { first_bad (before 20 (tests_of (tables_of h threads.old regions.old owner.old lock.old) e)) ≡ 0 }
-    ensures { OnBoard (stepped result.answer) (λ b. step_from 20 b e) result.head h (lent threads) (lent regions) (lent owner) (lent lock) (lent cur) (lent med) (lent old) (lent car) }
+// An event's answer; a refusal leaves the board as it was, and its value is 0.
+fn step_event(board: &mut Board, event: Event) -> Answer
+    ensures { ◌≡◌ {A = Stepped} (record { board = board.new; answer = result }) (step_event board.old event) }
 {
-    match e {
-        Event::Setup(n, l, s) => {
-            let done = set_up(h, n, l, s);
-            let head = done.head;
-            answered(head, 0, done.value)
-        }
-        Event::Begin(t) => {
-            begin(threads, regions, t);
-            answered(h, 0, 0)
-        }
-        Event::End(t) => {
-            let done = end(h, threads, regions, lock, cur, car, t);
-            let head = done.head;
-            answered(head, 0, done.value)
-        }
-        Event::Read(t, l, w) => {
-            let value = read_word(threads, regions, owner, cur, t, l, w);
-            answered(h, 0, value)
-        }
-        Event::Write(t, l, w, mask, v) => {
-            let n = access::write(
-                threads, regions, owner, lock, cur, old, car, t, l, w, mask, v,
-            );
-            answered(h, n, 0)
-        }
-        Event::LogAck(l) => {
-            let value = log_acked(threads, regions, owner, lock, cur, car, l);
-            answered(h, 0, value)
-        }
-        Event::DataAck(l) => {
-            let value = data_acked(threads, regions, med, car, l);
-            answered(h, 0, value)
-        }
-        Event::Fence(t) => {
-            let value = fence(threads, regions, t);
-            answered(h, 0, value)
-        }
-        Event::Cut => {
-            let value = tables::count_held(regions) as u64;
-            answered(cut(h), 0, value)
-        }
-    }
+    Answer::from(run(board, event))
 }
 
-// One event of any content. A refusal changes nothing, and its value is 0.
-fn step(
-    h: Head,
-    threads: &mut Threads,
-    regions: &mut Regions,
-    owner: &mut Owners,
-    lock: &mut Locks,
-    cur: &mut Lines,
-    med: &mut Lines,
-    old: &mut OldLines,
-    car: &mut Lines,
-    e: Event,
-) -> Outcome
-    ensures { OnBoard (stepped result.answer) (λ b. step_event b e) result.head h (lent threads) (lent regions) (lent owner) (lent lock) (lent cur) (lent med) (lent old) (lent car) }
-{
-    let n = refusals::first_refusal(h, threads, regions, owner, lock, e);
-    if n != 0 {
-        return answered(h, n, 0);
-    }
-    apply(h, threads, regions, owner, lock, cur, med, old, car, e)
-}
-
-// One event call: a record of any content. A refusal changes nothing; bytes behind a whole record are not looked at.
-pub fn event(
-    h: Head,
-    threads: &mut Threads,
-    regions: &mut Regions,
-    owner: &mut Owners,
-    lock: &mut Locks,
-    cur: &mut Lines,
-    med: &mut Lines,
-    old: &mut OldLines,
-    car: &mut Lines,
-    bytes: &[u8],
-) -> Outcome
-    ensures { OnBoard (stepped result.answer) (λ b. step b bytes.now) result.head h (lent threads) (lent regions) (lent owner) (lent lock) (lent cur) (lent med) (lent old) (lent car) }
+/// One event call: a record of any content. A refusal changes nothing; bytes behind a whole record are not looked at.
+#[tactic(auto, unfolding(rules::specs::Step::step))]
+pub fn event(board: &mut Board, bytes: &[u8]) -> Answer
+    ensures { ◌≡◌ {A = Stepped} (record { board = board.new; answer = result }) (step board.old bytes.now) }
 {
     let reading = events::read_record(bytes);
-    let Reading::Whole(e) = reading else {
-        return answered(h, events::number_of(reading), 0);
+    let Ok(event) = reading else {
+        return Answer::from(reading.map(|_| 0));
     };
-    step(h, threads, regions, owner, lock, cur, med, old, car, e)
+    step_event(board, event)
 }

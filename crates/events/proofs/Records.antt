@@ -1,4 +1,5 @@
 -- The records of a file, one behind the other: how long each is, and that a whole one is read in the same way whatever stands behind it.
+use Rattle.std.specs.Prelude.{Ok}
 use Prim.Native.Nat.{◌+◌, ◌-◌, ◌<◌, ◌≤◌, suc, zero, ℕ}
 use mathlib.Core.Path.{◌∙◌, ◌≡◌, ap, refl}
 use mathlib.Core.Bool.{false, false≢true, true}
@@ -13,7 +14,6 @@ use Rattle.events.specs.Whole.{record_length, whole_from, whole_length}
 use Rattle.rules.proofs.Laws.{part_front, shares_front}
 use Rattle.rules.specs.Kinds.{is_kind, kind_at}
 use Rattle.rules.specs.Record.{body_length, event_of, is_whole, read_record, records_from, records_of}
-use Rattle.rules.specs.declared.Reading.TheVariants.{Whole}
 use Rattle.undo.proofs.Laws.{test}
 use Rattle.undo.specs.Table.{keep}
 
@@ -39,14 +39,6 @@ pub length_empty : (r : List ℕ) → length r ≡ 0 → record_length r ≡ 0
 unfolding record_length read_record
 length_empty [] e = refl
 length_empty (k ∷ body) e = absurd (omega arith)
-
-pub length_unknown : (r : List ℕ) → 0 < length r → is_kind (get_or r 0 0) ≡ false → record_length r ≡ 0
-length_unknown [] z h = absurd (omega arith)
-length_unknown (k ∷ body) z h = rec_unknown k body h
-
-pub length_short : (r : List ℕ) → 0 < length r → is_kind (get_or r 0 0) ≡ true → length r - 1 < body_length (get_or r 0 0) → record_length r ≡ 0
-length_short [] z h l = absurd (omega arith)
-length_short (k ∷ body) z h l = rec_short k body h (let e : suc (length body) - 1 ≡ length body = omega arith in rw e at l)
 
 pub length_whole : (r : List ℕ) → 0 < length r → is_kind (get_or r 0 0) ≡ true → body_length (get_or r 0 0) ≤ length r - 1 → record_length r ≡ suc (body_length (get_or r 0 0))
 length_whole [] z h l = absurd (omega arith)
@@ -173,7 +165,7 @@ event_front (suc (suc (suc (suc (suc (suc (suc (suc (suc (suc zero)))))))))) bod
     )
 event_front (suc (suc (suc (suc (suc (suc (suc (suc (suc (suc (suc k))))))))))) body f u h = absurd (false≢true u)
 
-read_by : (k : ℕ) (body : List ℕ) → is_kind k ≡ true → body_length k ≤ length body → read_record (k ∷ body) ≡ Whole (event_of k body)
+read_by : (k : ℕ) (body : List ℕ) → is_kind k ≡ true → body_length k ≤ length body → read_record (k ∷ body) ≡ Ok (event_of k body)
 unfolding read_record
 read_by k body h l = rw (h, le-ltb _ _ l)
 

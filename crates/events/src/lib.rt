@@ -2,142 +2,177 @@
 
 // The event record, one byte of kind, then a body whose length the kind fixes: its kinds, its reader, and whether one stands whole at the front of a file.
 ghost use Rattle.std.specs.Prelude.{◌≤◌, ◌≡◌, cond, leb, get_or, length};
-ghost use Rattle.rules.specs.Kinds.{is_kind, kind_at, widths_of};
+ghost use Rattle.rules.specs.Kinds.{is_kind, widths_of, word_of};
 ghost use Rattle.rules.specs.Record.{body_length, event_of, read_record, shares_at};
 ghost use Rattle.rules.specs.Tables.{no_shares};
-ghost use Rattle.events.specs.Number.{refusal_of};
-ghost use Rattle.events.specs.Row.{row_of};
+ghost use Rattle.events.specs.Number.{Known, by_number, number_of};
 ghost use Rattle.events.specs.Whole.{record_length};
 
 use measures::WHOLE_WORD;
-use rules::{Event, Reading, Shares};
+use rules::{Event, Refusal, Shares};
 
-// A kind of event: its word in the readable form, filled up with spaces, how many letters it has, and the widths of the numbers in its body, filled up with
-// zeros.
+/// The kinds of events, each with its number, the first byte of a record.
+#[derive(Clone, Copy, PartialEq, Eq)]
+pub enum Kind {
+    Setup = 0,
+    Begin = 1,
+    End = 2,
+    Read = 3,
+    Write = 4,
+    LogAck = 5,
+    DataAck = 6,
+    Fence = 7,
+    Cut = 8,
+    WriteBytes = 10,
+}
+
+impl TryFrom<u8> for Kind {
+    type Error = Refusal;
+
+    ghost try_from_gives = { Known };
+
+    #[tactic(auto, using(rules::proofs::Laws::known))]
+    fn try_from(number: u8) -> Result<Kind, Refusal> {
+        match number {
+            0 => Ok(Kind::Setup),
+            1 => Ok(Kind::Begin),
+            2 => Ok(Kind::End),
+            3 => Ok(Kind::Read),
+            4 => Ok(Kind::Write),
+            5 => Ok(Kind::LogAck),
+            6 => Ok(Kind::DataAck),
+            7 => Ok(Kind::Fence),
+            8 => Ok(Kind::Cut),
+            10 => Ok(Kind::WriteBytes),
+            _ => Err(Refusal::UnknownKind),
+        }
+    }
+}
+
+/// What the table of kinds says of one: its word in the readable form, and the widths in bytes of the numbers in its body.
 #[derive(Clone, Copy)]
 pub struct KindRow {
-    pub word: [u8; LETTERS],
-    pub letters: usize,
-    pub widths: [u8; FIELDS],
+    pub word: &'static [u8],
+    pub widths: &'static [u8],
 }
 
-// The longest word, and the most numbers in a body.
-pub const LETTERS: usize = 11;
-
-pub const FIELDS: usize = 12;
-
-// The highest kind.
-pub const LAST_KIND: u8 = 10;
-
-// The table of kinds, in the order of their numbers; none has the number 9.
-const KINDS: [KindRow; LAST_KIND as usize + 1] = [
-    KindRow {
-        word: *b"setup      ",
-        letters: 5,
-        widths: [1, 2, 1, 1, 1, 1, 1, 1, 1, 1, 1, 1],
-    },
-    KindRow {
-        word: *b"begin      ",
-        letters: 5,
-        widths: [1, 0, 0, 0, 0, 0, 0, 0, 0, 0, 0, 0],
-    },
-    KindRow {
-        word: *b"end        ",
-        letters: 3,
-        widths: [1, 0, 0, 0, 0, 0, 0, 0, 0, 0, 0, 0],
-    },
-    KindRow {
-        word: *b"read       ",
-        letters: 4,
-        widths: [1, 1, 1, 0, 0, 0, 0, 0, 0, 0, 0, 0],
-    },
-    KindRow {
-        word: *b"write      ",
-        letters: 5,
-        widths: [1, 1, 1, 8, 0, 0, 0, 0, 0, 0, 0, 0],
-    },
-    KindRow {
-        word: *b"log-ack    ",
-        letters: 7,
-        widths: [1, 0, 0, 0, 0, 0, 0, 0, 0, 0, 0, 0],
-    },
-    KindRow {
-        word: *b"data-ack   ",
-        letters: 8,
-        widths: [1, 0, 0, 0, 0, 0, 0, 0, 0, 0, 0, 0],
-    },
-    KindRow {
-        word: *b"fence      ",
-        letters: 5,
-        widths: [1, 0, 0, 0, 0, 0, 0, 0, 0, 0, 0, 0],
-    },
-    KindRow {
-        word: *b"cut        ",
-        letters: 3,
-        widths: [0, 0, 0, 0, 0, 0, 0, 0, 0, 0, 0, 0],
-    },
-    KindRow {
-        word: *b"           ",
-        letters: 0,
-        widths: [0, 0, 0, 0, 0, 0, 0, 0, 0, 0, 0, 0],
-    },
-    KindRow {
-        word: *b"write-bytes",
-        letters: 11,
-        widths: [1, 1, 1, 1, 8, 0, 0, 0, 0, 0, 0, 0],
-    },
-];
-
-// The row of a kind; of what is no kind, no word and no widths.
-pub fn kind_row(kind: u8) -> KindRow
-    ensures { result ≡ row_of (kind_at kind) }
+fn row(word: &'static [u8], widths: &'static [u8]) -> KindRow
+    ensures word { result.word.now ≡ word.now }
+    ensures widths { result.widths.now ≡ widths.now }
 {
-    let k = kind as usize;
-    if kind <= LAST_KIND {
-        return KINDS[k];
+    KindRow { word, widths }
+}
+
+impl Kind {
+    /// The first byte of its records.
+    pub fn number(self) -> u8
+        ensures { result ≡ number_of self }
+    {
+        self as u8
     }
-    KindRow {
-        word: *b"           ",
-        letters: 0,
-        widths: [0; FIELDS],
+
+    /// The table of kinds.
+    #[tactic(auto, unfolding(rules::specs::Kinds::kind_at))]
+    pub fn row(self) -> KindRow
+        ensures word { result.word.now ≡ word_of (number_of self) }
+        ensures widths { result.widths.now ≡ widths_of (number_of self) }
+    {
+        match self {
+            Kind::Setup => row(b"setup", &[1, 2, 1, 1, 1, 1, 1, 1, 1, 1, 1, 1]),
+            Kind::Begin => row(b"begin", &[1]),
+            Kind::End => row(b"end", &[1]),
+            Kind::Read => row(b"read", &[1, 1, 1]),
+            Kind::Write => row(b"write", &[1, 1, 1, 8]),
+            Kind::LogAck => row(b"log-ack", &[1]),
+            Kind::DataAck => row(b"data-ack", &[1]),
+            Kind::Fence => row(b"fence", &[1]),
+            Kind::Cut => row(b"cut", &[]),
+            Kind::WriteBytes => row(b"write-bytes", &[1, 1, 1, 1, 8]),
+        }
+    }
+
+    /// The bytes of a body: the sum of its widths, at hand for the reader.
+    fn body_length(self) -> usize
+        ensures { result ≡ body_length (number_of self) }
+    {
+        match self {
+            Kind::Setup => 13,
+            Kind::Begin | Kind::End | Kind::LogAck | Kind::DataAck | Kind::Fence => 1,
+            Kind::Read => 3,
+            Kind::Write => 11,
+            Kind::Cut => 0,
+            Kind::WriteBytes => 12,
+        }
+    }
+
+    // The event with its body, which has all its bytes.
+    #[tactic(auto, unfolding(rules::specs::Record::event_of))]
+    fn event(self, body: &[u8]) -> Event
+        requires { body_length (number_of self) ≤ length body.now }
+        ensures { result ≡ event_of (number_of self) body.now }
+    {
+        match self {
+            Kind::Setup => setup_of(body),
+            Kind::Begin => Event::Begin(body[0]),
+            Kind::End => Event::End(body[0]),
+            Kind::Read => Event::Read(body[0], body[1], body[2]),
+            Kind::Write => write_of(body),
+            Kind::LogAck => Event::LogAck(body[0]),
+            Kind::DataAck => Event::DataAck(body[0]),
+            Kind::Fence => Event::Fence(body[0]),
+            Kind::Cut => Event::Cut,
+            Kind::WriteBytes => write_bytes_of(body),
+        }
     }
 }
 
-// Whether a number is a kind's, which has a word: told by the number alone, at hand for the reader.
-pub fn is_kind(kind: u8) -> bool
-    ensures { result ≡ is_kind kind }
+/// Each kind has a number below this.
+pub const KIND_NUMBERS: u8 = 11;
+
+/// The row of the kind of a number; of what is no kind, no word and no widths.
+#[tactic(auto, using(crate::proofs::Table::no_kind_there))]
+pub fn kind_row(number: u8) -> KindRow
+    ensures word { result.word.now ≡ word_of number }
+    ensures widths { result.widths.now ≡ widths_of number }
 {
-    if kind == 9 {
-        return false;
+    match Kind::try_from(number) {
+        Ok(kind) => kind.row(),
+        Err(_) => row(b"", &[]),
     }
-    kind <= LAST_KIND
 }
 
-// The width of a number in a body, 0 if there is none.
-pub fn width_at(kind: u8, f: usize) -> usize
-    ensures { result ≡ get_or (widths_of kind) f 0 }
+/// Whether a number is a kind's, which has a word.
+pub fn is_kind(number: u8) -> bool
+    ensures { result ≡ is_kind number }
 {
-    let row = kind_row(kind);
-    let widths = row.widths;
-    if f < FIELDS {
-        return widths[f] as usize;
+    match Kind::try_from(number) {
+        Ok(_) => true,
+        Err(_) => false,
     }
-    0
 }
 
-// The bytes of a body, by its kind: the sum of its widths, at hand for the reader.
-pub fn body_length(kind: u8) -> usize
-    ensures { result ≡ body_length kind }
+/// The width of a number in a body, 0 if there is none.
+pub fn width_at(number: u8, field: usize) -> usize
+    ensures { result ≡ get_or (widths_of number) field 0 }
 {
-    let bodies: [u8; LAST_KIND as usize + 1] = [13, 1, 1, 3, 11, 1, 1, 1, 0, 0, 12];
-    let k = kind as usize;
-    if kind <= LAST_KIND {
-        return bodies[k] as usize;
-    }
-    0
+    kind_row(number)
+        .widths
+        .get(field)
+        .map_or(0, |width| usize::from(*width))
 }
 
-// The parties and reserves that the first ten bytes hold; of fewer bytes, none.
+/// The bytes of a body by the number of its kind; of what is no kind, 0.
+#[tactic(auto, using(crate::proofs::Table::no_body_there))]
+pub fn body_length(number: u8) -> usize
+    ensures { result ≡ body_length number }
+{
+    match Kind::try_from(number) {
+        Ok(kind) => kind.body_length(),
+        Err(_) => 0,
+    }
+}
+
+/// The parties and reserves that the first ten bytes hold; of fewer bytes, none.
 pub fn shares_at(bytes: &[u8]) -> Shares
     ensures { result ≡ cond (leb 10 (length bytes.now)) (shares_at bytes.now) no_shares }
 {
@@ -190,86 +225,33 @@ fn write_bytes_of(body: &[u8]) -> Event
     )
 }
 
-// The event of a kind with its body, which has all its bytes.
-fn event_of(kind: u8, body: &[u8]) -> Event
-    requires { body_length kind ≤ length body.now }
-    ensures { result ≡ event_of kind body.now }
+/// The event of the record at the front; bytes behind it are not looked at. A record that is empty or cut short is refused by `CutShort`, one of an unknown kind
+/// by `UnknownKind`.
+#[tactic(auto, unfolding(rules::specs::Record::read_record))]
+pub fn read_record(bytes: &[u8]) -> Result<Event, Refusal>
+    ensures { by_number result ≡ read_record bytes.now }
 {
-    if kind == 0 {
-        return setup_of(body);
+    let [number, body @ ..] = bytes else {
+        return Err(Refusal::CutShort);
+    };
+    let kind = Kind::try_from(*number)?;
+    if body.len() < kind.body_length() {
+        return Err(Refusal::CutShort);
     }
-    if kind == 1 {
-        return Event::Begin(body[0]);
-    }
-    if kind == 2 {
-        return Event::End(body[0]);
-    }
-    if kind == 3 {
-        return Event::Read(body[0], body[1], body[2]);
-    }
-    if kind == 4 {
-        return write_of(body);
-    }
-    if kind == 5 {
-        return Event::LogAck(body[0]);
-    }
-    if kind == 6 {
-        return Event::DataAck(body[0]);
-    }
-    if kind == 7 {
-        return Event::Fence(body[0]);
-    }
-    if kind == 10 {
-        return write_bytes_of(body);
-    }
-    Event::Cut
+    Ok(kind.event(body))
 }
 
-// The record at the front: the event, or 1 for a record that is empty or cut short, 2 for an unknown kind. Bytes behind it are not looked at.
-pub fn read_record(bytes: &[u8]) -> Reading
-    ensures { result ≡ read_record bytes.now }
+/// The bytes of the record at the front, 0 if it is not whole.
+#[tactic(auto, unfolding(rules::specs::Record::read_record, crate::specs::Whole::record_length))]
+pub fn record_length(bytes: &[u8]) -> usize
+    ensures { result ≡ record_length bytes.now }
 {
-    if bytes.len() == 0 {
-        return Reading::Refused(1);
-    }
-    let kind = bytes[0];
-    if !is_kind(kind) {
-        return Reading::Refused(2);
-    }
-    let there = bytes.len() - 1;
-    let wanted = body_length(kind);
-    if there < wanted {
-        return Reading::Refused(1);
-    }
-    let e = event_of(kind, &bytes[1..]);
-    Reading::Whole(e)
-}
-
-// The bytes of the record at the front, 0 if it is not whole.
-pub fn record_length(r: &[u8]) -> usize
-    ensures { result ≡ record_length r.now }
-{
-    if r.len() == 0 {
-        return 0;
-    }
-    let kind = r[0];
-    if !is_kind(kind) {
-        return 0;
-    }
-    let behind = r.len() - 1;
-    let wanted = body_length(kind);
-    if behind < wanted {
-        return 0;
-    }
-    wanted + 1
-}
-
-// The refusal that a reading means, 0 for an event.
-pub fn number_of(r: Reading) -> u8
-    ensures { result ≡ refusal_of r }
-{
-    let Reading::Refused(n) = r else {
+    let [number, body @ ..] = bytes else {
         return 0;
     };
-    n
+    let Ok(kind) = Kind::try_from(*number) else {
+        return 0;
+    };
+    let wanted = kind.body_length();
+    if wanted <= body.len() { wanted + 1 } else { 0 }
 }

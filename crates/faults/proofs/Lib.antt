@@ -1,2 +1,2 @@
-pub mod Keys
-pub mod Fours
+pub mod Order
+pub mod Places

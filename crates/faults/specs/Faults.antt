@@ -1,5 +1,5 @@
 -- What is wrong with a region by itself, and the places of regions by their keys.
-use Rattle.std.specs.Prelude.{ℕ, Bool, ◌&&◌, ◌||◌, cond, not, List, [], map, eqb, ltb}
+use Rattle.std.specs.Prelude.{ℕ, Bool, ◌&&◌, ◌||◌, cond, not, List, eqb, ltb}
 use Rattle.rules.specs.Contradiction.{in_order, is_astray, is_left_over, is_unknown_state, is_unnumbered}
 use Rattle.rules.specs.Lists.{place}
 use Rattle.rules.specs.Tables.{number_of}
@@ -12,10 +12,6 @@ is_region k r = eqb r.key k
 -- the place of region k; the number of regions where it is not listed
 abbrev pub place_in : List Listed → ℕ → ℕ
 place_in rs k = place (is_region k) rs
-
--- regions of which the keys alone are known
-abbrev pub keyed : List ℕ → List Listed
-keyed ks = map (λ k. record { key = k; state = 0; deps = [] }) ks
 
 -- what is wrong with a region by itself
 abbrev pub is_faulty : List Listed → Listed → Bool

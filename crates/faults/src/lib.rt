@@ -1,155 +1,111 @@
 #![tactic(auto)]
 
-// What is wrong with a region of an image by itself, and with two of a thread, one behind the other. The keys of all regions tell which are listed.
-ghost use Rattle.std.specs.Prelude.{◌≡◌, ◌||◌, ◌&&◌, eqb};
+// What is wrong with a region of an image by itself, and with two of a thread, one behind the other. A dependence is a region's key, 0 for an empty one.
+ghost use Rattle.std.specs.Prelude.{◌≡◌, position, eqb, get_or};
 ghost use Rattle.undo.specs.Table.{any};
 ghost use Rattle.rules.specs.Lists.{all};
 ghost use Rattle.rules.specs.Contradiction.{in_order, is_astray, is_broken, is_left_over, is_listed};
-ghost use Rattle.faults.specs.Faults.{is_faulty, keyed, place_in, stands};
+ghost use Rattle.faults.specs.Faults.{is_faulty, is_region, stands};
 
 use measures::{MOST_DEPS, NUMBERS};
 use rules::Listed;
 
-pub fn either(a: bool, b: bool) -> bool
-    ensures { result ≡ (a || b) }
-{
-    if a { true } else { b }
-}
-
-fn both(a: bool, b: bool) -> bool
-    ensures { result ≡ (a && b) }
-{
-    if a { b } else { false }
-}
-
 // ---- places
 
-// The place of region `key`; the number of regions where it is not listed.
-pub fn place_in(keys: &[u32], key: u32) -> usize
-    ensures { result ≡ place_in (keyed keys.now) key }
+/// The place of region `key` in the list.
+pub fn place_in(regions: &[Listed], key: u32) -> Option<usize>
+    ensures { result ≡ position (is_region key) regions.now }
 {
-    let mut i: usize = 0;
-    let at = loop {
-        if keys.len() <= i {
-            break i;
-        }
-        if keys[i] == key {
-            break i;
-        }
-        i += 1;
-    };
-    at
+    regions.iter().position(|region| region.key == key)
 }
 
-fn is_listed(keys: &[u32], key: u32) -> bool
-    ensures { result ≡ is_listed key (keyed keys.now) }
+fn is_listed(regions: &[Listed], key: u32) -> bool
+    ensures { result ≡ is_listed key regions.now }
 {
-    place_in(keys, key) < keys.len()
+    regions.iter().any(|region| region.key == key)
 }
 
 // ---- a region by itself
 
-// The dependence d before others: `next` is the one behind it, the others are in order, the others are all empty.
-fn is_placed(d: u32, next: u32, order: bool, empty: bool) -> bool
-    ensures { result ≡ stands d next order empty }
+fn no_deps(deps: &[u32]) -> bool
+    ensures { result ≡ all (eqb 0) deps.now }
 {
-    if d == 0 {
+    deps.iter().all(|&dep| 0 == dep)
+}
+
+// The first of the dependences, 0 where there is none.
+fn first_of(deps: &[u32]) -> u32
+    ensures { result ≡ get_or deps.now 0 0 }
+{
+    deps.first().copied().unwrap_or(0)
+}
+
+// The dependence `dep` before others: `next` is the one behind it, the others are in order, the others are all empty.
+fn is_placed(dep: u32, next: u32, order: bool, empty: bool) -> bool
+    ensures { result ≡ stands dep next order empty }
+{
+    if dep == 0 {
         return empty;
     }
-    let rises = either(next == 0, d < next);
-    both(d % NUMBERS != 0, both(order, rises))
+    dep % NUMBERS != 0 && order && (next == 0 || dep < next)
 }
 
-fn in_order(deps: [u32; MOST_DEPS]) -> bool
-    ensures { result ≡ in_order deps }
+// Whether the dependences rise strictly, with the empty ones last and no number 0.
+fn in_order(deps: &[u32]) -> bool
+    ensures { result ≡ in_order deps.now }
 {
-    let d0 = deps[0];
-    let d1 = deps[1];
-    let d2 = deps[2];
-    let d3 = deps[3];
-    let e3 = both(0 == d3, true);
-    let e2 = both(0 == d2, e3);
-    let e1 = both(0 == d1, e2);
-    let o3 = is_placed(d3, 0, true, true);
-    let o2 = is_placed(d2, d3, o3, e3);
-    let o1 = is_placed(d1, d2, o2, e2);
-    is_placed(d0, d1, o1, e1)
+    let [dep, rest @ ..] = deps else {
+        return true;
+    };
+    is_placed(*dep, first_of(rest), in_order(rest), no_deps(rest))
 }
 
-fn no_deps(deps: [u32; MOST_DEPS]) -> bool
-    ensures { result ≡ all (eqb 0) deps }
+/// Whether one of the dependences is region `key`.
+pub fn depends(deps: &[u32; MOST_DEPS], key: u32) -> bool
+    ensures { result ≡ any (eqb key) deps.now }
 {
-    let d0 = deps[0];
-    let d1 = deps[1];
-    let d2 = deps[2];
-    let d3 = deps[3];
-    both(0 == d0, both(0 == d1, both(0 == d2, 0 == d3)))
-}
-
-pub fn depends(deps: [u32; MOST_DEPS], key: u32) -> bool
-    ensures { result ≡ any (eqb key) deps }
-{
-    let d0 = deps[0];
-    let d1 = deps[1];
-    let d2 = deps[2];
-    let d3 = deps[3];
-    either(key == d0, either(key == d1, either(key == d2, key == d3)))
+    deps.iter().any(|&dep| key == dep)
 }
 
 // A dependence on a region that is not listed.
-fn is_astray(keys: &[u32], d: u32) -> bool
-    ensures { result ≡ is_astray (keyed keys.now) d }
+fn is_astray(regions: &[Listed], dep: u32) -> bool
+    ensures { result ≡ is_astray regions.now dep }
 {
-    if d == 0 {
-        return false;
-    }
-    !is_listed(keys, d)
+    dep != 0 && !is_listed(regions, dep)
 }
 
-fn has_astray(keys: &[u32], deps: [u32; MOST_DEPS]) -> bool
-    ensures { result ≡ any (is_astray (keyed keys.now)) deps }
+fn has_astray(regions: &[Listed], deps: &[u32; MOST_DEPS]) -> bool
+    ensures { result ≡ any (is_astray regions.now) deps.now }
 {
-    let d0 = deps[0];
-    let d1 = deps[1];
-    let d2 = deps[2];
-    let d3 = deps[3];
-    let a0 = is_astray(keys, d0);
-    let a1 = is_astray(keys, d1);
-    let a2 = is_astray(keys, d2);
-    let a3 = is_astray(keys, d3);
-    either(a0, either(a1, either(a2, a3)))
+    deps.iter().any(|&dep| is_astray(regions, dep))
 }
 
-fn is_left_over(r: Listed) -> bool
-    ensures { result ≡ is_left_over r }
+// A done region without dependences.
+// Kept: the state is an image's byte, of any value.
+fn is_left_over(region: &Listed) -> bool
+    ensures { result ≡ is_left_over region.now }
 {
-    let deps = r.deps;
-    let none = no_deps(deps);
-    both(r.state == 1, none)
+    region.state == 1 && no_deps(&region.deps)
 }
 
-pub fn is_faulty(keys: &[u32], r: Listed) -> bool
-    ensures { result ≡ is_faulty (keyed keys.now) r }
+/// Whether something is wrong with a region by itself: its number, its state, the order of its dependences, one that is not listed, or a done region without any.
+// Kept: as `is_left_over`.
+pub fn is_faulty(regions: &[Listed], region: &Listed) -> bool
+    ensures { result ≡ is_faulty regions.now region.now }
 {
-    let deps = r.deps;
-    let order = in_order(deps);
-    let astray = has_astray(keys, deps);
-    let left = is_left_over(r);
-    either(
-        r.key % NUMBERS == 0,
-        either(1 < r.state, either(!order, either(astray, left))),
-    )
+    region.key % NUMBERS == 0
+        || 1 < region.state
+        || !in_order(&region.deps)
+        || has_astray(regions, &region.deps)
+        || is_left_over(region)
 }
 
 // ---- a thread's regions, one behind the other
 
-// Of two entries, one behind the other: of one thread, and the numbers are not consecutive or the second does not depend on the first.
-pub fn is_broken(a: Listed, b: Listed) -> bool
-    ensures { result ≡ is_broken a b }
+/// Of two regions, one behind the other: whether they are of one thread, and their numbers are not consecutive or the second does not depend on the first.
+pub fn is_broken(first: &Listed, second: &Listed) -> bool
+    ensures { result ≡ is_broken first.now second.now }
 {
-    let deps = b.deps;
-    let first = a.key;
-    let on = depends(deps, first);
-    let follows = b.key as u64 == first as u64 + 1;
-    both(a.key / NUMBERS == b.key / NUMBERS, !both(follows, on))
+    let follows = second.key as u64 == first.key as u64 + 1;
+    first.key / NUMBERS == second.key / NUMBERS && !(follows && depends(&second.deps, first.key))
 }

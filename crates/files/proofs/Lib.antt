@@ -1,3 +1,3 @@
+pub mod Front
+pub mod Runs
 pub mod Call
-pub mod Records
-pub mod Walked

@@ -1,235 +1,131 @@
 #![tactic(auto)]
 
-// The run of an event file over lent starting memory: its answers, the image that its cut left, and the tables after it.
-ghost use Rattle.std.specs.Prelude.{◌≡◌, length};
-ghost use Rattle.measures.specs.Loan.{lent, shown};
-ghost use Rattle.rules.specs.Record.{records_of};
-ghost use Rattle.rules.specs.Run.{events_call, run_file};
-ghost use Rattle.rules.specs.Image.{image_call};
-ghost use Rattle.rules.specs.Tables.{Lent};
+//! The run of an event file over lent starting memory: its answers, the image that its cut left, and the tables after it.
+ghost use Rattle.std.specs.Prelude.{◌≡◌, ◌*◌, ◌≤◌, length};
+ghost use Rattle.std.specs.Iterator.{item_count, YieldsFirstRef};
+ghost use Rattle.std.proofs.lemmas.List.Edits.{sets};
 ghost use Rattle.headed.specs.Image.{image_headed_call};
 ghost use Rattle.listing.specs.Layout.{tables_call};
-ghost use Rattle.rows.specs.Whole.{board_left, board_was};
-ghost use Rattle.saving.specs.Image.{save_as};
-ghost use Rattle.files.specs.Parts.{Puts, Runs, size_of, wrote};
+ghost use Rattle.rules.specs.Image.{image_call};
+ghost use Rattle.rules.specs.Run.{answers_bytes, events_call, run_file};
+ghost use Rattle.rules.specs.Tables.{Lent};
+ghost use Rattle.rules.specs.Record.{records_of};
+ghost use Rattle.files.specs.Parts.{size_of, wrote};
 
-use measures::{
-    LINE_WORDS, Lines, Locks, MOST_LINES, MOST_LOGGED, MOST_REGIONS, MOST_THREADS, OldLines,
-    Owners, REGION_NUMBERS, Regions, THREAD_NUMBERS, Threads,
-};
-use rows::Head;
-use rules::Answer;
+use rules::{Answer, Board, Refusal};
+
+/// The bytes of an answer: the refusal, then the value in eight.
+const ANSWER_BYTES: usize = 9;
 
 // ---- records
 
-// The bytes of the record at the front; one that ends its file takes the rest of it.
+/// The bytes of the record at the front; one that ends its file takes the rest of it.
+#[tactic(auto, using(crate::proofs::Front::size_is))]
 pub fn record_size(bytes: &[u8]) -> usize
     ensures { result ≡ size_of bytes.now }
 {
-    let n = events::record_length(bytes);
-    if n == 0 { bytes.len() } else { n }
+    match events::record_length(bytes) {
+        0 => bytes.len(),
+        length => length,
+    }
 }
 
-// The number of records, and so of answers, of a file.
+/// The records of a file, each with all that stands behind it.
+#[derive(Drop)]
+struct Records<'a>(&'a [u8]);
+
+impl<'a> Iterator for Records<'a> {
+    type Item = &'a [u8];
+
+    ghost next_gives = { YieldsFirstRef (λ s. records_of s.0.now) };
+
+    ghost remaining = { item_count (λ s. records_of s.0.now) };
+
+    #[tactic(auto, using(crate::proofs::Front::front))]
+    fn next(&mut self) -> Option<&'a [u8]> {
+        let record = self.0;
+        if record.is_empty() {
+            return None;
+        }
+        self.0 = &record[record_size(record)..];
+        Some(record)
+    }
+}
+
+/// The number of records, and so of answers, of a file.
+#[tactic(auto, using(crate::proofs::Front::records_short))]
 fn record_count(file: &[u8]) -> usize
     ensures { result ≡ length (records_of file.now) }
 {
-    let mut n: usize = 0;
-    let mut at: usize = 0;
-    while at < file.len() {
-        let k = record_size(&file[at..]);
-        at += k;
-        n += 1;
-    }
-    n
+    Records(file).count()
 }
 
-// The nine bytes of an answer, if there is room for them, and the place behind.
-fn put_next(answers: &mut [u8], p: usize, refusal: u8, value: u64) -> usize
-    ensures { Puts result p refusal value (lent answers) }
-{
-    if answers.len() < 9 {
-        return p;
-    }
-    if answers.len() - 9 < p {
-        return p;
-    }
-    lines::put_answer(answers, p, refusal, value);
-    p + 9
-}
+// ---- the run
 
-// The first n records of a file, each on what the last one left. The answers are written if there is room for all.
-fn run_records(
-    h: Head,
-    threads: &mut Threads,
-    regions: &mut Regions,
-    owner: &mut Owners,
-    lock: &mut Locks,
-    cur: &mut Lines,
-    med: &mut Lines,
-    old: &mut OldLines,
-    car: &mut Lines,
-    file: &[u8],
-    n: usize,
-    answers: &mut [u8],
-) -> Head
-    ensures { Runs n (board_was h (lent threads) (lent regions) (lent owner) (lent lock) (lent cur) (lent med) (lent old) (lent car)) (board_left result (lent threads) (lent regions) (lent owner) (lent lock) (lent cur) (lent med) (lent old) (lent car)) (shown file) (lent answers) }
+// The run of a file over lent memory, on a board whatever it held. The answers are written if there is room for all.
+#[tactic(auto, using(crate::proofs::Runs::end_board, crate::proofs::Runs::end_bytes))]
+fn run_records(board: &mut Board, file: &[u8], memory: &[u8], answers: &mut [u8])
+    ensures board { board.new ≡ (run_file (Lent memory.now) file.now).board }
+    ensures answers { 9 * length (records_of file.now) ≤ length answers.old → answers.new ≡ sets answers.old 0 (answers_bytes (run_file (Lent memory.now) file.now).answers) }
 {
-    let mut head = h;
-    let mut left = n;
-    let mut at: usize = 0;
-    let mut p: usize = 0;
-    while 0 < left {
-        let o = engine::event(
-            head,
-            threads,
-            regions,
-            owner,
-            lock,
-            cur,
-            med,
-            old,
-            car,
-            &file[at..],
-        );
-        let a = o.answer;
-        p = put_next(answers, p, a.refusal, a.value);
-        let after = o.head;
-        head = after;
-        let k = record_size(&file[at..]);
-        at += k;
-        left -= 1;
+    starting::reset(board, memory);
+    let mut at = 0;
+    for record in Records(file) {
+        let answer = engine::event(board, record);
+        lines::put_answer(answers, at, answer.refusal, answer.value);
+        at = at.saturating_add(ANSWER_BYTES);
     }
-    head
 }
 
 // ---- the calls
 
-// An event file over lent starting memory: the answers' bytes, and their number as the value; 6 and nothing written if the buffer is too short.
+/// Runs an event file over lent starting memory and writes the answers' bytes. The value is the number of answers; refused with 6 and nothing written if the
+/// buffer is too short for them.
+#[tactic(auto, using(crate::proofs::Call::call_refused, crate::proofs::Call::call_accepted))]
+// Kept: the C interface, `board_events` of include/board.h.
 pub fn run_file(file: &[u8], memory: &[u8], answers: &mut [u8]) -> Answer
     ensures { wrote result answers.new ≡ events_call file.now memory.now answers.old }
 {
-    let n = record_count(file);
-    if answers.len() / 9 < n {
-        return Answer {
-            refusal: 6,
-            value: 0,
-        };
+    let count = record_count(file);
+    if answers.len() / ANSWER_BYTES < count {
+        return Answer::from(Err(Refusal::OutOfRange));
     }
-    let head = starting::fresh_head(false, memory.len() as u64);
-    let mut threads = [[0u64; THREAD_NUMBERS]; MOST_THREADS];
-    let mut regions = [[0u32; REGION_NUMBERS]; MOST_REGIONS];
-    let mut owner = [0u32; MOST_LINES];
-    let mut lock = [false; MOST_LINES];
-    let mut cur = [[0u64; LINE_WORDS]; MOST_LINES];
-    let mut med = [[0u64; LINE_WORDS]; MOST_LINES];
-    let mut old = [[0u64; LINE_WORDS]; MOST_LOGGED];
-    let mut car = [[0u64; LINE_WORDS]; MOST_LINES];
-    starting::load(memory, &mut cur);
-    starting::load(memory, &mut med);
-    run_records(
-        head,
-        &mut threads,
-        &mut regions,
-        &mut owner,
-        &mut lock,
-        &mut cur,
-        &mut med,
-        &mut old,
-        &mut car,
-        file,
-        n,
-        answers,
-    );
-    Answer {
-        refusal: 0,
-        value: n as u64,
-    }
+    let mut board = starting::zero();
+    run_records(&mut board, file, memory, answers);
+    Answer::from(Ok(count as u64))
 }
 
-// An event file over lent starting memory, and the image that its cut left: 6 if no cut was accepted or the buffer is shorter than the image. With `headed` the
-// image is a new one.
-fn image_as(headed: bool, file: &[u8], memory: &[u8], image: &mut [u8]) -> Answer
-    ensures { wrote result image.new ≡ save_as headed (run_file (Lent memory.now) file.now).board image.old }
-{
-    let head = starting::fresh_head(false, memory.len() as u64);
-    let mut threads = [[0u64; THREAD_NUMBERS]; MOST_THREADS];
-    let mut regions = [[0u32; REGION_NUMBERS]; MOST_REGIONS];
-    let mut owner = [0u32; MOST_LINES];
-    let mut lock = [false; MOST_LINES];
-    let mut cur = [[0u64; LINE_WORDS]; MOST_LINES];
-    let mut med = [[0u64; LINE_WORDS]; MOST_LINES];
-    let mut old = [[0u64; LINE_WORDS]; MOST_LOGGED];
-    let mut car = [[0u64; LINE_WORDS]; MOST_LINES];
-    starting::load(memory, &mut cur);
-    starting::load(memory, &mut med);
-    let n = record_count(file);
-    let mut none = [0u8; 1];
-    let after = run_records(
-        head,
-        &mut threads,
-        &mut regions,
-        &mut owner,
-        &mut lock,
-        &mut cur,
-        &mut med,
-        &mut old,
-        &mut car,
-        file,
-        n,
-        &mut none,
-    );
-    if headed {
-        saving::save_headed(after, &threads, &regions, &med, &old, image)
-    } else {
-        saving::save(after, &threads, &regions, &med, &old, image)
-    }
-}
-
-// The old image of such a run.
+/// Runs an event file over lent starting memory and writes the old image that its cut left. Refused with 6 if no cut was accepted or the buffer is shorter than
+/// the image.
+#[tactic(auto, unfolding(rules::specs::Image::image_call))]
+// Kept: the C interface, `board_image` of include/board.h.
 pub fn run_image(file: &[u8], memory: &[u8], image: &mut [u8]) -> Answer
     ensures { wrote result image.new ≡ image_call file.now memory.now image.old }
 {
-    image_as(false, file, memory, image)
+    let mut board = starting::zero();
+    run_records(&mut board, file, memory, &mut []);
+    saving::save(&board, image)
 }
 
-// Its new image.
+/// The same with the new image.
+#[tactic(auto, unfolding(headed::specs::Image::image_headed_call))]
+// Kept: the C interface, `board_image_headed` of include/board.h.
 pub fn run_image_headed(file: &[u8], memory: &[u8], image: &mut [u8]) -> Answer
     ensures { wrote result image.new ≡ image_headed_call file.now memory.now image.old }
 {
-    image_as(true, file, memory, image)
+    let mut board = starting::zero();
+    run_records(&mut board, file, memory, &mut []);
+    saving::save_headed(&board, image)
 }
 
-// The tables after an event file over lent starting memory, in the layout of crate listing: 6 if the buffer is shorter than their bytes.
+/// Runs an event file over lent starting memory and writes the tables after it, in the layout of crate listing. The value is the number of their bytes; refused
+/// with 6 and nothing written if the buffer is shorter.
+#[tactic(auto, unfolding(listing::specs::Layout::tables_call))]
+// Kept: the C interface, `board_tables` of include/board.h.
 pub fn run_tables(file: &[u8], memory: &[u8], tables: &mut [u8]) -> Answer
     ensures { wrote result tables.new ≡ tables_call file.now memory.now tables.old }
 {
-    let head = starting::fresh_head(false, memory.len() as u64);
-    let mut threads = [[0u64; THREAD_NUMBERS]; MOST_THREADS];
-    let mut regions = [[0u32; REGION_NUMBERS]; MOST_REGIONS];
-    let mut owner = [0u32; MOST_LINES];
-    let mut lock = [false; MOST_LINES];
-    let mut cur = [[0u64; LINE_WORDS]; MOST_LINES];
-    let mut med = [[0u64; LINE_WORDS]; MOST_LINES];
-    let mut old = [[0u64; LINE_WORDS]; MOST_LOGGED];
-    let mut car = [[0u64; LINE_WORDS]; MOST_LINES];
-    starting::load(memory, &mut cur);
-    starting::load(memory, &mut med);
-    let n = record_count(file);
-    let mut none = [0u8; 1];
-    let after = run_records(
-        head,
-        &mut threads,
-        &mut regions,
-        &mut owner,
-        &mut lock,
-        &mut cur,
-        &mut med,
-        &mut old,
-        &mut car,
-        file,
-        n,
-        &mut none,
-    );
-    listing::put_tables(after, &threads, &regions, &owner, &lock, tables)
+    let mut board = starting::zero();
+    run_records(&mut board, file, memory, &mut []);
+    listing::put_tables(&board.tables, tables)
 }

@@ -1,7 +1,7 @@
 -- Before a record of kind 41 to 47 is met, the reader of both forms does what the old reader does; without these kinds it is the old reader.
 use Prim.Native.Nat.{◌≤◌, suc, zero, ℕ}
 use mathlib.Core.Path.{◌≡◌, ap, refl}
-use mathlib.Core.Bool.{Bool, ◌&&◌, ◌||◌, cond, false, false≢true, true}
+use mathlib.Core.Bool.{Bool, ◌&&◌, ◌||◌, and-true, cond, false, false≢true, true}
 use mathlib.Core.List.{List, [], ◌∷◌}
 use lib.Dec.{eqb, leb}
 use lib.ListN.{length}
@@ -26,10 +26,6 @@ pub and_none : (b : Bool) → (b && false) ≡ false
 and_none true = refl
 and_none false = refl
 
-and_all : (b : Bool) → (b && true) ≡ b
-and_all true = refl
-and_all false = refl
-
 pub header_bounds : (k : ℕ) → is_header k ≡ true → (41 ≤ k) × (k ≤ 47)
 header_bounds k e = let a = and_true (leb 41 k) (leb k 47) e in (leb-true 41 k a.0, leb-true k 47 a.1)
 
@@ -45,7 +41,7 @@ module _ (headed : Bool) (s : Progress) (k : ℕ) (plain : is_header s.kind ≡ 
   known_as = rw (old, and_none headed) (or_none (is_image_kind k))
 
   placed_as : is_placed_in s k ≡ is_placed s.state k
-  placed_as = rw (plain, old, and_none (eqb k 35)) (and_all (is_placed s.state k))
+  placed_as = rw (plain, old, and_none (eqb k 35)) (and-true (is_placed s.state k))
 
   pub old_turn : (bs : List ℕ) → turn_in headed s (k ∷ bs) ≡ onward s k (turn_of s.state (k ∷ bs))
   unfolding turn_by fields_in

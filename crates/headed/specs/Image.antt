@@ -6,7 +6,8 @@ use Rattle.rules.specs.Image.{Logged, Persistent, head_record, key_bytes, line_r
 use Rattle.rules.specs.Lists.{flat}
 use Rattle.rules.specs.Refusal.{is_set_up}
 use Rattle.rules.specs.Run.{Wrote, run_file, wrote_into}
-use Rattle.rules.specs.Tables.{Board, Lent}
+use Rattle.rules.specs.Tables.{Lent}
+use Rattle.rules.specs.declared.Board.{Board}
 
 -- ---- the records of a log
 

@@ -1,139 +1,98 @@
 #![tactic(auto)]
 
-// Whether an image contradicts itself, by its regions and the marks of its log: the first `held` regions and the first `logged` marks count.
+// Whether an image contradicts itself, by its regions and the marks of its log.
 //
 // What belongs to one region is tested region by region. Then every dependence is of a listed region, and a table of bits tells which region reaches which:
 // row p has bit q set where the region at place p reaches the region at place q. One pass over the log finds the lines that regions apart from each other
 // logged.
-ghost use Rattle.std.specs.Prelude.{◌<◌, ◌≤◌, ◌+◌, ◌^◌, min, ℕ, ◌≡◌, true, map, get_or, length, take};
+ghost use Rattle.std.specs.Prelude.{◌<◌, ◌≤◌, ◌+◌, ◌^◌, ◌≡◌, map, get_or, length, drop, take, ℕ};
+ghost use Rattle.rules.specs.Measures.{most_regions};
+ghost use Rattle.std.specs.List.{zip};
 ghost use Rattle.undo.specs.Table.{any};
-ghost use Rattle.rules.specs.Contradiction.{any_broken};
-ghost use Rattle.faults.specs.Faults.{is_faulty, keyed};
+ghost use Rattle.rules.specs.Contradiction.{is_broken};
+ghost use Rattle.faults.specs.Faults.{is_faulty};
 ghost use Rattle.judging.specs.Marks.{contradicts_in};
 ghost use Rattle.judging.specs.Reach.{apart_from, bit_if, clashes_in, is_apart, is_round, link_of, links_of, meet};
 ghost use Rattle.judging.specs.Reach.{round_of, rounds_of, row_of, sees_at, step_to, table_by, tangled_by};
 
-use measures::{MOST_DEPS, MOST_LINES, MOST_LOGGED, MOST_REGIONS};
+use measures::{MOST_DEPS, MOST_LINES, MOST_REGIONS};
 use rules::{Listed, Mark};
 
-pub fn least(a: usize, b: usize) -> usize
-    ensures { result ≡ min a b }
+// ---- what is wrong with a region by itself, and with a thread's regions, one behind the other
+
+fn any_faulty(regions: &[Listed]) -> bool
+    ensures { result ≡ any (is_faulty regions.now) regions.now }
 {
-    if a <= b { a } else { b }
+    regions
+        .iter()
+        .any(|region| faults::is_faulty(regions, region))
 }
 
-// ---- places
-
-// The keys of the regions, in their places.
-pub fn keys_of(regions: [Listed; MOST_REGIONS]) -> [u32; MOST_REGIONS]
-    ensures { result ≡ map (λ x. x.key) regions }
+fn any_broken(regions: &[Listed]) -> bool
+    ensures { result ≡ any (λ p. is_broken p.0 p.1) (zip regions.now (drop 1 regions.now)) }
 {
-    let mut keys = [0u32; MOST_REGIONS];
-    let mut i: usize = 0;
-    while i < MOST_REGIONS {
-        let x = regions[i];
-        keys[i] = x.key;
-        i += 1;
-    }
-    keys
-}
-
-// ---- what is wrong with a region by itself
-
-fn any_faulty(keys: &[u32], regions: [Listed; MOST_REGIONS]) -> bool
-    requires { length keys.now ≤ 32 }
-    ensures { result ≡ any (is_faulty (keyed keys.now)) (take (length keys.now) regions) }
-{
-    let mut i: usize = 0;
-    while i < keys.len() {
-        let x = regions[i];
-        if faults::is_faulty(keys, x) {
-            return true;
-        }
-        i += 1;
-    }
-    false
-}
-
-// ---- a thread's regions, one behind the other
-
-fn any_broken(n: usize, regions: [Listed; MOST_REGIONS]) -> bool
-    requires { n ≤ 32 }
-    ensures { result ≡ any_broken (take n regions) }
-{
-    let mut i: usize = 0;
-    while i + 1 < n {
-        let x = regions[i];
-        let y = regions[i + 1];
-        if faults::is_broken(x, y) {
-            return true;
-        }
-        i += 1;
-    }
-    false
+    regions
+        .iter()
+        .zip(regions.iter().skip(1))
+        .any(|(first, second)| faults::is_broken(first, second))
 }
 
 // ---- which region reaches which
 
-fn link_of(keys: &[u32], d: u32) -> usize
-    ensures { result ≡ link_of (keyed keys.now) d }
+// The place of a dependence; the number of regions for none. Kept: a place behind the rows adds nothing to a row, with no test of its own.
+fn link_of(regions: &[Listed], dep: u32) -> usize
+    ensures { result ≡ link_of regions.now dep }
 {
-    if d == 0 {
-        return keys.len();
+    if dep == 0 {
+        return regions.len();
     }
-    faults::place_in(keys, d)
+    faults::place_in(regions, dep).unwrap_or(regions.len())
 }
 
-// The places of a region's dependences; the number of regions for none.
-fn links_of(keys: &[u32], r: Listed) -> [usize; MOST_DEPS]
-    ensures { result ≡ links_of (keyed keys.now) r }
+fn links_of(regions: &[Listed], region: &Listed) -> [usize; MOST_DEPS]
+    ensures { result ≡ links_of regions.now region.now }
 {
-    let deps = r.deps;
-    let a0 = link_of(keys, deps[0]);
-    let a1 = link_of(keys, deps[1]);
-    let a2 = link_of(keys, deps[2]);
-    let a3 = link_of(keys, deps[3]);
-    [a0, a1, a2, a3]
+    region.deps.map(|dep| link_of(regions, dep))
 }
 
-fn all_links(keys: &[u32], regions: [Listed; MOST_REGIONS]) -> [[usize; MOST_DEPS]; MOST_REGIONS]
-    requires { length keys.now ≤ 32 }
-    ensures { take (length keys.now) result ≡ map (links_of (keyed keys.now)) (take (length keys.now) regions) }
+fn all_links(regions: &[Listed]) -> [[usize; MOST_DEPS]; MOST_REGIONS]
+    requires { length regions.now ≤ 32 }
+    ensures { take (length regions.now) result ≡ map (links_of regions.now) regions.now }
 {
     let mut links = [[0; MOST_DEPS]; MOST_REGIONS];
-    let mut i: usize = 0;
-    while i < keys.len() {
-        let x = regions[i];
-        links[i] = links_of(keys, x);
-        i += 1;
+    for (place, region) in regions.iter().enumerate() {
+        links[place] = links_of(regions, region);
     }
     links
 }
 
-fn bit(p: usize) -> u32
-    requires { p < 32 }
-    ensures { result ≡ 2 ^ p }
+fn bit(place: usize) -> u32
+    requires { place < 32 }
+    ensures { result ≡ 2 ^ place }
 {
-    1u32 << p
+    1u32 << place
 }
 
 // What one dependence adds to a row: its own place, and what the row of that place has.
-fn step_to(rows: &[u32], q: usize) -> u32
+fn step_to(rows: &[u32], link: usize) -> u32
     requires { length rows.now ≤ 32 }
-    ensures { result ≡ step_to rows.now q }
+    ensures { result ≡ step_to rows.now link }
 {
-    if q < rows.len() { bit(q) | rows[q] } else { 0 }
+    if link < rows.len() {
+        bit(link) | rows[link]
+    } else {
+        0
+    }
 }
 
-fn row_of(rows: &[u32], at: [usize; MOST_DEPS]) -> u32
+fn row_of(rows: &[u32], links: &[usize; MOST_DEPS]) -> u32
     requires { length rows.now ≤ 32 }
-    ensures { result ≡ row_of rows.now at }
+    ensures { result ≡ row_of rows.now links.now }
 {
-    let r0 = step_to(rows, at[0]);
-    let r1 = step_to(rows, at[1]);
-    let r2 = step_to(rows, at[2]);
-    let r3 = step_to(rows, at[3]);
-    r0 | (r1 | (r2 | r3))
+    links
+        .iter()
+        .rev()
+        .fold(0, |row, &link| step_to(rows, link) | row)
 }
 
 // The rows for one dependence more.
@@ -142,28 +101,10 @@ fn round(links: &[[usize; MOST_DEPS]], rows: &[u32]) -> [u32; MOST_REGIONS]
     ensures { take (length rows.now) result ≡ round_of links.now rows.now }
 {
     let mut wider = [0u32; MOST_REGIONS];
-    let mut i: usize = 0;
-    while i < rows.len() {
-        let at = links[i];
-        wider[i] = row_of(rows, at);
-        i += 1;
+    for (place, its_links) in links.iter().enumerate() {
+        wider[place] = row_of(rows, its_links);
     }
     wider
-}
-
-// Whether two tables of as many rows are the same; only a yes is relied on.
-fn is_same(a: &[u32], b: &[u32]) -> bool
-    requires { length a.now ≡ length b.now }
-    ensures { result ≡ true → a.now ≡ b.now }
-{
-    let mut i: usize = 0;
-    while i < a.len() {
-        if a[i] != b[i] {
-            return false;
-        }
-        i += 1;
-    }
-    true
 }
 
 // Rounds until one adds nothing.
@@ -173,25 +114,23 @@ fn rounds(links: &[[usize; MOST_DEPS]]) -> [u32; MOST_REGIONS]
 {
     let n = links.len();
     let mut rows = [0u32; MOST_REGIONS];
-    let mut k: usize = 0;
-    while k < n {
+    for _depth in 0..n {
         let wider = round(links, &rows[..n]);
-        if is_same(&wider[..n], &rows[..n]) {
+        if wider[..n] == rows[..n] {
             return rows;
         }
         rows = wider;
-        k += 1;
     }
     rows
 }
 
-fn reach_table(keys: &[u32], regions: [Listed; MOST_REGIONS]) -> [u32; MOST_REGIONS]
-    requires { length keys.now ≤ 32 }
-    ensures { take (length keys.now) result ≡ table_by (keyed keys.now) (take (length keys.now) regions) }
+#[tactic(auto, unfolding(crate::specs::Reach::table_by))]
+fn reach_table(regions: &[Listed]) -> [u32; MOST_REGIONS]
+    requires { length regions.now ≤ 32 }
+    ensures { take (length regions.now) result ≡ table_by regions.now regions.now }
 {
-    let n = keys.len();
-    let links = all_links(keys, regions);
-    rounds(&links[..n])
+    let links = all_links(regions);
+    rounds(&links[..regions.len()])
 }
 
 // Whether the region at place p reaches the region at place q; false for a place behind the list.
@@ -199,39 +138,26 @@ fn sees(rows: &[u32], p: usize, q: usize) -> bool
     requires { length rows.now ≤ 32 }
     ensures { result ≡ sees_at rows.now p q }
 {
-    if rows.len() <= p {
-        return false;
-    }
-    if rows.len() <= q {
-        return false;
-    }
-    let row = rows[p];
-    (row >> q) % 2 == 1
+    p < rows.len() && q < rows.len() && (rows[p] >> q) % 2 == 1
 }
 
 // ---- circles
 
-fn is_round(keys: &[u32], rows: &[u32], r: Listed) -> bool
-    requires { length rows.now ≤ 32 }
-    ensures { result ≡ is_round (keyed keys.now) rows.now r }
+fn is_round(regions: &[Listed], rows: &[u32], region: &Listed) -> bool
+    requires { (length regions.now ≡ length rows.now) × (length rows.now ≤ 32) }
+    ensures { result ≡ is_round regions.now rows.now region.now }
 {
-    let p = faults::place_in(keys, r.key);
-    sees(rows, p, p)
+    match faults::place_in(regions, region.key) {
+        Some(place) => sees(rows, place, place),
+        None => false,
+    }
 }
 
-fn any_round(keys: &[u32], rows: &[u32], regions: [Listed; MOST_REGIONS]) -> bool
-    requires { length rows.now ≤ 32 }
-    ensures { result ≡ any (is_round (keyed keys.now) rows.now) (take (length rows.now) regions) }
+fn any_round(regions: &[Listed], rows: &[u32]) -> bool
+    requires { (length regions.now ≡ length rows.now) × (length rows.now ≤ 32) }
+    ensures { result ≡ any (is_round regions.now rows.now) regions.now }
 {
-    let mut i: usize = 0;
-    while i < rows.len() {
-        let x = regions[i];
-        if is_round(keys, rows, x) {
-            return true;
-        }
-        i += 1;
-    }
-    false
+    regions.iter().any(|region| is_round(regions, rows, region))
 }
 
 // ---- lines logged twice
@@ -241,29 +167,25 @@ fn is_apart(rows: &[u32], p: usize, q: usize) -> bool
     requires { length rows.now ≤ 32 }
     ensures { result ≡ is_apart rows.now p q }
 {
-    let there = sees(rows, p, q);
-    let back = sees(rows, q, p);
-    faults::either(p == q, !faults::either(there, back))
+    p == q || !(sees(rows, p, q) || sees(rows, q, p))
 }
 
-fn bit_if(b: bool, p: usize) -> u32
-    requires { p < 32 }
-    ensures { result ≡ bit_if b p }
+fn bit_if(set: bool, place: usize) -> u32
+    requires { place < 32 }
+    ensures { result ≡ bit_if set place }
 {
-    if b { bit(p) } else { 0 }
+    if set { bit(place) } else { 0 }
 }
 
 // The places that are apart from place p, as bits.
+#[tactic(auto, unfolding(crate::specs::Reach::bits_below))]
 fn apart_from(rows: &[u32], p: usize) -> u32
     requires { length rows.now ≤ 32 }
     ensures { result ≡ apart_from rows.now p }
 {
-    let mut bits: u32 = 0;
-    let mut q: usize = 0;
-    while q < rows.len() {
-        let apart = is_apart(rows, p, q);
-        bits = bit_if(apart, q) | bits;
-        q += 1;
+    let mut bits = 0;
+    for q in 0..rows.len() {
+        bits = bit_if(is_apart(rows, p, q), q) | bits;
     }
     bits
 }
@@ -273,18 +195,10 @@ fn all_apart(rows: &[u32]) -> [u32; MOST_REGIONS]
     ensures { (p : ℕ) → p < length rows.now → get_or result p 0 ≡ apart_from rows.now p }
 {
     let mut apart = [0u32; MOST_REGIONS];
-    let mut p: usize = 0;
-    while p < rows.len() {
+    for p in 0..rows.len() {
         apart[p] = apart_from(rows, p);
-        p += 1;
     }
     apart
-}
-
-fn line_of(m: Mark) -> usize
-    ensures { (result ≡ m.line) × (result < 256) }
-{
-    m.line as usize
 }
 
 fn meets(a: u32, b: u32) -> bool
@@ -294,26 +208,22 @@ fn meets(a: u32, b: u32) -> bool
 }
 
 // Whether a log entry is of a region that is not listed, or a line is logged by two regions that are apart. `seen` has for each line the places of the
-// regions that logged it behind entry i, as bits.
-fn any_clash(keys: &[u32], rows: &[u32], logged: usize, log: [Mark; MOST_LOGGED]) -> bool
-    requires { (length keys.now ≡ length rows.now) × ((length rows.now ≤ 32) × (logged ≤ 256)) }
-    ensures { result ≡ clashes_in (keyed keys.now) rows.now (take logged log) }
+// regions that logged it among the entries passed, the last ones, as bits.
+fn any_clash(regions: &[Listed], rows: &[u32], log: &[Mark]) -> bool
+    requires { (length regions.now ≡ length rows.now) × (length rows.now ≤ 32) }
+    ensures { result ≡ clashes_in regions.now rows.now log.now }
 {
     let apart = all_apart(rows);
     let mut seen = [0u32; MOST_LINES];
-    let mut i = logged;
-    while 0 < i {
-        i -= 1;
-        let m = log[i];
-        let p = faults::place_in(keys, m.key);
-        if keys.len() <= p {
+    for i in (0..log.len()).rev() {
+        let Some(place) = faults::place_in(regions, log[i].key) else {
+            return true;
+        };
+        let line = log[i].line as usize;
+        if meets(apart[place], seen[line]) {
             return true;
         }
-        let l = line_of(m);
-        if meets(apart[p], seen[l]) {
-            return true;
-        }
-        seen[l] = bit(p) | seen[l];
+        seen[line] = bit(place) | seen[line];
     }
     false
 }
@@ -321,54 +231,22 @@ fn any_clash(keys: &[u32], rows: &[u32], logged: usize, log: [Mark; MOST_LOGGED]
 // ---- the whole
 
 // A circle, a log entry of a region that is not listed, or a line logged twice, where every dependence is of a listed region.
-fn is_tangled(
-    keys: &[u32],
-    regions: [Listed; MOST_REGIONS],
-    logged: usize,
-    log: [Mark; MOST_LOGGED],
-) -> bool
-    requires { (length keys.now ≤ 32) × (logged ≤ 256) }
-    ensures { result ≡ tangled_by (keyed keys.now) (take (length keys.now) regions) (take logged log) }
+#[tactic(auto, unfolding(crate::specs::Reach::tangled_by))]
+fn is_tangled(regions: &[Listed], log: &[Mark]) -> bool
+    requires { length regions.now ≤ 32 }
+    ensures { result ≡ tangled_by regions.now regions.now log.now }
 {
-    let n = keys.len();
-    let table = reach_table(keys, regions);
-    let rows = &table[..n];
-    if any_round(keys, rows, regions) {
-        return true;
-    }
-    any_clash(keys, rows, logged, log)
+    let table = reach_table(regions);
+    let rows = &table[..regions.len()];
+    any_round(regions, rows) || any_clash(regions, rows, log)
 }
 
-fn contradicts_first(
-    n: usize,
-    regions: [Listed; MOST_REGIONS],
-    logged: usize,
-    log: [Mark; MOST_LOGGED],
-) -> bool
-    requires { (n ≤ 32) × (logged ≤ 256) }
-    ensures { result ≡ contradicts_in (take n regions) (take logged log) }
+/// Whether the regions and the log entries of an image contradict themselves (8): a region of number 0 or of an unknown state, dependences out of order or on
+/// a region that is not listed, a log entry of such a region, a thread's regions not one behind the other, a circle, a done region without dependences, or one
+/// line logged twice by regions that do not wait for each other. The first 32 regions count; no image that is read has more.
+pub fn contradicts(regions: &[Listed], log: &[Mark]) -> bool
+    ensures { result ≡ contradicts_in (take most_regions regions.now) log.now }
 {
-    let table = keys_of(regions);
-    let keys = &table[..n];
-    if any_faulty(keys, regions) {
-        return true;
-    }
-    if any_broken(n, regions) {
-        return true;
-    }
-    is_tangled(keys, regions, logged, log)
-}
-
-// Whether the first `held` regions and the first `logged` log entries contradict themselves.
-pub fn contradicts(
-    held: usize,
-    regions: [Listed; MOST_REGIONS],
-    logged: usize,
-    log: [Mark; MOST_LOGGED],
-) -> bool
-    ensures { result ≡ contradicts_in (take held regions) (take logged log) }
-{
-    let n = least(held, MOST_REGIONS);
-    let m = least(logged, MOST_LOGGED);
-    contradicts_first(n, regions, m, log)
+    let regions = &regions[..regions.len().min(MOST_REGIONS)];
+    any_faulty(regions) || (any_broken(regions) || is_tangled(regions, log))
 }

@@ -1,4 +1,5 @@
 -- Induction along a list of records: what holds at the fresh board and is kept by each accepted event holds after every list.
+use Rattle.std.specs.Prelude.{Err, Ok}
 use Prim.Native.Nat.{◌+◌, suc, zero, ℕ}
 use mathlib.Core.Path.{◌≡◌, refl, subst}
 use mathlib.Core.Bool.{true}
@@ -14,11 +15,11 @@ use Rattle.rules.specs.Record.{read_record}
 use Rattle.rules.specs.Refusal.{refusal}
 use Rattle.rules.specs.Run.{run}
 use Rattle.rules.specs.Step.{apply, step, step_by, step_event, step_read}
-use Rattle.rules.specs.Tables.{Board, Memory, fresh}
+use Rattle.rules.specs.Tables.{Memory, fresh}
+use Rattle.rules.specs.declared.Board.{Board}
 use Rattle.rules.specs.declared.Event.{Event}
 use Rattle.rules.specs.declared.Event.TheVariants.{Begin, Cut, DataAck, End, Fence, LogAck, Read, Setup, Write}
-use Rattle.rules.specs.declared.Reading.{Reading}
-use Rattle.rules.specs.declared.Reading.TheVariants.{Refused, Whole}
+use Rattle.rules.specs.Record.{Reading}
 
 -- a refusal tells no commit
 told_nothing : (e : Event) → told_of e 0 ≡ 0
@@ -43,12 +44,12 @@ module _ (m : Memory) (P : Board → List Account → ℕ → Type 0)
   one : (b : Board) (es : List Account) (n : ℕ) (x : Reading) → Kept m b es → P b es n
       → P (step_read b x).board (noted (step_read b x).answer.refusal x es) (n + told_by x (step_read b x).answer)
   unfolding step_event step_by
-  one b es n (Refused zero) k p = no_more b es n 0 refl p
-  one b es n (Refused (suc c)) k p = no_more b es n 0 refl p
-  one b es n (Whole e) k p = go (refusal b.tables e) refl
+  one b es n (Err zero) k p = no_more b es n 0 refl p
+  one b es n (Err (suc c)) k p = no_more b es n 0 refl p
+  one b es n (Ok e) k p = go (refusal b.tables e) refl
     where
       go : (c : ℕ) → refusal b.tables e ≡ c
-          → P (step_by c b e).board (noted (step_by c b e).answer.refusal (Whole e) es) (n + told_of e (step_by c b e).answer.value)
+          → P (step_by c b e).board (noted (step_by c b e).answer.refusal (Ok e) es) (n + told_of e (step_by c b e).answer.value)
       go zero r = kept b es n e r k p
       go (suc c) r = no_more b es n (told_of e 0) (told_nothing e) p
 

@@ -31,7 +31,8 @@ use Rattle.rules.specs.Record.{records_of}
 use Rattle.rules.specs.Recovery.{Act, PowerCut, Recovering, Restore, act, acts, called_by, is_finished, recovery_call, restore, restore_by}
 use Rattle.rules.specs.Refusal.{is_set_up}
 use Rattle.rules.specs.Run.{Wrote, wrote_into}
-use Rattle.rules.specs.Tables.{Board, Lent, Memory, thread_of}
+use Rattle.rules.specs.Tables.{Lent, Memory, thread_of}
+use Rattle.rules.specs.declared.Board.{Board}
 use Rattle.rules.specs.Walk.{walk_entries}
 use Rattle.undo.proofs.Laws.{and_true, test}
 use Rattle.undo.specs.Claim.{Reach}

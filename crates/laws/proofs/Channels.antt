@@ -28,7 +28,8 @@ use Rattle.rules.specs.Image.{image, saved, saved_log, saved_region, saved_regio
 use Rattle.rules.specs.Lists.{all, count, place, rising}
 use Rattle.rules.specs.Refusal.{depth_of}
 use Rattle.rules.specs.Step.{apply}
-use Rattle.rules.specs.Tables.{Board, Memory, free_place, is_held, is_key, is_placed, no_region, number_of, thread_at, with_channel, with_regions, with_tables}
+use Rattle.rules.specs.Tables.{Memory, free_place, is_held, is_key, is_placed, no_region, number_of, thread_at, with_channel, with_regions, with_tables}
+use Rattle.rules.specs.declared.Board.{Board}
 use Rattle.rules.specs.declared.Event.TheVariants.{Begin}
 use Rattle.rules.specs.declared.Region.{Region}
 use Rattle.undo.proofs.Laws.{and_true, test}

@@ -6,6 +6,7 @@ use mathlib.Core.List.{List, [], ◌∷◌, map}
 use lib.Dec.{eqb}
 use lib.ListN.{get_or, length}
 use native.Mathlib.Nat.{zero-add}
+use native.Mathlib.Numerals.{one-add}
 use native.Mathlib.Omega.{arith}
 use borrow.Author.Tests.{eqb-false, eqb-true, not-true}
 use Rattle.laws.proofs.Opened.{Once, more, nothing}
@@ -22,9 +23,6 @@ use Rattle.undo.specs.Table.{any, is_in}
 
 abbrev bit : Bool → ℕ
 bit b = cond b 1 0
-
-one_add : (n : ℕ) → 1 + n ≡ suc n
-one_add n = omega arith
 
 one_of : (a b c : Bool) (n k j : ℕ) → bit a ≡ bit b + bit c → n ≡ k + j → cond a (suc n) n ≡ cond b (suc k) k + cond c (suc j) j
 one_of true true true n k j e f = omega arith
@@ -115,7 +113,7 @@ module _ (rs : List Region) (un : Unique rs) where
       (λ e. rw e (sym (zero-add (bit (is_in r.key xs)))))))
       (λ h. rw h)) in
       sym (sp ∙ rw (held_once x, ← ih) (test (listed x rs)
-      (λ e. rw e (one_add (count (λ k. listed k rs) xs)))
+      (λ e. rw e (one-add (count (λ k. listed k rs) xs)))
       (λ e. rw e (zero-add (count (λ k. listed k rs) xs)))))
 
   -- as many places are held as numbers of a list are listed that has them all
@@ -136,7 +134,7 @@ module _ (rs : List Region) (un : Unique rs) where
       (λ r. test (eqb r.key k)
       (λ e. rw (e, eqb-true r.key k e, listed_key k rs in'))
       (λ e. rw e (test (is_held r) (λ h. rw h) (λ h. rw h))))
-      ∙ rw (held_once k, in', count_map is_held (λ r. is_held (after_commit k r)) (after_commit k) rs (λ r. refl)) (one_add (count (λ r. is_held (after_commit k r)) rs))
+      ∙ rw (held_once k, in', count_map is_held (λ r. is_held (after_commit k r)) (after_commit k) rs (λ r. refl)) (one-add (count (λ r. is_held (after_commit k r)) rs))
 
 -- ---- the commits of a step
 

@@ -1,4 +1,5 @@
 -- Current memory is the starting memory with the accepted writes, and a read gives its word.
+use Rattle.std.specs.Prelude.{Ok}
 use Prim.Native.Nat.{suc, zero, ℕ}
 use mathlib.Core.Path.{◌∙◌, ◌≡◌, ap, refl}
 use mathlib.Core.Bool.{true}
@@ -18,10 +19,10 @@ use Rattle.rules.specs.History.{Account, accepted_in, account_of, writes_in}
 use Rattle.rules.specs.Record.{read_record}
 use Rattle.rules.specs.Refusal.{depth_of, refusal}
 use Rattle.rules.specs.Step.{apply, settled_board, step, step_by, step_event}
-use Rattle.rules.specs.Tables.{Board, Memory, current, fresh, line_of, start_lines}
+use Rattle.rules.specs.Tables.{Memory, current, fresh, line_of, start_lines}
+use Rattle.rules.specs.declared.Board.{Board}
 use Rattle.rules.specs.declared.Event.{Event}
 use Rattle.rules.specs.declared.Event.TheVariants.{Begin, Cut, DataAck, End, Fence, LogAck, Read, Setup, Write}
-use Rattle.rules.specs.declared.Reading.TheVariants.{Whole}
 use Rattle.undo.proofs.Laws.{test}
 
 abbrev Told : List (List ℕ) → Board → List Account → Type 0
@@ -46,7 +47,7 @@ unfolding fresh writes_in all_applied
 current_memory m rs bm = along m (λ b es n. Told (start_lines m) b es) (λ b es n e r k h. told_after (start_lines m) b es e h) refl rs bm
 
 -- the value of an accepted event, and the board behind it
-pub value_is : (b : Board) (r : List ℕ) (e : Event) → read_record r ≡ Whole e → (step b r).answer.refusal ≡ 0
+pub value_is : (b : Board) (r : List ℕ) (e : Event) → read_record r ≡ Ok e → (step b r).answer.refusal ≡ 0
     → ((step b r).answer.value ≡ (apply b e).value) × (refusal b.tables e ≡ 0) × ((step b r).board ≡ (apply b e).board)
 unfolding step step_event step_by
 value_is b r e q z = rw q (go (refusal b.tables e) (rw q at z))

@@ -13,7 +13,8 @@ use Rattle.rules.proofs.Sim.Looks.{reach}
 use Rattle.rules.proofs.Sim.All.{every}
 use Rattle.rules.proofs.Views.{state_of}
 use Rattle.rules.specs.Slots.{is_empty}
-use Rattle.rules.specs.Tables.{Board, Memory, line_of, no_slot, place_of, start_lines}
+use Rattle.rules.specs.Tables.{Memory, line_of, no_slot, place_of, start_lines}
+use Rattle.rules.specs.declared.Board.{Board}
 use Rattle.rules.specs.declared.Slot.{Slot}
 use Rattle.rules.specs.declared.SlotState.TheVariants.{Empty, InFlight}
 use Rattle.undo.proofs.Main.{structured}

@@ -1,4 +1,5 @@
 -- The records that are writes, the refusal of a mask, and a write of the whole word.
+use Rattle.std.specs.Prelude.{Err, Ok}
 use Prim.Native.Nat.{◌<◌, ◌≤◌, ℕ}
 use mathlib.Core.Path.{◌∙◌, ◌≡◌, ap, refl}
 use mathlib.Core.Bool.{◌&&◌, false, not, true}
@@ -21,26 +22,25 @@ use Rattle.rules.specs.Measures.{whole_word}
 use Rattle.rules.specs.Record.{event_of, read_record}
 use Rattle.rules.specs.Refusal.{Test, first_bad, is_set_up, refusal, tests_of}
 use Rattle.rules.specs.Step.{apply}
-use Rattle.rules.specs.Tables.{Board}
+use Rattle.rules.specs.declared.Board.{Board}
 use Rattle.rules.specs.declared.Event.TheVariants.{Write}
-use Rattle.rules.specs.declared.Reading.TheVariants.{Refused, Whole}
 use Rattle.rules.specs.declared.Tables.{Tables}
 use Rattle.undo.proofs.Laws.{and_true, test}
 use Rattle.undo.specs.Table.{is_in}
 
 -- ---- records
 
-reads_masked : (t l w mask : ℕ) (vs more : List ℕ) → length vs ≡ 8 → read_record (10 ∷ t ∷ l ∷ w ∷ mask ∷ vs ++ more) ≡ Whole (Write t l w mask (num_of vs))
+reads_masked : (t l w mask : ℕ) (vs more : List ℕ) → length vs ≡ 8 → read_record (10 ∷ t ∷ l ∷ w ∷ mask ∷ vs ++ more) ≡ Ok (Write t l w mask (num_of vs))
 unfolding read_record event_of kind_at
 reads_masked t l w mask vs more n =
     let e : 12 ≤ length (t ∷ l ∷ w ∷ mask ∷ vs ++ more) = rw length-append (omega arith) in rw (le-ltb _ 12 e, take_at vs more 8 n)
 
-reads_whole : (t l w : ℕ) (vs more : List ℕ) → length vs ≡ 8 → read_record (4 ∷ t ∷ l ∷ w ∷ vs ++ more) ≡ Whole (Write t l w 255 (num_of vs))
+reads_whole : (t l w : ℕ) (vs more : List ℕ) → length vs ≡ 8 → read_record (4 ∷ t ∷ l ∷ w ∷ vs ++ more) ≡ Ok (Write t l w 255 (num_of vs))
 unfolding read_record event_of kind_at
 reads_whole t l w vs more n =
     let e : 11 ≤ length (t ∷ l ∷ w ∷ vs ++ more) = rw length-append (omega arith) in rw (le-ltb _ 11 e, take_at vs more 8 n)
 
-reads_unknown : (k : ℕ) (body : List ℕ) → (not (eqb k 9) && leb k 10) ≡ false → read_record (k ∷ body) ≡ Refused 2
+reads_unknown : (k : ℕ) (body : List ℕ) → (not (eqb k 9) && leb k 10) ≡ false → read_record (k ∷ body) ≡ Err 2
 unfolding read_record
 reads_unknown k body e = rw (known k ∙ e)
 

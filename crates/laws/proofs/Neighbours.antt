@@ -41,7 +41,8 @@ use Rattle.rules.specs.Lists.{different, place}
 use Rattle.rules.specs.Refusal.{depth_of, refusal, tests_of}
 use Rattle.rules.specs.Slots.{carries, counted, flown_slots, is_empty, is_flight, is_full, renewed, slot_for}
 use Rattle.rules.specs.Step.{apply, settled_board, setup}
-use Rattle.rules.specs.Tables.{Board, Memory, current, free_place, fresh, is_key, key_of, listed, no_region, no_slot, number_of, place_of, region_at, thread_at, thread_of, with_deps, with_done, with_end, with_regions, with_slots}
+use Rattle.rules.specs.Tables.{Memory, current, free_place, fresh, is_key, key_of, listed, no_region, no_slot, number_of, place_of, region_at, thread_at, thread_of, with_deps, with_done, with_end, with_regions, with_slots}
+use Rattle.rules.specs.declared.Board.{Board}
 use Rattle.rules.specs.declared.Event.{Event}
 use Rattle.rules.specs.declared.Event.TheVariants.{Begin, Cut, DataAck, End, Fence, LogAck, Read, Setup, Write}
 use Rattle.rules.specs.declared.Region.{Region}

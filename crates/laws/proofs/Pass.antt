@@ -1,4 +1,5 @@
 -- What one pass over a region's slots gives a write: its slot by two searches, and for every list the answer and the slots of a write behind it.
+use Rattle.std.specs.Prelude.{None, Option, Some, Ok}
 use Prim.Native.Nat.{◌<◌, ℕ}
 use mathlib.Core.Path.{◌∙◌, ◌≡◌, ap, refl, sym}
 use mathlib.Core.Logic.{◌≢◌}
@@ -30,11 +31,9 @@ use Rattle.rules.specs.Record.{read_record}
 use Rattle.rules.specs.Refusal.{depth_of, first_bad, refusal, tests_of}
 use Rattle.rules.specs.Slots.{counted_slot, flown_slot, flown_slots, is_full, renewed, slot_for, written}
 use Rattle.rules.specs.Step.{apply, step, step_by, step_event}
-use Rattle.rules.specs.Tables.{Board, Memory, current, is_placed, listed, no_slot, place_of, region_at, with_line, with_slots, with_state}
+use Rattle.rules.specs.Tables.{Memory, current, is_placed, listed, no_slot, place_of, region_at, with_line, with_slots, with_state}
+use Rattle.rules.specs.declared.Board.{Board}
 use Rattle.rules.specs.declared.Event.TheVariants.{Write}
-use Rattle.rules.specs.declared.Found.{Found}
-use Rattle.rules.specs.declared.Found.TheVariants.{At, Full}
-use Rattle.rules.specs.declared.Reading.TheVariants.{Whole}
 use Rattle.rules.specs.declared.Region.{Region}
 use Rattle.rules.specs.declared.Slot.{Slot}
 use Rattle.rules.specs.declared.SlotState.TheVariants.{Waiting}
@@ -47,39 +46,39 @@ use Rattle.undo.specs.Table.{any}
 by_two_lem : (l : ℕ) (ss : List Slot) → slot_for l ss ≡ by_two l ss
 by_two_lem l ss =
     test (any (is_of_line l) ss)
-    (λ e. rw e (search_named l Full 0 ss e ∙ ap At (zero-add _)))
-    (λ e. rw e (search_free l 0 ss e ∙ test (any is_free ss) (λ f. rw f (ap At (zero-add _))) (λ f. rw f)))
+    (λ e. rw e (search_named l None 0 ss e ∙ ap Some (zero-add _)))
+    (λ e. rw e (search_free l 0 ss e ∙ test (any is_free ss) (λ f. rw f (ap Some (zero-add _))) (λ f. rw f)))
 
-is_full_lem : (f : Found) → is_full f ≡ true → f ≡ Full
-is_full_lem (At k) e = absurd (false≢true e)
-is_full_lem Full e = refl
+is_full_lem : (f : Option ℕ) → is_full f ≡ true → f ≡ None
+is_full_lem (Some k) e = absurd (false≢true e)
+is_full_lem None e = refl
 
 -- a slot found is one of the slots
-found_below : (l j : ℕ) (ss : List Slot) → slot_for l ss ≡ At j → j < length ss
+found_below : (l j : ℕ) (ss : List Slot) → slot_for l ss ≡ Some j → j < length ss
 found_below l j ss e =
     test (any (is_of_line l) ss)
-    (λ d. at (place_lt (is_of_line l) ss d) (sym (search_named l Full 0 ss d ∙ ap At (zero-add _)) ∙ e))
+    (λ d. at (place_lt (is_of_line l) ss d) (sym (search_named l None 0 ss d ∙ ap Some (zero-add _)) ∙ e))
     (λ d. test (any is_free ss)
     (λ f. at (place_lt is_free ss f) (rw (d, f) at (sym (by_two_lem l ss) ∙ e)))
     (λ f. absurd (true≢false (ap is_full (rw (d, f) at (sym (by_two_lem l ss) ∙ e))))))
   where
-    at : {i : ℕ} → i < length ss → At i ≡ At j → j < length ss
+    at : {i : ℕ} → i < length ss → Some i ≡ Some j → j < length ss
     at {i} h q = let z : i ≡ j = cc in omega arith
 
 -- ---- the answer
 
 module _ (ts : Tables) (t l w mask v : ℕ) where
-  abbrev slot : Found
+  abbrev slot : Option ℕ
   slot = slot_for l (region_at (current t ts) ts.regions).slots
 
-  none_left : refusal ts (Write t l w mask v) ≡ 20 → slot ≡ Full
+  none_left : refusal ts (Write t l w mask v) ≡ 20 → slot ≡ None
   unfolding refusal tests_of
   none_left e =
       let z : (is_full slot || false) ≡ true = says 20 (tests_of ts (Write t l w mask v)) (λ n. omega arith) e in
       is_full_lem slot (sym (or_none (is_full slot)) ∙ z)
 
   -- where there is none, no test behind 20 is asked
-  not_unlogged : slot ≡ Full → refusal ts (Write t l w mask v) ≢ 21
+  not_unlogged : slot ≡ None → refusal ts (Write t l w mask v) ≢ 21
   unfolding refusal tests_of
   not_unlogged f e =
       let z : refusal ts (Write t l w mask v) ≡ first_bad (take 12 (tests_of ts (Write t l w mask v))) = rw f in
@@ -87,7 +86,7 @@ module _ (ts : Tables) (t l w mask v : ℕ) where
       (sym (or_none _) ∙ none_first (21 ∷ []) (take 12 (tests_of ts (Write t l w mask v))) refl refl)
       (sym z ∙ e)
 
-  not_accepted : slot ≡ Full → refusal ts (Write t l w mask v) ≢ 0
+  not_accepted : slot ≡ None → refusal ts (Write t l w mask v) ≢ 0
   unfolding tests_of
   not_accepted f e = true≢false (sym (ap is_full f) ∙ passed ts (Write t l w mask v) e 20)
 
@@ -145,7 +144,7 @@ module _ (t l : ℕ) (f : List ℕ → List ℕ) (b : Board) (in' : listed (curr
       (λ d. rw d (flown_wrote (stored k r' l f (logged t k l b)) refl going))
       (λ d. rw d (flown_wrote (stored k r' l f b) refl going))
 
-  module _ (going : (region_at k rs).ended ≡ false) (j : ℕ) (e : slot_given k l b ≡ At j) where
+  module _ (going : (region_at k rs).ended ≡ false) (j : ℕ) (e : slot_given k l b ≡ Some j) where
     abbrev waiting : Slot
     waiting = with_state (Waiting 0) (with_line l no_slot)
 
@@ -169,12 +168,12 @@ module _ (t l : ℕ) (f : List ℕ → List ℕ) (b : Board) (in' : listed (curr
 -- ---- the law
 
 -- a write that is accepted is done, and its region is open
-stepped : (b : Board) (r : List ℕ) (t l w mask v : ℕ) → read_record r ≡ Whole (Write t l w mask v) → refusal b.tables (Write t l w mask v) ≡ 0
+stepped : (b : Board) (r : List ℕ) (t l w mask v : ℕ) → read_record r ≡ Ok (Write t l w mask v) → refusal b.tables (Write t l w mask v) ≡ 0
     → (step b r).board ≡ write t l (stored_in w mask v) b
 unfolding step step_event step_by apply
 stepped b r t l w mask v q e = rw (q, e)
 
-by_pass : {m : Memory} {b : Board} {es : List Account} (r : List ℕ) (t l w mask v : ℕ) → Simulated m b es → read_record r ≡ Whole (Write t l w mask v)
+by_pass : {m : Memory} {b : Board} {es : List Account} (r : List ℕ) (t l w mask v : ℕ) → Simulated m b es → read_record r ≡ Ok (Write t l w mask v)
     → ByPass (current t b.tables) l (step b r).answer.refusal b (step b r).board
 unfolding tests_of
 by_pass {m} {b} {es} r t l w mask v (by s h x sim) q =
@@ -204,7 +203,7 @@ by_pass {m} {b} {es} r t l w mask v (by s h x sim) q =
     going : refusal ts (Write t l w mask v) ≡ 0 → (region_at (current t ts) ts.regions).ended ≡ false
     going e = sim.ended (current t ts) (in' e) ∙ (current_open t l (reach x) sim (deep e)).goes_on
 
-    other : (step b r).answer.refusal ≡ 0 → (i j : ℕ) → slot_given (current t ts) l b ≡ At j → i ≢ j → CountedAt (current t ts) l i b (step b r).board
+    other : (step b r).answer.refusal ≡ 0 → (i j : ℕ) → slot_given (current t ts) l b ≡ Some j → i ≢ j → CountedAt (current t ts) l i b (step b r).board
     other e i j g n =
         rw (stepped b r t l w mask v q (says_it e)) (others_count t l change b (in' (says_it e)) (going (says_it e)) j g i n)
 

@@ -1,5 +1,6 @@
 -- What a reserve promises: in each channel what is held and what the reserves still lack are never more than 16 together, so that a party below its reserve
 -- finds an entry.
+use Rattle.std.specs.Prelude.{Ok}
 use Rattle.undo.specs.Machine as u
 use Rattle.undo.specs.History as v
 use Prim.Native.Nat.{◌%◌, ◌+◌, ◌-◌, ◌<◌, ◌≤◌, suc, zero, ℕ}
@@ -40,10 +41,10 @@ use Rattle.rules.specs.Measures.{most_in_channel}
 use Rattle.rules.specs.Record.{read_record}
 use Rattle.rules.specs.Refusal.{Test, depth_of, first_bad, is_of_party, is_set_up, lack, no_room_for, other_party, party_of, refusal, reserve_of, tests_of}
 use Rattle.rules.specs.Step.{apply, setup, step, step_by, step_event}
-use Rattle.rules.specs.Tables.{Board, Memory, current, fresh, in_channel, is_held, key_of, line_of, listed, no_region, number_of, start_lines, thread_at, thread_of}
+use Rattle.rules.specs.Tables.{Memory, current, fresh, in_channel, is_held, key_of, line_of, listed, no_region, number_of, start_lines, thread_at, thread_of}
+use Rattle.rules.specs.declared.Board.{Board}
 use Rattle.rules.specs.declared.Event.{Event}
 use Rattle.rules.specs.declared.Event.TheVariants.{Begin, Cut, DataAck, End, Fence, LogAck, Read, Setup, Write}
-use Rattle.rules.specs.declared.Reading.TheVariants.{Whole}
 use Rattle.rules.specs.declared.Region.{Region}
 use Rattle.rules.specs.declared.Shares.{Shares}
 use Rattle.rules.specs.declared.Tables.{Tables}
@@ -316,7 +317,7 @@ says n (x ∷ ts) nz e =
     (λ f. let q : x.code ≡ n = rw f at e in rw (f, eq-eqb x.code n q))
     (λ f. or_right (said n x) (says n ts nz (rw f at e)))
 
-pub answered : (b : Board) (r : List ℕ) (e : Event) → read_record r ≡ Whole e → (step b r).answer.refusal ≡ refusal b.tables e
+pub answered : (b : Board) (r : List ℕ) (e : Event) → read_record r ≡ Ok e → (step b r).answer.refusal ≡ refusal b.tables e
 unfolding step step_event step_by
 answered b r e q = rw q (go (refusal b.tables e))
   where
@@ -422,7 +423,7 @@ module _ (m : Memory) (rs : List (List ℕ)) (told : CommitsTold m rs) (k : Room
       let w' : 16 < uncommitted_in m rs c + 1 + (reserve_in 0 (accepted_in m rs) - holds_in m rs c 0) = rw q at w in
       omega (arith, both c))
 
-  begins : (r : List ℕ) (t : ℕ) → read_record r ≡ Whole (Begin t) → Begins m rs r t
+  begins : (r : List ℕ) (t : ℕ) → read_record r ≡ Ok (Begin t) → Begins m rs r t
   unfolding tests_of
   begins r t q =
       record {

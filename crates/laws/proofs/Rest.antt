@@ -14,7 +14,8 @@ use Rattle.rules.proofs.SlotLaws.{names_here, rest_absent}
 use Rattle.rules.proofs.Views.{state_of}
 use Rattle.rules.specs.Commit.{commits}
 use Rattle.rules.specs.Slots.{is_empty, names}
-use Rattle.rules.specs.Tables.{Board, Memory, no_slot, region_at}
+use Rattle.rules.specs.Tables.{Memory, no_slot, region_at}
+use Rattle.rules.specs.declared.Board.{Board}
 use Rattle.rules.specs.declared.Slot.{Slot}
 use Rattle.rules.specs.declared.SlotState.TheVariants.{Empty}
 use Rattle.undo.proofs.Laws.{is_same, test}

@@ -1,4 +1,5 @@
 -- Request 5: what a committed region read is what it reads when the committed regions run one after another in the order they ended.
+use Rattle.std.specs.Prelude.{Err, Ok}
 use Rattle.undo.specs.Machine as u
 use Rattle.undo.specs.History as v
 use Prim.Native.Nat.{◌<◌, suc, zero, ℕ}
@@ -31,10 +32,10 @@ use Rattle.rules.specs.Record.{read_record}
 use Rattle.rules.specs.Refusal.{first_bad, is_read_elsewhere, is_set_up, refusal, tests_of}
 use Rattle.rules.specs.Run.{run}
 use Rattle.rules.specs.Step.{apply, step}
-use Rattle.rules.specs.Tables.{Board, Memory, fresh, line_of, start_lines, thread_at}
+use Rattle.rules.specs.Tables.{Memory, fresh, line_of, start_lines, thread_at}
+use Rattle.rules.specs.declared.Board.{Board}
 use Rattle.rules.specs.declared.Event.TheVariants.{Read, Write}
-use Rattle.rules.specs.declared.Reading.{Reading}
-use Rattle.rules.specs.declared.Reading.TheVariants.{Refused, Whole}
+use Rattle.rules.specs.Record.{Reading}
 use Rattle.rules.specs.declared.Tables.{Tables}
 use Rattle.serial.proofs.Main.{current, saw, serial}
 use Rattle.serial.specs.Claim.{after, earlier}
@@ -51,8 +52,8 @@ accepted_after (r ∷ rs) rs' b es = accepted_after rs rs' (step b r).board (not
 
 -- those already noted stay
 noted_more : (n : ℕ) (x : Reading) (es : List Account) → (ns : List Account) × (noted n x es ≡ ns ++ es)
-noted_more zero (Whole e) es = (account_of e ∷ [], refl)
-noted_more zero (Refused n) es = ([], refl)
+noted_more zero (Ok e) es = (account_of e ∷ [], refl)
+noted_more zero (Err n) es = ([], refl)
 noted_more (suc n) x es = ([], refl)
 
 accepted_more : (rs : List (List ℕ)) (b : Board) (es : List Account) → (ns : List Account) × (accepted_from b rs es ≡ ns ++ es)
@@ -181,7 +182,7 @@ module _ (ts : Tables) (t l w mask x : ℕ) where
             rw z (none_first behind_it (take 9 (tests_of ts (Write t l w mask x))) refl refl);
       }
 
-guards : {m : Memory} {b : Board} {es : List Account} (r : List ℕ) (t l w mask x : ℕ) → Simulated m b es → read_record r ≡ Whole (Write t l w mask x)
+guards : {m : Memory} {b : Board} {es : List Account} (r : List ℕ) (t l w mask x : ℕ) → Simulated m b es → read_record r ≡ Ok (Write t l w mask x)
     → Guarded es t l (step b r).answer.refusal
 unfolding tests_of
 guards {m} {b} {es} r t l w mask x (by s h y i) q =

@@ -1,4 +1,5 @@
 -- The parties and reserves of a setup: where they stand, which are refused, and that without reserves a begin is tested as document 01 has it.
+use Rattle.std.specs.Prelude.{Err, Ok}
 use Prim.Native.Nat.{◌%◌, ◌+◌, ◌-◌, ◌<◌, ◌^◌, ◌≤◌, ℕ}
 use mathlib.Core.Path.{◌∙◌, ◌≡◌, ap, refl, sym}
 use mathlib.Core.Bool.{◌&&◌, cond, false, not, true, true≢false}
@@ -23,10 +24,10 @@ use Rattle.rules.specs.Kinds.{kind_at}
 use Rattle.rules.specs.Lists.{all, count}
 use Rattle.rules.specs.Record.{event_of, read_record, shares_at}
 use Rattle.rules.specs.Refusal.{depth_of, fits, in_range, is_no_party, is_of_party, is_set_up, is_unfit, other_party, party_of, refusal, refuse, reserve_of, tests_of}
-use Rattle.rules.specs.Tables.{Board, channel_of, in_channel, no_shares, owner_of, thread_at, with_tables}
+use Rattle.rules.specs.Tables.{channel_of, in_channel, no_shares, owner_of, thread_at, with_tables}
+use Rattle.rules.specs.declared.Board.{Board}
 use Rattle.rules.specs.declared.Event.{Event}
 use Rattle.rules.specs.declared.Event.TheVariants.{Begin, Cut, DataAck, End, Fence, LogAck, Read, Setup, Write}
-use Rattle.rules.specs.declared.Reading.TheVariants.{Refused, Whole}
 use Rattle.rules.specs.declared.Shares.{Shares}
 use Rattle.rules.specs.declared.Tables.{Tables}
 use Rattle.undo.proofs.Laws.{or_false, test}
@@ -35,14 +36,14 @@ use Rattle.undo.specs.Table.{any}
 -- ---- records
 
 reads_whole : (n a b : ℕ) (bs more : List ℕ) → length bs ≡ 10
-    → read_record (0 ∷ n ∷ a ∷ b ∷ bs ++ more) ≡ Whole (Setup n (num_of (a ∷ b ∷ [])) (shares_at bs))
+    → read_record (0 ∷ n ∷ a ∷ b ∷ bs ++ more) ≡ Ok (Setup n (num_of (a ∷ b ∷ [])) (shares_at bs))
 unfolding read_record event_of kind_at
 reads_whole n a b bs more h =
     let e : 13 ≤ length (n ∷ a ∷ b ∷ bs ++ more) = rw length-append (omega arith) in
     let l : 10 ≤ length bs = omega arith in
-    rw (le-ltb _ 13 e) (ap (λ s. Whole (Setup n (num_of (a ∷ b ∷ [])) s)) (shares_front bs more l))
+    rw (le-ltb _ 13 e) (ap (λ s. Ok (Setup n (num_of (a ∷ b ∷ [])) s)) (shares_front bs more l))
 
-reads_short : (body : List ℕ) → length body < 13 → read_record (0 ∷ body) ≡ Refused 1
+reads_short : (body : List ℕ) → length body < 13 → read_record (0 ∷ body) ≡ Err 1
 unfolding read_record kind_at
 reads_short body h = rw (lt-ltb (length body) 13 h)
 

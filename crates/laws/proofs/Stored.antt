@@ -1,4 +1,5 @@
 -- The bytes that accepted writes store: in current memory, and in the expected memory.
+use Rattle.std.specs.Prelude.{Err, Ok}
 use Prim.Native.Nat.{◌%◌, ◌<◌, suc, zero, ℕ}
 use mathlib.Core.Path.{◌∙◌, ◌≡◌, ap, refl, sym}
 use mathlib.Core.Bool.{Bool, cond, not, true}
@@ -26,11 +27,11 @@ use Rattle.rules.specs.Lists.{all}
 use Rattle.rules.specs.Record.{read_record}
 use Rattle.rules.specs.Refusal.{refusal, tests_of}
 use Rattle.rules.specs.Step.{step, step_by, step_event, step_read}
-use Rattle.rules.specs.Tables.{Board, Memory, fresh, line_of, start_lines}
+use Rattle.rules.specs.Tables.{Memory, fresh, line_of, start_lines}
+use Rattle.rules.specs.declared.Board.{Board}
 use Rattle.rules.specs.declared.Event.{Event}
 use Rattle.rules.specs.declared.Event.TheVariants.{Begin, Cut, DataAck, End, Fence, LogAck, Read, Setup, Write}
-use Rattle.rules.specs.declared.Reading.{Reading}
-use Rattle.rules.specs.declared.Reading.TheVariants.{Refused, Whole}
+use Rattle.rules.specs.Record.{Reading}
 use Rattle.rules.specs.declared.Tables.{Tables}
 use Rattle.undo.proofs.Laws.{and_true, test}
 
@@ -62,11 +63,11 @@ fits_of ts Cut es ws r f = f
 step_fits : (b : Board) (es : List Account) (ws : List Written) (x : Reading) → Fits es ws
     → Fits (noted (step_read b x).answer.refusal x es) (written_by (step_read b x).answer.refusal x es ws)
 unfolding step_event step_by
-step_fits b es ws (Refused zero) f = f
-step_fits b es ws (Refused (suc n)) f = f
-step_fits b es ws (Whole e) f = go (refusal b.tables e) refl
+step_fits b es ws (Err zero) f = f
+step_fits b es ws (Err (suc n)) f = f
+step_fits b es ws (Ok e) f = go (refusal b.tables e) refl
   where
-    go : (n : ℕ) → refusal b.tables e ≡ n → Fits (noted (step_by n b e).answer.refusal (Whole e) es) (written_by (step_by n b e).answer.refusal (Whole e) es ws)
+    go : (n : ℕ) → refusal b.tables e ≡ n → Fits (noted (step_by n b e).answer.refusal (Ok e) es) (written_by (step_by n b e).answer.refusal (Ok e) es ws)
     go zero r = fits_of b.tables e es ws r f
     go (suc n) r = f
 

@@ -37,7 +37,8 @@ use Rattle.rules.specs.Lists.{all, count, place}
 use Rattle.rules.specs.Refusal.{depth_of, is_of_thread, refusal, tests_of}
 use Rattle.rules.specs.Run.{run}
 use Rattle.rules.specs.Step.{apply, fence, is_other, open_region, settled_board, setup}
-use Rattle.rules.specs.Tables.{Board, Memory, current, free_place, fresh, is_held, is_key, key_of, line_of, listed, no_region, place_of, region_at, start_lines, thread_at, thread_of, with_tables}
+use Rattle.rules.specs.Tables.{Memory, current, free_place, fresh, is_held, is_key, key_of, line_of, listed, no_region, place_of, region_at, start_lines, thread_at, thread_of, with_tables}
+use Rattle.rules.specs.declared.Board.{Board}
 use Rattle.rules.specs.declared.Event.{Event}
 use Rattle.rules.specs.declared.Event.TheVariants.{Begin, Cut, DataAck, End, Fence, LogAck, Read, Setup, Write}
 use Rattle.rules.specs.declared.Region.{Region}

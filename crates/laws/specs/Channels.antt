@@ -9,7 +9,8 @@ use Rattle.rules.specs.Image.{image}
 use Rattle.rules.specs.Lists.{all, count, place}
 use Rattle.rules.specs.Measures.{most_in_channel, most_regions}
 use Rattle.rules.specs.Step.{step}
-use Rattle.rules.specs.Tables.{Board, Memory, free_place, in_channel, is_key, key_of, listed, number_of, place_of, with_channel, with_regions, with_tables}
+use Rattle.rules.specs.Tables.{Memory, free_place, in_channel, is_key, key_of, listed, number_of, place_of, with_channel, with_regions, with_tables}
+use Rattle.rules.specs.declared.Board.{Board}
 use Rattle.rules.specs.declared.Event.TheVariants.{Begin, Cut}
 use Rattle.rules.specs.declared.Region.{Region}
 

@@ -1,5 +1,5 @@
 -- Laws about the board, each for every starting memory and every list of event records of any content, or on any tables. Their proofs stand in proofs/.
-use Rattle.std.specs.Prelude.{ℕ, ◌≡◌, ◌≢◌, ◌&&◌, ◌||◌, cond, false, not, true, List, eqb, get_or}
+use Rattle.std.specs.Prelude.{ℕ, ◌≡◌, ◌≢◌, ◌&&◌, ◌||◌, cond, false, not, true, List, eqb, get_or, Ok}
 use Rattle.laws.specs.Words.{all_applied, opens_in, others_of, told_in}
 use Rattle.rules.specs.Claim.{board_after, is_byte, is_byte_memory}
 use Rattle.rules.specs.History.{accepted_in, committed, ends_in, writes_in}
@@ -9,10 +9,10 @@ use Rattle.rules.specs.Refusal.{depth_of, is_of_thread}
 use Rattle.rules.specs.Run.{run}
 use Rattle.rules.specs.Slots.{has_slot}
 use Rattle.rules.specs.Step.{fence, step}
-use Rattle.rules.specs.Tables.{Board, Memory, fresh, line_of, listed, no_region, no_slot, start_lines}
+use Rattle.rules.specs.Tables.{Memory, fresh, line_of, listed, no_region, no_slot, start_lines}
+use Rattle.rules.specs.declared.Board.{Board}
 use Rattle.rules.specs.declared.Event.{Event}
 use Rattle.rules.specs.declared.Event.TheVariants.{Cut, Fence, Read}
-use Rattle.rules.specs.declared.Reading.TheVariants.{Whole}
 use Rattle.rules.specs.declared.Region.{Region}
 use Rattle.rules.specs.declared.Slot.{Slot}
 use Rattle.rules.specs.declared.SlotState.TheVariants.{InFlight, Waiting}
@@ -57,7 +57,7 @@ OneFlight = Always (λ m rs. (l i j p q : ℕ) → FliesWith l (slot_is i p (boa
 
 -- the answer to record r after a list of records is that of an accepted event e
 pub record Accepts (m : Memory) (rs : List (List ℕ)) (r : List ℕ) (e : Event) : Type 0 where
-  pub is : read_record r ≡ Whole e
+  pub is : read_record r ≡ Ok e
   pub unrefused : (step (board_after m rs) r).answer.refusal ≡ 0
 
 abbrev pub value_after : Memory → List (List ℕ) → List ℕ → ℕ

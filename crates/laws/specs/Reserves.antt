@@ -1,6 +1,6 @@
 -- Request 1, reserves for the lint cleaners: where a setup has its parties and reserves, which of them are refused, and what a reserve promises; with
 -- request 8 in each of two channels.
-use Rattle.std.specs.Prelude.{◌%◌, ◌+◌, ◌-◌, ◌<◌, ◌≤◌, max, ℕ, ◌≡◌, ◌≢◌, Bool, ◌&&◌, cond, false, not, true, List, [], ◌++◌, ◌∷◌, eqb, leb, get_or, length, take}
+use Rattle.std.specs.Prelude.{◌%◌, ◌+◌, ◌-◌, ◌<◌, ◌≤◌, max, ℕ, ◌≡◌, ◌≢◌, Bool, ◌&&◌, cond, false, not, true, List, [], ◌++◌, ◌∷◌, eqb, leb, get_or, length, take, Err, Ok}
 use Rattle.laws.specs.Laws.{Always}
 use Rattle.laws.specs.Words.{opens_in}
 use Rattle.rules.specs.Bytes.{num_of}
@@ -12,10 +12,10 @@ use Rattle.rules.specs.Measures.{most_in_channel, most_threads}
 use Rattle.rules.specs.Record.{read_record, shares_at}
 use Rattle.rules.specs.Refusal.{Test, depth_of, fits, in_range, is_set_up, other_party, party_of, refusal, refuse, reserve_of, tests_of}
 use Rattle.rules.specs.Step.{step}
-use Rattle.rules.specs.Tables.{Board, Memory, in_channel, no_shares, number_of, thread_at, thread_of, with_numbers, with_size, with_tables}
+use Rattle.rules.specs.Tables.{Memory, in_channel, no_shares, number_of, thread_at, thread_of, with_numbers, with_size, with_tables}
+use Rattle.rules.specs.declared.Board.{Board}
 use Rattle.rules.specs.declared.Event.{Event}
 use Rattle.rules.specs.declared.Event.TheVariants.{Begin, Cut, DataAck, End, Fence, LogAck, Read, Setup, Write}
-use Rattle.rules.specs.declared.Reading.TheVariants.{Refused, Whole}
 use Rattle.rules.specs.declared.Shares.{Shares}
 use Rattle.rules.specs.declared.Tables.{Tables}
 use Rattle.undo.specs.Table.{keep}
@@ -25,8 +25,8 @@ use Rattle.undo.specs.Table.{keep}
 pub record SetupRead : Type 0 where
   -- 13 bytes of body, and no byte behind them is looked at
   pub whole : (n a b : ℕ) (bs more : List ℕ) → length bs ≡ 10
-      → read_record (0 ∷ n ∷ a ∷ b ∷ bs ++ more) ≡ Whole (Setup n (num_of (a ∷ b ∷ [])) (shares_at bs))
-  pub short : (body : List ℕ) → length body < 13 → read_record (0 ∷ body) ≡ Refused 1
+      → read_record (0 ∷ n ∷ a ∷ b ∷ bs ++ more) ≡ Ok (Setup n (num_of (a ∷ b ∷ [])) (shares_at bs))
+  pub short : (body : List ℕ) → length body < 13 → read_record (0 ∷ body) ≡ Err 1
   -- in the order of the threads and of the parties
   pub parties : (bs : List ℕ) → all is_byte bs ≡ true → length bs ≡ 10 → (t : ℕ) → t < most_threads → party_of t (shares_at bs) ≡ get_or bs t 0
   pub reserves : (bs : List ℕ) → all is_byte bs ≡ true → length bs ≡ 10 → (p : ℕ) → p < 2 → reserve_of p (shares_at bs) ≡ get_or bs (8 + p) 0
@@ -139,7 +139,7 @@ pub record Begins (m : Memory) (rs : List (List ℕ)) (r : List ℕ) (t : ℕ) :
       → (step (board_after m rs) r).answer.refusal ≢ 16
 
 pub record Reserving (m : Memory) (rs : List (List ℕ)) : Type 0 where
-  pub begins : (r : List ℕ) (t : ℕ) → read_record r ≡ Whole (Begin t) → Begins m rs r t
+  pub begins : (r : List ℕ) (t : ℕ) → read_record r ≡ Ok (Begin t) → Begins m rs r t
   -- each channel has room for what each party holds or may still claim there
   pub sum : (c : ℕ) → max (holds_in m rs c 0) (reserve_in 0 (accepted_in m rs)) + max (holds_in m rs c 1) (reserve_in 1 (accepted_in m rs)) ≤ most_in_channel
 

@@ -1,6 +1,6 @@
 -- Request 5, a line somebody is reading: "A write to a line that another thread's open region has read is now refused. From then on every accepted read of a
 -- committed region gives the value it would see if the committed regions ran one after another in the order they ended." By the event list alone.
-use Rattle.std.specs.Prelude.{ℕ, ◌≡◌, ◌≢◌, false, true, List, [], ◌++◌, ◌∷◌, get_or}
+use Rattle.std.specs.Prelude.{ℕ, ◌≡◌, ◌≢◌, false, true, List, [], ◌++◌, ◌∷◌, get_or, Ok}
 use Rattle.laws.specs.Laws.{Accepts, Always, value_after}
 use Rattle.rules.specs.Claim.{board_after}
 use Rattle.rules.specs.History.{Account, Change, accepted_in, applied, committed, effects, ends_in, read_in, region_in, writes_in}
@@ -9,7 +9,6 @@ use Rattle.rules.specs.Refusal.{is_foreign_open, is_read_elsewhere, refusal}
 use Rattle.rules.specs.Step.{step}
 use Rattle.rules.specs.Tables.{Memory, line_of, owner_of, start_lines}
 use Rattle.rules.specs.declared.Event.TheVariants.{Read, Write}
-use Rattle.rules.specs.declared.Reading.TheVariants.{Whole}
 use Rattle.rules.specs.declared.Tables.{Tables}
 use Rattle.serial.specs.Claim.{earlier}
 use Rattle.undo.specs.Table.{is_in}
@@ -45,6 +44,6 @@ pub record InOrder (ts : Tables) (t l n : ℕ) : Type 0 where
 
 pub record SerialReads : Type 0 where
   pub serial : Always ReadsInTurn
-  pub guarded : Always (λ m rs. (r : List ℕ) (t l w mask v : ℕ) → read_record r ≡ Whole (Write t l w mask v)
+  pub guarded : Always (λ m rs. (r : List ℕ) (t l w mask v : ℕ) → read_record r ≡ Ok (Write t l w mask v)
       → Guarded (accepted_in m rs) t l (step (board_after m rs) r).answer.refusal)
   pub order : (ts : Tables) (t l w mask v : ℕ) → InOrder ts t l (refusal ts (Write t l w mask v))

@@ -1,5 +1,5 @@
 -- Request 9, readings shorter than a word: which records are writes, which writes are refused for their mask, and what each byte of memory is after them.
-use Rattle.std.specs.Prelude.{◌%◌, ◌<◌, suc, zero, ℕ, ◌≡◌, Bool, ◌&&◌, cond, false, not, true, List, [], ◌++◌, ◌∷◌, eqb, leb, length, set}
+use Rattle.std.specs.Prelude.{◌%◌, ◌<◌, suc, zero, ℕ, ◌≡◌, Bool, ◌&&◌, cond, false, not, true, List, [], ◌++◌, ◌∷◌, eqb, leb, length, set, Err, Ok}
 use Rattle.laws.specs.Laws.{Always}
 use Rattle.lines.specs.Stores.{is_stored, line_byte}
 use Rattle.rules.specs.Access.{stored_in}
@@ -11,21 +11,21 @@ use Rattle.rules.specs.Measures.{most_lines, whole_word}
 use Rattle.rules.specs.Record.{read_record}
 use Rattle.rules.specs.Refusal.{refusal}
 use Rattle.rules.specs.Step.{Did, apply, step}
-use Rattle.rules.specs.Tables.{Board, Memory, fresh, line_of, start_lines}
+use Rattle.rules.specs.Tables.{Memory, fresh, line_of, start_lines}
+use Rattle.rules.specs.declared.Board.{Board}
 use Rattle.rules.specs.declared.Event.{Event}
 use Rattle.rules.specs.declared.Event.TheVariants.{Begin, Cut, DataAck, End, Fence, LogAck, Read, Setup, Write}
-use Rattle.rules.specs.declared.Reading.{Reading}
-use Rattle.rules.specs.declared.Reading.TheVariants.{Refused, Whole}
+use Rattle.rules.specs.Record.{Reading}
 use Rattle.rules.specs.declared.Tables.{Tables}
 use Rattle.undo.specs.Table.{is_in}
 
 -- ---- "Kind 10 is a write with thread, line, word, a mask byte and 8 value bytes .. Kind 4 becomes the same with all bits set"
 
 pub record WritesRead : Type 0 where
-  pub masked : (t l w mask : ℕ) (vs more : List ℕ) → length vs ≡ 8 → read_record (10 ∷ t ∷ l ∷ w ∷ mask ∷ vs ++ more) ≡ Whole (Write t l w mask (num_of vs))
-  pub whole : (t l w : ℕ) (vs more : List ℕ) → length vs ≡ 8 → read_record (4 ∷ t ∷ l ∷ w ∷ vs ++ more) ≡ Whole (Write t l w 255 (num_of vs))
+  pub masked : (t l w mask : ℕ) (vs more : List ℕ) → length vs ≡ 8 → read_record (10 ∷ t ∷ l ∷ w ∷ mask ∷ vs ++ more) ≡ Ok (Write t l w mask (num_of vs))
+  pub whole : (t l w : ℕ) (vs more : List ℕ) → length vs ≡ 8 → read_record (4 ∷ t ∷ l ∷ w ∷ vs ++ more) ≡ Ok (Write t l w 255 (num_of vs))
   -- kind 9, and every kind above 10, is unknown
-  pub unknown : (k : ℕ) (body : List ℕ) → (not (eqb k 9) && leb k 10) ≡ false → read_record (k ∷ body) ≡ Refused 2
+  pub unknown : (k : ℕ) (body : List ℕ) → (not (eqb k 9) && leb k 10) ≡ false → read_record (k ∷ body) ≡ Err 2
 
 -- ---- "Checks: 27, mask 0, after 5"
 
@@ -40,7 +40,7 @@ or_mask mask c = cond (eqb mask 0 && not (is_in c before_mask)) 27 c
 -- in all else a masked write is a write: two that differ in mask and value alone leave the same tables, old lines and medium
 pub record SameButBytes (a b : Did) : Type 0 where
   pub tables : a.board.tables ≡ b.board.tables
-  pub old : a.board.old ≡ b.board.old
+  pub old : a.board.log_lines ≡ b.board.log_lines
   pub med : a.board.med ≡ b.board.med
   pub value : a.value ≡ b.value
 
@@ -72,8 +72,8 @@ written_of (Fence t) es ws = ws
 written_of Cut es ws = ws
 
 abbrev pub written_by : ℕ → Reading → List Account → List Written → List Written
-written_by zero (Whole e) es ws = written_of e es ws
-written_by zero (Refused n) es ws = ws
+written_by zero (Ok e) es ws = written_of e es ws
+written_by zero (Err n) es ws = ws
 written_by (suc c) x es ws = ws
 
 -- the accepted writes of a list of records, newest first, before those already noted

@@ -1,5 +1,5 @@
 -- The words of the laws, by the list of events and its answers alone. A list of events stands newest first: what is behind an event came before it.
-use Rattle.std.specs.Prelude.{◌+◌, ℕ, Bool, ◌&&◌, cond, not, List, [], ◌∷◌, eqb}
+use Rattle.std.specs.Prelude.{◌+◌, ℕ, Bool, ◌&&◌, cond, not, List, [], ◌∷◌, eqb, Err, Ok}
 use Rattle.rules.specs.Access.{change_line}
 use Rattle.rules.specs.History.{Account, Change, Closes, Cuts, Nothing, Opens, Sets, Stores, Uses, depth_in, opened_in, region_in}
 use Rattle.rules.specs.Record.{read_record}
@@ -7,8 +7,7 @@ use Rattle.rules.specs.Tables.{key_of, thread_of}
 use Rattle.rules.specs.declared.Answer.{Answer}
 use Rattle.rules.specs.declared.Event.{Event}
 use Rattle.rules.specs.declared.Event.TheVariants.{Begin, Cut, DataAck, End, Fence, LogAck, Read, Setup, Write}
-use Rattle.rules.specs.declared.Reading.{Reading}
-use Rattle.rules.specs.declared.Reading.TheVariants.{Refused, Whole}
+use Rattle.rules.specs.Record.{Reading}
 use Rattle.undo.specs.Table.{keep}
 
 -- ---- "A region's writes are applied in event order": here all writes, of whatever region
@@ -60,8 +59,8 @@ told_of (Fence t) v = 0
 told_of Cut v = 0
 
 abbrev pub told_by : Reading → Answer → ℕ
-told_by (Refused n) a = 0
-told_by (Whole e) a = told_of e a.value
+told_by (Err n) a = 0
+told_by (Ok e) a = told_of e a.value
 
 -- the commits that the answers to a list of records tell, in all
 unfoldable pub told_in : List (List ℕ) → List Answer → ℕ

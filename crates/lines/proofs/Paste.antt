@@ -22,11 +22,15 @@ module _ {A : Type 0} where
   pub sets_whole : (d vs : List A) → length vs ≡ length d → sets d 0 vs ≡ vs
   sets_whole d vs e = sets-eq vs d 0 (omega arith) ∙ rw (zero-add (length vs), e, drop-length d, append-nil vs)
 
-  -- a part of k elements from a on was lent and filled: the whole buffer has them in their place
+  -- a part of k elements from a on was lent and now holds vs: the whole buffer has them in their place
+  pub part_is : (d : List A) (a k : ℕ) (vs : List A) → length vs ≡ k → a + k ≤ length d → put_mid a k d vs ≡ sets d a vs
+  part_is d a k vs e h = rw (sets_paste d a vs (omega arith), e, drop-drop k a d)
+
+  -- the same where it was filled from its front
   pub sets_part : (d : List A) (a k : ℕ) (vs : List A) → length vs ≡ k → a + k ≤ length d → put_mid a k d (sets (mid_of a k d) 0 vs) ≡ sets d a vs
   sets_part d a k vs e h =
       let l : length vs ≡ length (mid_of a k d) = simp (length-take, length-drop) (omega arith) in
-      rw (sets_whole (mid_of a k d) vs l, sets_paste d a vs (omega arith), e, drop-drop k a d)
+      rw (sets_whole (mid_of a k d) vs l, part_is d a k vs e h)
 
   -- the part of a slice from a place to its end is what stands there
   pub rest : (xs : List A) (at : ℕ) → take (length xs - at) (drop at xs) ≡ drop at xs

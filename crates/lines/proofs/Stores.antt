@@ -1,19 +1,24 @@
 -- Bytes stored in a line, byte by byte.
 use Prim.Native.Nat.{◌%◌, ◌*◌, ◌+◌, ◌-◌, ◌/◌, ◌<◌, ◌^◌, ◌≤◌, suc, zero, ℕ}
 use mathlib.Core.Path.{◌∙◌, ◌≡◌, ap, refl, sym}
-use mathlib.Core.Bool.{◌&&◌, cond, false}
-use mathlib.Core.List.{List, [], ◌++◌, ◌∷◌, map, map-append}
+use mathlib.Core.Bool.{◌&&◌, false}
+use mathlib.Core.List.{List, [], ◌++◌, ◌∷◌, map}
 use lib.Dec.{eqb, ltb}
-use lib.ListN.{get_or-append, drop, get_or, length, length-map, set}
+use lib.ListN.{get_or-append, drop, get_or, length, set}
 use lib.Seq.{get_or-append-add, get_or-drop, get_or-set_other, get_or-set_same}
-use lib.Pow.{pow-add}
-use native.Mathlib.Nat.{div-div-eq-div-mul, div-one, mul_assoc, pow-succ'}
+use native.Mathlib.Nat.{add-zero, div-div-eq-div-mul, div-one, pow-succ'}
 use native.Mathlib.Omega.{arith}
 use borrow.Author.Tests.{eqb-false, eqb-true, ltb-false, ltb-true}
 use Rattle.rules.specs.Access.{byte_after, is_set, stored_in, word_after, word_places}
-use Rattle.rules.specs.Bytes.{byte_of, bytes_of, num_of, words_bytes}
+use Rattle.rules.specs.Bytes.{line_at, byte_of, bytes_of, num_of, words_bytes}
 use Rattle.rules.proofs.Codec.Bytes.{bytes_num, length_bytes}
 use Rattle.rules.proofs.Words.{eight, word_bytes}
+use Rattle.std.proofs.Common.{w64}
+use Rattle.std.specs.Int.{from_le_bytes, to_le_bytes}
+use Rattle.std.specs.List.{range_with_len}
+use Rattle.lines.proofs.Words.{from_le_is, line_eight, to_le_is}
+use Rattle.lines.proofs.Room.{word_room}
+use Rattle.lines.specs.Room.{word_in}
 use Rattle.undo.proofs.Laws.{test}
 use Rattle.lines.specs.Stores.{Stores, bits_of, is_stored}
 
@@ -28,6 +33,10 @@ byte_is zero i n h = absurd (omega arith)
 byte_is (suc k) zero n h = ap (λ x. x % 256) (sym (div-one n))
 byte_is (suc k) (suc i) n h = byte_is k i (n / 256) (omega arith) ∙ ap (λ x. x % 256) (div_more 256 n i)
 
+-- the same in the library's words
+pub le_byte : (i n : ℕ) → i < 8 → get_or (to_le_bytes w64 n) i 0 ≡ byte_of i n
+le_byte i n h = ap (λ bs. get_or bs i 0) (to_le_is n) ∙ byte_is 8 i n h
+
 -- and bit i of a mask among its bits
 pub bit_is : (k i mask : ℕ) → i < k → get_or (bits_of k mask) i false ≡ is_set i mask
 bit_is zero i mask h = absurd (omega arith)
@@ -36,40 +45,39 @@ bit_is (suc k) (suc i) mask h = bit_is k i (mask / 2) (omega arith) ∙ ap (λ x
 
 -- ---- a word
 
--- what is divided by a power leaves the bytes, and the bits, above it
-div_up : (b n k i : ℕ) → n / b ^ k / b ^ i ≡ n / b ^ (k + i)
-div_up b n k i = div-div-eq-div-mul n (b ^ k) (b ^ i) ∙ ap (λ x. n / x) (sym (pow-add b k i))
+-- what stands at each place of a list, in its order
+placed : (f : ℕ → ℕ) (k n : ℕ) (ys : List ℕ) → length ys ≡ n → ((i : ℕ) → i < n → get_or ys i 0 ≡ f (k + i)) → ys ≡ map f (range_with_len k n)
+placed f k zero [] e h = refl
+placed f k zero (y ∷ ys) e h = absurd (omega arith)
+placed f k (suc n) [] e h = absurd (omega arith)
+placed f k (suc n) (y ∷ ys) e h =
+    let first : y ≡ f k = h 0 (omega arith) ∙ ap f (omega arith) in
+    let behind = placed f (k + 1) n ys (omega arith) (λ i l. h (suc i) (omega arith) ∙ ap f (omega arith)) in
+    rw (first, behind)
 
-after_up : (mask v x k i : ℕ) → byte_after (mask / 2 ^ k) (v / 256 ^ k) (x / 256 ^ k) i ≡ byte_after mask v x (k + i)
-after_up mask v x k i = rw (div_up 2 mask k i, div_up 256 v k i, div_up 256 x k i)
+pub by_place : (f : ℕ → ℕ) (ys : List ℕ) → length ys ≡ 8 → ((i : ℕ) → i < 8 → get_or ys i 0 ≡ f i) → ys ≡ map f word_places
+by_place f ys e h = placed f 0 8 ys e (λ i l. h i l ∙ ap f (omega arith))
 
-pub after_low : (mask v x : ℕ) → cond (eqb (mask % 2) 1) (v % 256) (x % 256) ≡ byte_after mask v x 0
-after_low mask v x = rw (div-one mask, div-one v, div-one x)
+pub word_made : (mask v x : ℕ) (bs : List ℕ) → length bs ≡ 8 → ((i : ℕ) → i < 8 → get_or bs i 0 ≡ byte_after mask v x i) → from_le_bytes w64 bs ≡ word_after mask v x
+unfolding word_after
+word_made mask v x bs e h = from_le_is bs e ∙ ap num_of (by_place (byte_after mask v x) bs e h)
 
--- a number joined from the bytes of two lists
-num_append : (xs ys : List ℕ) → num_of (xs ++ ys) ≡ num_of xs + 256 ^ length xs * num_of ys
-unfolding num_of
-num_append [] ys = omega arith
-num_append (x ∷ xs) ys =
-    let p = 256 ^ length xs in rw (num_append xs ys, pow-succ' 256 (length xs), mul_assoc 256 p (num_of ys)) (omega arith)
-
-module _ (mask v x : ℕ) where
-  upper : (k : ℕ) (js : List ℕ) → map (byte_after (mask / 2 ^ k) (v / 256 ^ k) (x / 256 ^ k)) js ≡ map (byte_after mask v x) (map (λ j. k + j) js)
-  upper k [] = refl
-  upper k (j ∷ js) = rw (after_up mask v x k j, upper k js)
-
-  -- the bytes at places `is` below k and those at places js above it, of whatever width
-  pub joined : (k : ℕ) (is js : List ℕ) (a b : ℕ) → length is ≡ k → a ≡ num_of (map (byte_after mask v x) is)
-      → b ≡ num_of (map (byte_after (mask / 2 ^ k) (v / 256 ^ k) (x / 256 ^ k)) js) → a + 256 ^ k * b ≡ num_of (map (byte_after mask v x) (is ++ map (λ j. k + j) js))
-  joined k is js a b n p q =
-      let f = byte_after mask v x in
-      let ks = map (λ j. k + j) js in
-      rw (map-append f is ks, num_append (map f is) (map f ks), length-map is f, n, p, q, upper k js)
-
--- one byte by itself
-pub alone : (b : ℕ) → b ≡ num_of (b ∷ [])
-unfolding num_of
-alone b = omega arith
+-- a line made word by word
+pub line_read : (src : List ℕ) (at : ℕ) (line : List ℕ) → at + 64 ≤ length src → length line ≡ 8 → ((i : ℕ) → i < 8 → get_or line i 0 ≡ word_in src (at + 8 * i)) → line ≡ line_at src at
+line_read src at line h e each =
+    rw (
+      by_place (λ i. word_in src (at + 8 * i)) line e each,
+      line_eight src at,
+      add-zero at,
+      word_room src at (omega arith),
+      word_room src (at + 8) (omega arith),
+      word_room src (at + 16) (omega arith),
+      word_room src (at + 24) (omega arith),
+      word_room src (at + 32) (omega arith),
+      word_room src (at + 40) (omega arith),
+      word_room src (at + 48) (omega arith),
+      word_room src (at + 56) (omega arith),
+    )
 
 pub word_byte : (mask v x i : ℕ) → i < 8 → byte_of i (word_after mask v x) ≡ byte_after mask v x i
 unfolding word_after

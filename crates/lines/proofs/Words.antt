@@ -1,19 +1,22 @@
 -- Words and bytes.
-use Prim.Native.Nat.{◌%◌, ◌*◌, ◌+◌, ◌-◌, ◌/◌, ◌<◌, ◌^◌, ◌≤◌, suc, ℕ}
-use mathlib.Core.Path.{◌≡◌, refl}
+use Prim.Native.Nat.{◌%◌, ◌*◌, ◌+◌, ◌-◌, ◌/◌, ◌<◌, ◌^◌, ◌≤◌, suc, zero, ℕ}
+use mathlib.Core.Path.{◌∙◌, ◌≡◌, ap, refl, sym}
 use mathlib.Core.Bool.{Bool, ◌&&◌, false, false≢true, true}
 use mathlib.Core.List.{List, [], ◌++◌, ◌∷◌, append_assoc}
-use lib.ListN.{drop, get_or, length, set, take}
+use lib.ListN.{drop, get_or, length, length-drop, length-take, take}
 use native.Mathlib.Omega.{arith}
 use native.Mathlib.Numerals.{add-one}
 use borrow.Author.Tests.{ltb-true}
-use lib.Seq.{drop_at, drop-cons, drop-drop, get_or-drop, sets, take_at}
-use native.Mathlib.Nat.{add_assoc, add-suc, add-zero}
-use Rattle.lines.proofs.Paste.{rest, sets_join}
+use lib.Seq.{drop_at, drop-cons, drop-drop, get_or-drop, sets, take_all, take_at}
+use native.Mathlib.Nat.{add_assoc, add-suc, add-zero, div-div-eq-div-mul, div-one, pow-suc}
+use Rattle.std.proofs.Common.{w64}
+use borrow.Rule.Slice.PartMut.{mid_of, put_mid}
+use Rattle.lines.proofs.Paste.{part_is, rest, sets_join, sets_part}
+use Rattle.std.specs.Int.{byte_at, bytes_low_first, from_le_bytes, to_le_bytes}
 use Rattle.rules.specs.Bytes.{bytes_of, num_of, words_bytes, words_of}
 use Rattle.rules.specs.Claim.{is_byte}
 use Rattle.rules.specs.Lists.{all}
-use Rattle.rules.proofs.Codec.Bytes.{length_bytes, num_bytes}
+use Rattle.rules.proofs.Codec.Bytes.{length_bytes, length_words, num_bytes}
 
 -- words that fit their eight bytes
 pub data Words : ℕ → List ℕ → Type 0 where
@@ -56,15 +59,6 @@ bytes_num (a_byte {b} {bs} h hs) =
     let d : (b + 256 * num_of bs) / 256 ≡ num_of bs = omega arith in
     rw (m, d, bytes_num hs)
 
--- one more byte of a number of n bytes
-pub word_more : (d : List ℕ) (at n k x : ℕ) → k < n → sets d (at + k) (bytes_of (n - k) x) ≡ sets (set d (at + k) (x % 256)) (at + (k + 1)) (bytes_of (n - (k + 1)) (x / 256))
-unfolding bytes_of
-word_more d at n k x h = let e : n - k ≡ suc (n - suc k) = omega arith in rw (e, add-one k, add-suc at k)
-
-pub word_end : (d : List ℕ) (at n k x : ℕ) → n ≤ k → sets d at (bytes_of (n - k) x) ≡ d
-unfolding bytes_of
-word_end d at n k x h = let e : n - k ≡ 0 = omega arith in rw e
-
 -- the number in the bytes from i on: the first byte and the rest
 pub num_cons : (s : List ℕ) (i k : ℕ) → i < length s → num_of (take (suc k) (drop i s)) ≡ get_or s i 0 + 256 * num_of (take k (drop (suc i) s))
 unfolding num_of
@@ -93,6 +87,38 @@ num_eight s at h =
       next s at 7 0 (omega arith),
     )
     (omega arith)
+
+-- a line stored over 64 bytes that were lent
+pub line_put : (d : List ℕ) (at : ℕ) (line : List ℕ) → at + 64 ≤ length d → put_mid at (at + 64 - at) d (sets (mid_of at (at + 64 - at) d) 0 (words_bytes 8 line)) ≡ sets d at (words_bytes 8 line)
+line_put d at line h = sets_part d at (at + 64 - at) (words_bytes 8 line) (length_words 8 line ∙ omega arith) (omega arith)
+
+-- ---- the bytes of a number in the library's words
+
+byte_at_is : (i n : ℕ) → byte_at i n ≡ n / 256 ^ i % 256
+byte_at_is zero n = ap (λ x. x % 256) (sym (div-one n))
+byte_at_is (suc i) n = refl
+
+low_first : (k i n : ℕ) → bytes_low_first i k n ≡ bytes_of k (n / 256 ^ i)
+unfolding bytes_of
+low_first zero i n = refl
+low_first (suc k) i n =
+    let e : n / 256 ^ i / 256 ≡ n / 256 ^ suc i = div-div-eq-div-mul n (256 ^ i) 256 ∙ ap (λ p. n / p) (sym (pow-suc 256 i)) in
+    rw (byte_at_is i n, low_first k (suc i) n, e)
+
+pub to_le_is : (n : ℕ) → to_le_bytes w64 n ≡ bytes_of 8 n
+to_le_is n = low_first 8 0 n ∙ ap (bytes_of 8) (div-one n)
+
+pub from_le_is : (bs : List ℕ) → length bs ≡ 8 → from_le_bytes w64 bs ≡ num_of bs
+from_le_is bs e = omega (arith, num_eight bs 0 (omega arith), ap num_of (take_all 8 bs (omega arith)))
+
+-- the number in eight bytes
+pub word_read : (src : List ℕ) (at : ℕ) → at + 8 ≤ length src → from_le_bytes w64 (take 8 (drop at src)) ≡ num_of (take 8 (drop at src))
+word_read src at h = from_le_is (take 8 (drop at src)) (rw (length-take, length-drop) (omega arith))
+
+-- a word stored over eight bytes that were lent
+pub word_put : (d : List ℕ) (at x : ℕ) → at + 8 ≤ length d → put_mid at (at + 8 - at) d (to_le_bytes w64 x) ≡ sets d at (bytes_of 8 x)
+word_put d at x h =
+    ap (put_mid at (at + 8 - at) d) (to_le_is x) ∙ part_is d at (at + 8 - at) (bytes_of 8 x) (length_bytes 8 x ∙ omega arith) (omega arith)
 
 -- one more word of n
 pub line_more : (d : List ℕ) (n w : ℕ) (line : List ℕ) → w < n

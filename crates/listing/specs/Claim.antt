@@ -1,14 +1,9 @@
 -- What holds of the layout. The proofs stand in proofs/.
 use Rattle.std.specs.Prelude.{◌^◌, ℕ, ◌≡◌, Bool, ◌&&◌, false, true, List, [], ◌++◌, ◌∷◌, eqb, ltb, length, replicate}
-use Rattle.listing.specs.Layout.{entry_bytes, region_bytes, tables_bytes, tables_into, thread_bytes}
-use Rattle.measures.specs.Loan.{Rows}
-use Rattle.rows.specs.Whole.{tables_of}
-use Rattle.rows.specs.declared.Head.{Head}
+use Rattle.listing.specs.Layout.{entry_bytes, region_bytes, tables_bytes, thread_bytes}
 use Rattle.rules.specs.Lists.{all}
 use Rattle.rules.specs.Measures.{most_deps, most_entries, most_lines, most_regions, most_slots, most_threads, read_words, ripe_count}
 use Rattle.rules.specs.Tables.{no_slot}
-use Rattle.rules.specs.Run.{Wrote}
-use Rattle.rules.specs.declared.Answer.{Answer}
 use Rattle.rules.specs.declared.Entry.{Entry}
 use Rattle.rules.specs.declared.Region.{Region}
 use Rattle.rules.specs.declared.SlotState.TheVariants.{InFlight, Waiting}
@@ -129,9 +124,3 @@ pub record Worked : Type 0 where
       ∷ 3 ∷ 1 ∷ 2 ∷ 0 ∷ 1 ∷ 0 ∷ 0 ∷ 0 ∷ 0 ∷ 0 ∷ 0
       ∷ 4 ∷ 0 ∷ 5 ∷ 0
       ∷ 1 ∷ 0 ∷ []
-
--- ---- the contract of the function
-
--- answer and buffer d' are those of the tables of lent rows written into the buffer d
-abbrev pub Lists : Head → Rows → Rows → List ℕ → List Bool → List ℕ → List ℕ → Answer → Type 0
-Lists h threads regions owner lock d d' r = ◌≡◌ {A = Wrote} (record { answer = r; buffer = d' }) (tables_into (tables_of h threads regions owner lock) d)

@@ -1,3 +1,4 @@
+pub mod Lists
 pub mod Search
 pub mod Bounds
 pub mod Bytes

@@ -1,177 +1,138 @@
 #![tactic(auto)]
 
-// Small tests and searches in a region, by value. Each function's contract is one term of the definitions of `rules`, on every value; where a search
-// finds nothing, its place is the length of the list. The bounds that callers need are laws about these terms, in proofs/.
-ghost use Rattle.std.specs.Prelude.{◌≡◌, eqb};
-ghost use Rattle.rules.specs.Lists.{place};
-ghost use Rattle.rules.specs.Tables.{channel_of, no_slot, with_line, with_state};
+// What a setup may carry, a region's dependences, and whether a slot carries a line: small tests and searches, on every value.
+ghost use Rattle.std.specs.Prelude.{◌≡◌, eqb, position};
+ghost use Rattle.rules.specs.Tables.{channel_of};
 ghost use Rattle.rules.specs.Slots.{carries};
 ghost use Rattle.rules.specs.Access.{is_had, joined, word_places};
 ghost use Rattle.rules.specs.Bytes.{byte_of};
-ghost use Rattle.rules.specs.Refusal.{in_range, is_no_party, is_unfit, party_of, reserve_of};
+ghost use Rattle.rules.specs.Refusal.{in_range, is_no_party, is_unfit, no_room_for_dep, party_of, reserve_of};
 ghost use Rattle.undo.specs.Table.{any};
+ghost use Rattle.lookup.specs.Place.{IsPlace};
 
-use measures::{MOST_DEPS, MOST_IN_CHANNEL, MOST_LINES, MOST_THREADS};
+use measures::{MOST_DEPS, MOST_IN_CHANNEL, MOST_LINES, MOST_THREADS, THREADS};
 use rules::{Shares, Slot, SlotState};
 
 // ---- the numbers of a setup
 
-// Numbers T and L that a setup can have.
-pub fn in_range(n: u8, l: u16) -> bool
-    ensures { result ≡ in_range n l }
+/// Whether a setup can have T and L: "Threads T: 1 to 8. Lines L: 1 to 256."
+pub fn in_range(threads: u8, lines: u16) -> bool
+    ensures { result ≡ in_range threads lines }
 {
-    if n < 1 {
-        return false;
-    }
-    if MOST_THREADS < n as usize {
-        return false;
-    }
-    if l < 1 {
-        return false;
-    }
-    l as usize <= MOST_LINES
+    (1 <= threads && threads as usize <= MOST_THREADS)
+        && (1 <= lines && lines as usize <= MOST_LINES)
 }
 
 // Byte i of a word, byte 0 the low one.
-fn byte_of(x: u64, i: usize) -> u8
-    ensures { result ≡ byte_of i x }
+// Kept: behind the eighth byte the answer is 0, which an index into the word's bytes would have to test as well: no plainer.
+fn byte_of(word: u64, i: usize) -> u8
+    ensures { result ≡ byte_of i word }
 {
     if 8 <= i {
         return 0;
     }
-    ((x >> (8 * i)) % 256) as u8
+    ((word >> (8 * i)) % 256) as u8
 }
 
-// The party of thread t; 0 for one above 7.
-pub fn party_of(s: Shares, t: u32) -> u8
-    ensures { result ≡ party_of t s }
+/// The party of a thread; 0 for a thread above 7.
+pub fn party_of(shares: Shares, thread: u32) -> u8
+    ensures { result ≡ party_of thread shares }
 {
-    byte_of(s.parties, t as usize)
+    byte_of(shares.parties, thread as usize)
 }
 
-// The reserve of party p; 0 for one above 1.
-pub fn reserve_of(s: Shares, p: u8) -> u8
-    ensures { result ≡ reserve_of p s }
+/// The reserve of a party; 0 for a party above 1.
+pub fn reserve_of(shares: Shares, party: u8) -> u8
+    ensures { result ≡ reserve_of party shares }
 {
-    byte_of(s.reserves as u64, p as usize)
+    byte_of(shares.reserves as u64, party as usize)
 }
 
-// The party of thread t is above 1, or not 0 where t is not below T.
-fn is_no_party(n: u8, s: Shares, t: u8) -> bool
-    ensures { result ≡ is_no_party n s t }
+// A thread's party is above 1, or not 0 where the thread is not below T.
+fn is_no_party(threads: u8, shares: Shares, thread: u8) -> bool
+    ensures { result ≡ is_no_party threads shares thread }
 {
-    let p = party_of(s, t as u32);
-    if 1 < p {
-        return true;
-    }
-    if t < n { false } else { p != 0 }
+    let party = party_of(shares, thread as u32);
+    1 < party || (threads <= thread && party != 0)
 }
 
-// Some thread has such a party.
-fn has_no_party(n: u8, s: Shares) -> bool
-    ensures { result ≡ any (is_no_party n s) word_places }
+fn has_no_party(threads: u8, shares: Shares) -> bool
+    ensures { result ≡ any (is_no_party threads shares) word_places }
 {
-    let mut t: u8 = 0;
-    while (t as usize) < MOST_THREADS {
-        if is_no_party(n, s, t) {
-            return true;
-        }
-        t += 1;
-    }
-    false
+    THREADS
+        .iter()
+        .any(|&thread| is_no_party(threads, shares, thread))
 }
 
-// Parties and reserves that a setup of n threads cannot have.
-pub fn is_unfit(n: u8, s: Shares) -> bool
-    ensures { result ≡ is_unfit n s }
+/// Whether a setup of T threads cannot have these parties and reserves: refusal 24.
+pub fn is_unfit(threads: u8, shares: Shares) -> bool
+    ensures { result ≡ is_unfit threads shares }
 {
-    if has_no_party(n, s) {
-        return true;
-    }
-    MOST_IN_CHANNEL < (reserve_of(s, 0) as usize) + (reserve_of(s, 1) as usize)
+    has_no_party(threads, shares)
+        || MOST_IN_CHANNEL < reserve_of(shares, 0) as usize + reserve_of(shares, 1) as usize
 }
 
 // ---- channels
 
-// The channel of a region's number.
-pub fn channel_of(n: u32) -> u8
-    ensures { result ≡ channel_of n }
+/// The channel of a region's number: its lowest bit.
+pub fn channel_of(number: u32) -> u8
+    ensures { result ≡ channel_of number }
 {
-    (n % 2) as u8
+    (number % 2) as u8
 }
 
 // ---- dependences
 
-// The place of the dependence d; of 0, the first free place.
-fn dep_place(deps: [u32; MOST_DEPS], d: u32) -> usize
-    ensures { result ≡ place (eqb d) deps }
+fn holds(deps: &[u32; MOST_DEPS], dep: u32) -> bool
+    ensures { result ≡ any (eqb dep) deps.now }
 {
-    let mut i: usize = 0;
-    let at = loop {
-        if MOST_DEPS <= i {
-            break i;
-        }
-        if d == deps[i] {
-            break i;
-        }
-        i += 1;
-    };
-    at
+    deps.iter().any(|&held| dep == held)
 }
 
-// Whether d is no dependence, or one of those held.
-fn is_had(deps: [u32; MOST_DEPS], d: u32) -> bool
-    ensures { result ≡ is_had d deps }
+/// Whether `dep` is no dependence, or one of those held.
+pub fn is_had(deps: &[u32; MOST_DEPS], dep: u32) -> bool
+    ensures { result ≡ is_had dep deps.now }
 {
-    if d == 0 {
-        return true;
-    }
-    dep_place(deps, d) < MOST_DEPS
+    dep == 0 || holds(deps, dep)
 }
 
-// The dependences with d among them; as they were where no place is free.
-pub fn join(deps: [u32; MOST_DEPS], d: u32) -> [u32; MOST_DEPS]
-    ensures { result ≡ joined d deps }
+/// Whether the dependences have no place for `dep`: refusal 19.
+pub fn no_room_for_dep(deps: &[u32; MOST_DEPS], dep: u32) -> bool
+    ensures { result ≡ no_room_for_dep dep deps.now }
 {
-    if is_had(deps, d) {
-        return deps;
+    !is_had(deps, dep) && !holds(deps, 0)
+}
+
+fn first_free(deps: &[u32; MOST_DEPS]) -> Option<usize>
+    ensures { result ≡ position (eqb 0) deps.now }
+{
+    deps.iter().position(|&held| 0 == held)
+}
+
+#[tactic(auto, using(crate::proofs::Lists::is_place))]
+fn free_dep(deps: &[u32; MOST_DEPS]) -> Option<usize>
+    ensures { IsPlace (eqb 0) deps.now result }
+{
+    first_free(deps)
+}
+
+/// `dep` joins the dependences, a set; they stay as they are where no place is free.
+pub fn join(deps: &mut [u32; MOST_DEPS], dep: u32)
+    ensures { deps.new ≡ joined dep deps.old }
+{
+    if is_had(deps, dep) {
+        return;
     }
-    let i = dep_place(deps, 0);
-    if MOST_DEPS <= i {
-        return deps;
+    if let Some(at) = free_dep(deps) {
+        deps[at] = dep;
     }
-    let mut q = deps;
-    q[i] = d;
-    q
 }
 
 // ---- slots
 
-// A slot of line l.
-pub fn slot(l: u8, state: SlotState) -> Slot
-    ensures { result ≡ with_state state (with_line l no_slot) }
+/// Whether the slot is in flight with the line.
+pub fn carries(slot: &Slot, line: u8) -> bool
+    ensures { result ≡ carries line slot.now }
 {
-    Slot {
-        line: l,
-        state: state,
-    }
-}
-
-// What a free place holds.
-pub fn no_slot() -> Slot
-    ensures { result ≡ no_slot }
-{
-    slot(0, SlotState::Empty)
-}
-
-// Whether the slot is in flight with the line l.
-pub fn slot_carries(s: Slot, l: u8) -> bool
-    ensures { result ≡ carries l s }
-{
-    let st = s.state;
-    match st {
-        SlotState::Empty => false,
-        SlotState::Waiting(_) => false,
-        SlotState::InFlight => s.line == l,
-    }
+    slot.state == SlotState::InFlight && slot.line == line
 }

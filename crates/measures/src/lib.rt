@@ -5,6 +5,9 @@
 // "Threads T: 1 to 8. Lines L: 1 to 256. A line is eight words of 8 bytes"
 pub const MOST_THREADS: usize = 8;
 
+// The threads, in their order.
+pub const THREADS: [u8; MOST_THREADS] = [0, 1, 2, 3, 4, 5, 6, 7];
+
 pub const MOST_LINES: usize = 256;
 
 pub const LINE_WORDS: usize = 8;
@@ -52,28 +55,6 @@ pub const RIPE_COUNT: u8 = 4;
 pub const MOST_RECENT: usize = RIPE_COUNT as usize;
 
 // ---- what is lent
-
-// A region as a row of numbers: key; channel, ended and done in one; its recent lines in one; stamp; its dependences; its slots from SLOTS_AT on.
-pub const SLOTS_AT: usize = 4 + MOST_DEPS;
-
-pub const REGION_NUMBERS: usize = SLOTS_AT + MOST_SLOTS;
-
-pub type RegionRow = [u32; REGION_NUMBERS];
-
-pub type Regions = [RegionRow; MOST_REGIONS];
-
-// A thread: its log entries, its depth, the number of its last region, and from READS_AT on the bits of the lines that its open region has read.
-pub const DEPTH_AT: usize = MOST_ENTRIES;
-
-pub const LAST_AT: usize = MOST_ENTRIES + 1;
-
-pub const READS_AT: usize = MOST_ENTRIES + 2;
-
-pub const THREAD_NUMBERS: usize = READS_AT + READ_WORDS;
-
-pub type ThreadRow = [u64; THREAD_NUMBERS];
-
-pub type Threads = [ThreadRow; MOST_THREADS];
 
 // Of each line its owner, whether it is locked, and its words.
 pub type Owners = [u32; MOST_LINES];

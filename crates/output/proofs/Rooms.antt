@@ -4,7 +4,7 @@ use mathlib.Core.Path.{◌∙◌, ◌≡◌, ap, refl, sym}
 use mathlib.Core.Bool.{cond, false, true}
 use mathlib.Core.List.{List, [], ◌++◌, ◌∷◌, append_assoc, append-nil}
 use lib.Dec.{leb}
-use lib.ListN.{drop, drop_of_length-le, get_or, length, length-append, set, take}
+use lib.ListN.{drop, drop_of_length-le, get_or, length, length-append, take}
 use native.Mathlib.Omega.{arith}
 use native.Mathlib.Numerals.{add-one}
 use borrow.Author.Tests.{le-leb, le-ltb, leb-false, leb-true, lt-leb, lt-ltb}
@@ -15,18 +15,15 @@ use Rattle.output.specs.declared.Cursor.{Cursor}
 use Rattle.rules.specs.Bytes.{bytes_of}
 use Rattle.undo.proofs.Laws.{test}
 
-pub put_in : (d : List ℕ) (c : Cursor) (b : ℕ) → c.at < length d → puts (room d c) (b ∷ []) ≡ room (set d c.at b) (record { at = c.at + 1; short = c.short })
-unfolding puts put room
-put_in d c b h = rw (lt-ltb _ _ h)
-
-pub put_out : (d : List ℕ) (c : Cursor) (b : ℕ) → length d ≤ c.at → puts (room d c) (b ∷ []) ≡ room d (record { at = c.at; short = true })
-unfolding puts put room
-put_out d c b h = rw (le-ltb _ _ h)
-
 pub puts_join : (r : Room) (xs ys : List ℕ) → puts r (xs ++ ys) ≡ puts (puts r xs) ys
 unfolding puts
 puts_join r [] ys = refl
 puts_join r (x ∷ xs) ys = puts_join (put r x) xs ys
+
+-- the first byte, and what stands behind it
+pub puts_cons : (r : Room) (b : ℕ) (bs : List ℕ) → puts r (b ∷ bs) ≡ puts (puts r (b ∷ [])) bs
+unfolding puts
+puts_cons r b bs = refl
 
 pub puts_none : (r : Room) → puts r [] ≡ r
 unfolding puts

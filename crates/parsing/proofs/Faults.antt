@@ -10,6 +10,11 @@ use native.Mathlib.Numerals.{add-one}
 use native.Mathlib.Nat.{add-zero, zero-add}
 use borrow.Author.Tests.{eqb-false, eqb-true, ne_eqb}
 use lib.Seq.{drop-drop, length-take-le}
+use Rattle.parsing.specs.Numbers.{fault_number}
+use Rattle.parsing.specs.declared.Fault.{Fault as FaultName}
+use Rattle.parsing.specs.declared.Fault.TheVariants.{ExtraNumber, MissingNumber, NotNumber, OutOfRange, UnknownWord}
+use Rattle.parsing.specs.declared.Stop.TheVariants.{LineEnd, WordEnd, WordStart}
+use Rattle.std.specs.Prelude.{None, Option, Some}
 use Rattle.rules.proofs.Lists.{place_le}
 use Rattle.rules.specs.Lists.{all, place}
 use Rattle.parsing.proofs.Reading.{lines_next}
@@ -17,9 +22,7 @@ use Rattle.parsing.specs.Claim.{FaultsTold}
 use Rattle.parsing.specs.Fault.{fault, fault_by, fault_of, field_fault, further, in_field, kind_fault, line_fault, lines_fault, missing_number, no_fault, or_else, unknown_word, word_end, word_fault, word_start, words_fault}
 use Rattle.parsing.specs.Read.{Got, behind, bytes_of_text, complete, field, fields_from, glued, got, is_digit, kind_of, kind_then, line_then, lines_of, lines_read, no_word, number_in, read_as, stops, width_at, words_in, words_read}
 use Rattle.parsing.specs.Results.{Finds, NextWord}
-use Rattle.parsing.specs.declared.Fault.{Fault}
-use Rattle.parsing.specs.declared.Number.{Number}
-use Rattle.parsing.specs.declared.Number.TheVariants.{Is, Not}
+use Rattle.parsing.specs.Fault.{Fault}
 use Rattle.parsing.specs.declared.Span.{Span}
 use Rattle.undo.proofs.Laws.{test}
 
@@ -28,12 +31,12 @@ use Rattle.undo.proofs.Laws.{test}
 end_in : (cs : List ℕ) → word_end cs ≤ length cs
 unfolding word_end
 end_in cs =
-    let s = place (stops 0) cs in
-    omega (arith, place_le (stops 0) cs, place_le (stops 1) (drop s cs), length-drop s cs)
+    let s = place (stops WordStart) cs in
+    omega (arith, place_le (stops WordStart) cs, place_le (stops WordEnd) (drop s cs), length-drop s cs)
 
 start_in : (i : ℕ) (cs : List ℕ) → word_start i cs ≤ length cs
 unfolding word_start
-start_in zero cs = place_le (stops 0) cs
+start_in zero cs = place_le (stops WordStart) cs
 start_in (suc i) cs = omega (arith, end_in cs, start_in i (drop (word_end cs) cs), length-drop (word_end cs) cs)
 
 pub line_in : (l : List ℕ) → (line_fault l).at ≤ length l
@@ -50,10 +53,10 @@ else_some : (f g : Fault) → (f.kind ≡ 0 → ⊥) → or_else f g ≡ f
 unfolding or_else
 else_some f g n = rw (ne_eqb f.kind 0 n)
 
-word_told : (n : Number) (w f : ℕ) (word : List ℕ) (g : Fault) (h : Got) → eqb g.kind 0 ≡ h.ok → eqb (or_else (fault (fault_by n w word) f) g).kind 0 ≡ (field w n h).ok
+word_told : (n : Option ℕ) (w f : ℕ) (word : List ℕ) (g : Fault) (h : Got) → eqb g.kind 0 ≡ h.ok → eqb (or_else (fault (fault_by n w word) f) g).kind 0 ≡ (field w n h).ok
 unfolding or_else fault_by field behind got
-word_told (Is v) w f word g h e = e
-word_told Not w f word g h e = test (eqb w 0) (λ a. rw a) (λ a. rw a (test (all is_digit word) (λ b. rw b) (λ b. rw b)))
+word_told (Some v) w f word g h e = e
+word_told None w f word g h e = test (eqb w 0) (λ a. rw a) (λ a. rw a (test (all is_digit word) (λ b. rw b) (λ b. rw b)))
 
 fields_told : (k f : ℕ) (ws : List (List ℕ)) → eqb (field_fault k f ws).kind 0 ≡ (fields_from k f ws).ok
 unfolding field_fault fields_from got word_fault
@@ -121,23 +124,27 @@ pub record Ahead (k : ℕ) (line : List ℕ) (start at f : ℕ) : Type 0 where
   pub same_fault : field_fault k f (words_in (drop at line)) ≡ field_fault k 0 (words_in (drop start line))
   pub same_place : (i : ℕ) → at + word_start i (drop at line) ≡ start + word_start (f + i) (drop start line)
 
-pub ahead_all : (k : ℕ) (line : List ℕ) (start : ℕ) → Ahead k line start start 0
-ahead_all k line start = record { same_fault = refl; same_place = λ i. rw (zero-add i) }
+pub never_none : (f : FaultName) → fault_number f ≡ 0 → ⊥
+never_none UnknownWord e = absurd (omega arith)
+never_none NotNumber e = absurd (omega arith)
+never_none OutOfRange e = absurd (omega arith)
+never_none MissingNumber e = absurd (omega arith)
+never_none ExtraNumber e = absurd (omega arith)
 
 -- what is found is a fault of the kind x in field f, or none
 finds_fault : (g : Fault) (line : List ℕ) (at x f s : ℕ) → fault x f ≡ g → s ≡ at + word_start f (drop at line) → Finds g line at (record { kind = x; at = s })
-finds_fault g line at x f s e h = record { told = ap (λ (q : Fault). q.kind) e; placed = λ n. rw (← e) h }
+finds_fault g line at x f s e h = record { tells = ap (λ (q : Fault). q.kind) e; placed = λ n. rw (← e) h }
 
-finds_none : (g : Fault) (line : List ℕ) (at s : ℕ) → g ≡ no_fault → Finds g line at (record { kind = 0; at = s })
-finds_none g line at s e = record { told = rw e; placed = λ n. absurd (n refl) }
+finds_none : (g : Fault) (line : List ℕ) (at : ℕ) → g ≡ no_fault → Finds g line at no_fault
+finds_none g line at e = record { tells = rw e; placed = λ n. absurd (n refl) }
 
 module _ (k : ℕ) (line : List ℕ) (start at f : ℕ) (a : Ahead k line start at f) (w : Span) (nw : NextWord line at w) where
   here : w.start ≡ start + word_start f (drop start line)
   here = nw.starts ∙ (a.same_place 0 ∙ rw (add-zero f))
 
-  pub ends_well : w.start ≡ w.end → complete k f ≡ true → Finds (field_fault k 0 (words_in (drop start line))) line start (record { kind = 0; at = w.start })
+  pub ends_well : w.start ≡ w.end → complete k f ≡ true → Finds (field_fault k 0 (words_in (drop start line))) line start no_fault
   unfolding field_fault
-  ends_well z e = finds_none (field_fault k 0 (words_in (drop start line))) line start w.start (sym a.same_fault ∙ rw (nw.none z, e))
+  ends_well z e = finds_none (field_fault k 0 (words_in (drop start line))) line start (sym a.same_fault ∙ rw (nw.none z, e))
 
   pub ends_early : w.start ≡ w.end → complete k f ≡ false → Finds (field_fault k 0 (words_in (drop start line))) line start (record { kind = missing_number; at = w.start })
   unfolding field_fault
@@ -165,7 +172,7 @@ module _ (k : ℕ) (line : List ℕ) (start at f : ℕ) (a : Ahead k line start 
 module _ (line : List ℕ) (w : Span) (nw : NextWord line 0 w) where
   pub no_word_lem : w.start ≡ w.end → Finds (words_fault (words_in line)) line 0 no_fault
   unfolding words_fault
-  no_word_lem z = finds_none (words_fault (words_in line)) line 0 0 (rw (nw.none z))
+  no_word_lem z = finds_none (words_fault (words_in line)) line 0 (rw (nw.none z))
 
   module _ (k : ℕ) (h : w.start < w.end) (e : k ≡ kind_of (take (w.end - w.start) (drop w.start line))) where
     pub unknown : k ≡ no_word → Finds (words_fault (words_in line)) line 0 (record { kind = unknown_word; at = w.start })
@@ -177,11 +184,11 @@ module _ (line : List ℕ) (w : Span) (nw : NextWord line 0 w) where
     known r n f =
         let g : words_fault (words_in line) ≡ in_field (field_fault k 0 (words_in (drop w.end line))) = rw (nw.some h, ← e, ne_eqb k no_word n) in
         let d : w.end ≡ word_end line = nw.ends h ∙ zero-add (word_end line) in
-        record { told = rw g f.told; placed = λ z. f.placed z ∙ rw (g, zero-add, d) }
+        record { tells = rw g f.tells; placed = λ z. f.placed z ∙ rw (g, zero-add, d) }
 
 pub line_kind : (line : List ℕ) (r : Fault) → Finds (words_fault (words_in line)) line 0 r → r.kind ≡ (line_fault line).kind
 unfolding line_fault
-line_kind line r f = f.told
+line_kind line r f = f.tells
 
 pub line_place : (line : List ℕ) (r : Fault) → Finds (words_fault (words_in line)) line 0 r → (r.kind ≡ 0 → ⊥) → r.at ≡ (line_fault line).at
 unfolding line_fault
@@ -189,8 +196,8 @@ line_place line r f n = f.placed n ∙ zero-add (word_start (words_fault (words_
 
 -- ---- the fault of a text by its lines
 
-pub line_length : (text : List ℕ) (at e : ℕ) → e ≡ at + place (stops 2) (drop at text) → length (take (e - at) (drop at text)) ≡ e - at
-line_length text at e f = length-take-le (e - at) (drop at text) (omega (arith, place_le (stops 2) (drop at text)))
+pub line_length : (text : List ℕ) (at e : ℕ) → e ≡ at + place (stops LineEnd) (drop at text) → length (take (e - at) (drop at text)) ≡ e - at
+line_length text at e f = length-take-le (e - at) (drop at text) (omega (arith, place_le (stops LineEnd) (drop at text)))
 
 module _ (text : List ℕ) (at : ℕ) (a : further at (lines_fault (lines_of (drop at text))) ≡ lines_fault (lines_of text)) where
   pub no_line : length text ≤ at → fault 0 (length text) ≡ fault_of text
@@ -199,7 +206,7 @@ module _ (text : List ℕ) (at : ℕ) (a : further at (lines_fault (lines_of (dr
       let z : (lines_fault (lines_of text)).kind ≡ 0 = ap (λ (q : Fault). q.kind) (sym a) ∙ rw (drop_of_length-le text h) in
       sym (else_none (lines_fault (lines_of text)) (fault 0 (length text)) z)
 
-  module _ (e : ℕ) (h : at < length text) (f : e ≡ at + place (stops 2) (drop at text)) where
+  module _ (e : ℕ) (h : at < length text) (f : e ≡ at + place (stops LineEnd) (drop at text)) where
     from_here : lines_fault (lines_of (drop at text)) ≡ or_else (line_fault (take (e - at) (drop at text))) (further (suc (length (take (e - at) (drop at text)))) (lines_fault (lines_of (drop (e + 1) text))))
     unfolding lines_fault
     from_here = rw (lines_next text at e h f)

@@ -113,16 +113,17 @@ good_front text d d' r t s =
 
 -- ---- the search for it from the end
 
-pub last_found : (l : List ℕ) (i : ℕ) → 0 < i → i ≤ length l → get_or l (i - 1) 0 ≡ 10 → last_line (take i l) ≡ i
-last_found l zero z h e = absurd (omega arith)
-last_found l (suc i) z h e =
-    let m : suc i - 1 ≡ i = omega arith in
-    let f : get_or l i 0 ≡ 10 = rw m at e in
-    last_at l i (omega arith) ∙ rw f
+pub last_found : (l : List ℕ) → 0 < length l → get_or l (length l - 1) 0 ≡ 10 → last_line l ≡ length l
+last_found l z e =
+    let n = length l - 1 in
+    let m : suc n ≡ length l = omega arith in
+    ap last_line (sym (take_all (suc n) l (omega arith))) ∙ (last_at l n (omega arith) ∙ rw (e, m))
 
-pub last_back : (l : List ℕ) (i : ℕ) → 0 < i → i ≤ length l → (get_or l (i - 1) 0 ≡ 10 → ⊥) → last_line (take i l) ≡ last_line (take (i - 1) l)
-last_back l zero z h e = absurd (omega arith)
-last_back l (suc i) z h e =
-    let m : suc i - 1 ≡ i = omega arith in
-    let f : get_or l i 0 ≡ 10 → ⊥ = rw m at e in
-    last_at l i (omega arith) ∙ rw (ne_eqb (get_or l i 0) 10 f, m)
+pub last_back : (l : List ℕ) → 0 < length l → (get_or l (length l - 1) 0 ≡ 10 → ⊥) → last_line l ≡ last_line (take (length l - 1) l)
+last_back l z f =
+    let n = length l - 1 in
+    ap last_line (sym (take_all (suc n) l (omega arith))) ∙ (last_at l n (omega arith) ∙ rw (ne_eqb (get_or l n 0) 10 f))
+
+pub last_empty : (l : List ℕ) → length l ≡ 0 → last_line l ≡ length l
+last_empty [] e = last_none
+last_empty (c ∷ l) e = absurd (omega arith)

@@ -8,7 +8,8 @@ use lib.ListN.{drop, drop_of_length-le, get_or, length, length-drop, take}
 use native.Mathlib.Omega.{arith}
 use borrow.Author.Tests.{ne_eqb}
 use lib.Seq.{drop-cons, drop-drop}
-use native.Mathlib.Nat.{zero-add}
+use Rattle.parsing.specs.declared.Stop.TheVariants.{LineEnd}
+use Rattle.std.specs.Prelude.{None, Some}
 use Rattle.rules.proofs.Lists.{place_le}
 use Rattle.rules.specs.Bytes.{bytes_of}
 use Rattle.rules.specs.Lists.{place}
@@ -17,8 +18,8 @@ use Rattle.parsing.specs.Read.{Got, Text, behind, bytes_of_text, complete, field
 use Rattle.parsing.specs.Results.{ReadsAs, TextReadAs}
 use Rattle.output.specs.Room.{Room, filled, puts, room}
 use Rattle.output.specs.declared.Cursor.{Cursor}
-use Rattle.parsing.specs.declared.LineRead.{LineRead}
-use Rattle.parsing.specs.declared.Number.TheVariants.{Is, Not}
+use Rattle.output.specs.Writer.{Puts, room_of}
+use Rattle.output.specs.declared.Writer.{Writer}
 use Rattle.undo.proofs.Laws.{test}
 use Rattle.undo.proofs.Values.{end}
 
@@ -33,11 +34,11 @@ module _ (k f : ℕ) (l : List ℕ) where
   fields_none e = rw e
 
   module _ (w : List ℕ) (ws : List (List ℕ)) (e : words_in l ≡ w ∷ ws) where
-    pub fields_not : number_in (width_at k f) w ≡ Not → fields_from k f (words_in l) ≡ got [] false
+    pub fields_not : number_in (width_at k f) w ≡ None → fields_from k f (words_in l) ≡ got [] false
     unfolding fields_from field
     fields_not n = rw (e, n)
 
-    pub fields_is : (v : ℕ) → number_in (width_at k f) w ≡ Is v → fields_from k f (words_in l) ≡ behind (bytes_of (width_at k f) v) (fields_from k (suc f) ws)
+    pub fields_is : (v : ℕ) → number_in (width_at k f) w ≡ Some v → fields_from k f (words_in l) ≡ behind (bytes_of (width_at k f) v) (fields_from k (suc f) ws)
     unfolding fields_from field
     fields_is v n = rw (e, n)
 
@@ -67,40 +68,41 @@ module _ (line : List ℕ) where
     unfolding words_read kind_then
     line_kind k = rw (e, ne_eqb (kind_of w) no_word k)
 
-pub reads_none : (g : Got) (d : List ℕ) (c : Cursor) (ok : Bool) → g ≡ got [] ok → ReadsAs g d d c (record { cursor = c; ok = ok })
+pub reads_none : (g : Got) (w : Writer) (ok : Bool) → g ≡ got [] ok → ReadsAs g w w ok
 unfolding got puts
-reads_none g d c ok e = record { written = rw e; told = rw e }
+reads_none g w ok e = record { written = (refl, rw e); tells = rw e }
 
-pub reads_behind : (g h : Got) (bs d m x : List ℕ) (c q : Cursor) (r : LineRead) → g ≡ behind bs h → room m q ≡ puts (room d c) bs → ReadsAs h m x q r → ReadsAs g d x c r
+pub reads_behind : (g h : Got) (bs : List ℕ) (w m x : Writer) (ok : Bool) → g ≡ behind bs h → Puts w bs m → ReadsAs h m x ok → ReadsAs g w x ok
 unfolding got behind
-reads_behind g h bs d m x c q r e p l = record { written = rw (e, puts_join, ← p) l.written; told = rw e l.told }
+reads_behind g h bs w m x ok e p l =
+    record { written = (l.written.0 ∙ p.0, rw (e, puts_join, ← p.1) l.written.1); tells = rw e l.tells }
 
 -- ---- a text by its lines
 
 pub glued_line : (c : ℕ) (l : List ℕ) (ls : List (List ℕ)) (m : List (List ℕ)) → m ≡ l ∷ ls → glued c m ≡ (c ∷ l) ∷ ls
 glued_line c l ls m e = rw e
 
-lines_at : (c : ℕ) (cs : List ℕ) → lines_of (c ∷ cs) ≡ take (place (stops 2) (c ∷ cs)) (c ∷ cs) ∷ lines_of (drop (suc (place (stops 2) (c ∷ cs))) (c ∷ cs))
+lines_at : (c : ℕ) (cs : List ℕ) → lines_of (c ∷ cs) ≡ take (place (stops LineEnd) (c ∷ cs)) (c ∷ cs) ∷ lines_of (drop (suc (place (stops LineEnd) (c ∷ cs))) (c ∷ cs))
 unfolding lines_of place stops
 lines_at c [] = test (eqb c 10) (λ e. rw e) (λ e. rw e)
 lines_at c (d ∷ ds) = let ih = lines_at d ds in test (eqb c 10) (λ e. rw e) (λ e. rw e (glued_line c _ _ _ ih))
 
 -- the line at a place, and those behind it
-pub lines_next : (text : List ℕ) (at end : ℕ) → at < length text → end ≡ at + place (stops 2) (drop at text) → lines_of (drop at text) ≡ take (end - at) (drop at text) ∷ lines_of (drop (end + 1) text)
+pub lines_next : (text : List ℕ) (at end : ℕ) → at < length text → end ≡ at + place (stops LineEnd) (drop at text) → lines_of (drop at text) ≡ take (end - at) (drop at text) ∷ lines_of (drop (end + 1) text)
 lines_next text at end h e =
     let l = drop at text in
-    let n = place (stops 2) l in
+    let n = place (stops LineEnd) l in
     let m : end - at ≡ n = omega arith in
     let u : end + 1 ≡ at + suc n = omega arith in
     let s : lines_of l ≡ take n l ∷ lines_of (drop (suc n) l) = rw (drop-cons text at 0 h) (lines_at (get_or text at 0) (drop (suc at) text)) in
     rw (m, u, ← drop-drop (suc n) at text, s)
 
-pub text_line : (text : List ℕ) (at end : ℕ) → at < length text → end ≡ at + place (stops 2) (drop at text) → bytes_of_text (drop at text) ≡ line_then (words_read (words_in (take (end - at) (drop at text)))) (bytes_of_text (drop (end + 1) text))
+pub text_line : (text : List ℕ) (at end : ℕ) → at < length text → end ≡ at + place (stops LineEnd) (drop at text) → bytes_of_text (drop at text) ≡ line_then (words_read (words_in (take (end - at) (drop at text)))) (bytes_of_text (drop (end + 1) text))
 unfolding bytes_of_text lines_read
 text_line text at end h e = rw (lines_next text at end h e)
 
 -- the same of the lines in the form
-pub good_line : (text : List ℕ) (at end : ℕ) → at < length text → end ≡ at + place (stops 2) (drop at text) → good_bytes (drop at text) ≡ good_then (words_read (words_in (take (end - at) (drop at text)))) (good_bytes (drop (end + 1) text))
+pub good_line : (text : List ℕ) (at end : ℕ) → at < length text → end ≡ at + place (stops LineEnd) (drop at text) → good_bytes (drop at text) ≡ good_then (words_read (words_in (take (end - at) (drop at text)))) (good_bytes (drop (end + 1) text))
 unfolding good_bytes good_of
 good_line text at end h e = rw (lines_next text at end h e)
 
@@ -138,14 +140,15 @@ pub then_on : (g : Got) (t : Text) → g.ok ≡ true → line_then g t ≡ read_
 unfolding line_then
 then_on g t e = rw e
 
-pub text_stop : (t t₀ : Text) (r : Room) (d : List ℕ) (n : ℕ) (bs : List ℕ) (ok : Bool) (x : List ℕ) (q : Cursor) (ls : List ℕ) (g : ℕ) → t ≡ read_as bs 0 ok → LeftText t t₀ r (room d (record { at = 0; short = false })) n → room x q ≡ puts r bs → g ≡ (filled d ls).cursor.at → TextReadAs t₀ ls d x (record { cursor = q; good = g; lines = n; ok = ok })
+-- the end of a text, in the form or not, where the writer w has filled the buffer x
+pub text_stop : (t t₀ : Text) (r : Room) (d : List ℕ) (n : ℕ) (bs : List ℕ) (ok : Bool) (x : List ℕ) (w : Writer) (ls : List ℕ) (g : ℕ) → t ≡ read_as bs 0 ok → LeftText t t₀ r (room d (record { at = 0; short = false })) n → x ≡ w.out.now → room_of w ≡ puts r bs → g ≡ (filled d ls).cursor.at → TextReadAs t₀ ls d x (record { cursor = w.cursor; good = g; lines = n; ok = ok })
 unfolding read_as
-text_stop t t₀ r d n bs ok x q ls g e l p z =
+text_stop t t₀ r d n bs ok x w ls g e l y p z =
     record {
       good_end = z;
-      written = p ∙ ((rw e at l.same_bytes) ∙ puts_filled d t₀.bytes);
+      written = rw y (p ∙ ((rw e at l.same_bytes) ∙ puts_filled d t₀.bytes));
       counted = let k = rw e at l.same_lines in omega arith;
-      told = rw e at l.same_ok;
+      tells = rw e at l.same_ok;
     }
 
 pub text_step : (t t₀ u : Text) (r r₀ : Room) (n : ℕ) (bs : List ℕ) → t ≡ read_as (bs ++ u.bytes) (suc u.lines) u.ok → LeftText t t₀ r r₀ n → LeftText u t₀ (puts r bs) r₀ (n + 1)
@@ -157,8 +160,5 @@ text_step t t₀ u r r₀ n bs e l =
       same_ok = rw e at l.same_ok;
     }
 
-pub end_in : (text : List ℕ) (at end : ℕ) → at < length text → end ≡ at + place (stops 2) (drop at text) → end ≤ length text
-end_in text at end h e = omega (arith, place_le (stops 2) (drop at text), length-drop at text)
-
-pub left_all : (t : Text) (r : Room) → LeftText t t r r 0
-left_all t r = record { same_bytes = refl; same_lines = zero-add t.lines; same_ok = refl }
+pub end_in : (text : List ℕ) (at end : ℕ) → at < length text → end ≡ at + place (stops LineEnd) (drop at text) → end ≤ length text
+end_in text at end h e = omega (arith, place_le (stops LineEnd) (drop at text), length-drop at text)

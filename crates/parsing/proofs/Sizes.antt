@@ -7,6 +7,7 @@ use lib.Dec.{eqb}
 use lib.ListN.{get_or, length, length-append, take}
 use native.Mathlib.Omega.{arith}
 use borrow.Author.Tests.{eqb-true, le-leb}
+use Rattle.std.specs.Prelude.{None, Option, Some}
 use Rattle.events.proofs.Table.{fitting}
 use Rattle.events.specs.Row.{is_width}
 use Rattle.rules.proofs.Codec.Bytes.{length_bytes}
@@ -14,8 +15,6 @@ use Rattle.output.specs.Room.{Room, filled, room}
 use Rattle.parsing.proofs.Lines.{good_front}
 use Rattle.parsing.specs.Read.{Got, Text, behind, bytes_line, bytes_of_text, field, fields_from, glued, good_bytes, got, in_word, is_space, kind_bytes, kind_of, kind_then, line_then, lines_of, lines_read, no_word, number_in, read_as, width_at, words_in, words_read}
 use Rattle.parsing.specs.Results.{TextReadAs}
-use Rattle.parsing.specs.declared.Number.{Number}
-use Rattle.parsing.specs.declared.Number.TheVariants.{Is, Not}
 use Rattle.parsing.specs.declared.TextRead.{TextRead}
 use Rattle.rules.specs.Bytes.{bytes_of}
 use Rattle.rules.specs.Kinds.{widths_of}
@@ -54,10 +53,10 @@ field_small : (k f : ℕ) → width_at k f ≤ 8
 unfolding width_at
 field_small k f = test (eqb k bytes_line) (λ e. rw e (omega arith)) (λ e. rw e (all_small (widths_of k) f (fitting k).wide))
 
-field_short : (w n : ℕ) (v : Number) (g : Got) → w ≤ 8 → length g.bytes ≤ 8 * n → length (field w v g).bytes ≤ 8 * suc n
+field_short : (w n : ℕ) (v : Option ℕ) (g : Got) → w ≤ 8 → length g.bytes ≤ 8 * n → length (field w v g).bytes ≤ 8 * suc n
 unfolding field behind got
-field_short w n Not g h k = omega arith
-field_short w n (Is v) g h k = omega (arith, length-append (bytes_of w v) g.bytes, length_bytes w v)
+field_short w n None g h k = omega arith
+field_short w n (Some v) g h k = omega (arith, length-append (bytes_of w v) g.bytes, length_bytes w v)
 
 fields_short : (k f : ℕ) (ws : List (List ℕ)) → length (fields_from k f ws).bytes ≤ 8 * length ws
 unfolding fields_from got

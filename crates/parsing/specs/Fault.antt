@@ -1,10 +1,13 @@
 -- The first fault of a text that is not in the readable form: its kind, and where it stands.
-use Rattle.std.specs.Prelude.{◌+◌, suc, zero, ℕ, cond, List, [], ◌∷◌, eqb, drop, length}
+use Rattle.std.specs.Prelude.{◌+◌, suc, zero, ℕ, None, Option, Some, cond, List, [], ◌∷◌, eqb, drop, length}
 use Rattle.parsing.specs.Read.{complete, is_digit, kind_of, lines_of, no_word, number_in, stops, width_at, words_in}
-use Rattle.parsing.specs.declared.Fault.{Fault}
-use Rattle.parsing.specs.declared.Number.{Number}
-use Rattle.parsing.specs.declared.Number.TheVariants.{Is, Not}
+use Rattle.parsing.specs.declared.Stop.TheVariants.{WordEnd, WordStart}
 use Rattle.rules.specs.Lists.{all, place}
+
+-- the number of a kind of fault, 0 for none, and its place
+pub record Fault : Type 0 where
+  pub kind : ℕ
+  pub at : ℕ
 
 abbrev pub fault : ℕ → ℕ → Fault
 fault kind at = record { kind = kind; at = at }
@@ -40,9 +43,9 @@ or_else f g = cond (eqb f.kind 0) g f
 -- ---- the fault of a line, by its words
 
 -- the fault of a word where a number of w bytes is due
-unfoldable pub fault_by : Number → ℕ → List ℕ → ℕ
-fault_by (Is v) w word = 0
-fault_by Not w word = cond (eqb w 0) extra_number (cond (all is_digit word) out_of_range not_number)
+unfoldable pub fault_by : Option ℕ → ℕ → List ℕ → ℕ
+fault_by (Some v) w word = 0
+fault_by None w word = cond (eqb w 0) extra_number (cond (all is_digit word) out_of_range not_number)
 
 unfoldable pub word_fault : ℕ → List ℕ → ℕ
 word_fault w word = fault_by (number_in w word) w word
@@ -68,11 +71,11 @@ words_fault (w ∷ ws) = kind_fault (kind_of w) ws
 
 -- where the first word of a line ends
 unfoldable pub word_end : List ℕ → ℕ
-word_end cs = place (stops 0) cs + place (stops 1) (drop (place (stops 0) cs) cs)
+word_end cs = place (stops WordStart) cs + place (stops WordEnd) (drop (place (stops WordStart) cs) cs)
 
 -- where word i of a line starts, behind the spaces in front of it; in a line of i words, where the comment or the end of the line is
 unfoldable pub word_start : ℕ → List ℕ → ℕ
-word_start zero cs = place (stops 0) cs
+word_start zero cs = place (stops WordStart) cs
 word_start (suc i) cs = word_end cs + word_start i (drop (word_end cs) cs)
 
 -- the fault of a line, and its place in the line

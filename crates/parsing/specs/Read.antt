@@ -1,8 +1,8 @@
 -- The readable form of an event file, from text to bytes.
-use Rattle.std.specs.Prelude.{◌*◌, ◌+◌, ◌-◌, suc, ℕ, Bool, ◌&&◌, ◌||◌, cond, false, not, true, List, [], ◌++◌, ◌∷◌, eqb, leb, ltb, get_or, length}
+use Rattle.std.specs.Prelude.{◌*◌, ◌+◌, ◌-◌, suc, ℕ, Bool, None, Option, Some, ◌&&◌, ◌||◌, cond, false, not, true, List, [], ◌++◌, ◌∷◌, eqb, leb, ltb, get_or, length}
 use Rattle.rules.specs.Bytes.{bytes_of}
-use Rattle.parsing.specs.declared.Number.{Number}
-use Rattle.parsing.specs.declared.Number.TheVariants.{Is, Not}
+use Rattle.parsing.specs.declared.Stop.{Stop}
+use Rattle.parsing.specs.declared.Stop.TheVariants.{LineEnd, WordEnd, WordStart}
 use Rattle.rules.specs.Kinds.{Kind, bytes_word, kinds, widths_of}
 use Rattle.rules.specs.Lists.{place}
 
@@ -36,9 +36,11 @@ words_in (c ∷ cs) =
     cond (eqb c 35) []
     (cond (is_space c) (words_in cs) (cond (in_word cs) (glued c (words_in cs)) ((c ∷ []) ∷ words_in cs)))
 
--- where a search of a line or a text stops: 0 at a byte that is no space, 1 at the end of a word, any other at a newline
-unfoldable pub stops : ℕ → ℕ → Bool
-stops what c = cond (eqb what 0) (not (is_space c)) (cond (eqb what 1) (is_break c) (eqb c 10))
+-- where a search of a line or a text stops: at a byte that is no space, at the end of a word, at a newline
+unfoldable pub stops : Stop → ℕ → Bool
+stops WordStart c = not (is_space c)
+stops WordEnd c = is_break c
+stops LineEnd c = eqb c 10
 
 unfoldable pub same : List ℕ → List ℕ → Bool
 same [] [] = true
@@ -73,14 +75,14 @@ abbrev pub is_digit : ℕ → Bool
 is_digit c = leb 48 c && ltb c 58
 
 -- a number with one digit more; none where the byte is no digit, or where the number is above the most
-unfoldable pub with_digit : ℕ → ℕ → ℕ → Number
-with_digit most v c = cond (is_digit c) (cond (leb (10 * v + (c - 48)) most) (Is (10 * v + (c - 48))) Not) Not
+unfoldable pub with_digit : ℕ → ℕ → ℕ → Option ℕ
+with_digit most v c = cond (is_digit c) (cond (leb (10 * v + (c - 48)) most) (Some (10 * v + (c - 48))) None) None
 
 -- the number that a word means, after digits that mean a number already
-unfoldable pub number_from : ℕ → Number → List ℕ → Number
+unfoldable pub number_from : ℕ → Option ℕ → List ℕ → Option ℕ
 number_from most n [] = n
-number_from most Not (c ∷ cs) = Not
-number_from most (Is v) (c ∷ cs) = number_from most (with_digit most v c) cs
+number_from most None (c ∷ cs) = None
+number_from most (Some v) (c ∷ cs) = number_from most (with_digit most v c) cs
 
 -- the width of field f in a line of kind k; 0 if it has no such field. A line of bytes has any number of them
 unfoldable pub width_at : ℕ → ℕ → ℕ
@@ -91,8 +93,8 @@ unfoldable pub complete : ℕ → ℕ → Bool
 complete k f = cond (eqb k bytes_line) (ltb 0 f) (eqb (width_at k f) 0)
 
 -- the number in a word that stands for a field of w bytes
-unfoldable pub number_in : ℕ → List ℕ → Number
-number_in w word = cond (eqb w 0) Not (number_from (most_of w) (Is 0) word)
+unfoldable pub number_in : ℕ → List ℕ → Option ℕ
+number_in w word = cond (eqb w 0) None (number_from (most_of w) (Some 0) word)
 
 -- what is read of a line: its bytes, those before the fault if it is not in the form
 pub record Got : Type 0 where
@@ -107,9 +109,9 @@ unfoldable pub behind : List ℕ → Got → Got
 behind bs g = got (bs ++ g.bytes) g.ok
 
 -- a field of w bytes, and what is read behind it
-unfoldable pub field : ℕ → Number → Got → Got
-field w Not g = got [] false
-field w (Is v) g = behind (bytes_of w v) g
+unfoldable pub field : ℕ → Option ℕ → Got → Got
+field w None g = got [] false
+field w (Some v) g = behind (bytes_of w v) g
 
 -- the words behind the first one, from field f on
 unfoldable pub fields_from : ℕ → ℕ → List (List ℕ) → Got

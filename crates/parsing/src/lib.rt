@@ -1,49 +1,56 @@
 #![tactic(auto)]
 
 // Event files out of their readable form: lines of a word and numbers, spaces, tabs or carriage returns between them, '#' in front of a comment.
-ghost use Rattle.std.specs.Prelude.{◌+◌, ◌≤◌, ◌≡◌, length, drop};
-ghost use Rattle.rules.specs.Kinds.{kind_at};
+ghost use Rattle.std.specs.Prelude.{◌+◌, ◌≤◌, ◌≡◌, true, length, drop};
+ghost use Rattle.rules.specs.Kinds.{is_kind, kind_at};
 ghost use Rattle.rules.specs.Lists.{all, place};
-ghost use Rattle.output.specs.Room.{room, puts};
-ghost use Rattle.parsing.specs.Results.{Finds, NextWord, ReadsAs, TextReadAs};
-ghost use Rattle.parsing.specs.Read.{is_space, stops, same, is_name, kind_of, other_line, most_of, with_digit, number_in, width_at, complete};
-ghost use Rattle.parsing.specs.Read.{words_in, fields_from, kind_bytes, words_read, bytes_of_text, good_bytes, last_line, is_digit};
+ghost use Rattle.output.specs.Writer.{Puts};
+ghost use Rattle.parsing.specs.Results.{Finds, NextWord, ReadsAs, TextReadAs, fault_code, told};
+ghost use Rattle.parsing.specs.Read.{is_space, stops, is_name, kind_of, other_line, is_digit, most_of, with_digit, number_in, width_at, complete};
+ghost use Rattle.parsing.specs.Read.{words_in, fields_from, kind_bytes, words_read, bytes_of_text, good_bytes, last_line};
 ghost use Rattle.parsing.specs.Fault.{word_fault, field_fault, words_fault, fault_of};
+ghost use Rattle.parsing.specs.Numbers.{fault_number, line_code, line_number};
 
-use output::Cursor;
+use events::Kind;
+use output::{Cursor, Writer};
 
-// Lines that are no event: bytes as they stand, and a first word that means nothing. No kind has these numbers.
-const BYTES_LINE: u8 = 254;
-
-const NO_WORD: u8 = 255;
-
-// The kinds of fault of a text; 0 is none. The first word of a line is no kind's and not `bytes`.
-pub const UNKNOWN_WORD: u8 = 1;
-
-// A word where a number is due has a byte that is no digit.
-pub const NOT_NUMBER: u8 = 2;
-
-// A number is above the most of its field.
-pub const OUT_OF_RANGE: u8 = 3;
-
-// A line ends before all its numbers.
-pub const MISSING_NUMBER: u8 = 4;
-
-// A word stands behind the last number of a line.
-pub const EXTRA_NUMBER: u8 = 5;
-
-// The first fault of a text, and its place.
+// What a line is by its first word: an event of a kind, or bytes as they stand.
+// Kept: bytes that are no event are a kind of line, and not the absence of one.
 #[derive(Clone, Copy)]
-pub struct Fault {
-    pub kind: u8,
-    pub at: usize,
+pub enum LineKind {
+    Event(Kind),
+    Bytes,
 }
 
-// What a word means as a number.
+/// What is wrong in a text. The same numbers stand in include/board.h.
+#[derive(Clone, Copy, PartialEq, Eq)]
+pub enum Fault {
+    /// The first word of a line is no kind's and not `bytes`.
+    UnknownWord = 1,
+    /// A word where a number is due has a byte that is no digit.
+    NotNumber = 2,
+    /// A number is above the most of its field.
+    OutOfRange = 3,
+    /// A line ends before all its numbers.
+    MissingNumber = 4,
+    /// A word stands behind the last number of a line.
+    ExtraNumber = 5,
+}
+
+impl Fault {
+    /// The number by which a fault is told, never 0.
+    pub fn number(self) -> u8
+        ensures { result ≡ fault_number self }
+    {
+        self as u8
+    }
+}
+
+/// A fault and its place.
 #[derive(Clone, Copy)]
-pub enum Number {
-    Not,
-    Is(u64),
+pub struct FaultAt {
+    pub fault: Fault,
+    pub at: usize,
 }
 
 // A part of a line.
@@ -53,15 +60,9 @@ pub struct Span {
     pub end: usize,
 }
 
-// What is read of a line, and whether it is in the form.
-#[derive(Clone, Copy)]
-pub struct LineRead {
-    pub cursor: Cursor,
-    pub ok: bool,
-}
-
-// What is read of a text: the bytes up to the cursor, the place behind those of the lines in the form, the number of these lines, and whether these are all.
-// If not, the next line is the first one that is not in the form.
+/// What is read of a text: the bytes up to the cursor, the place behind those of the lines in the form, the number of these lines, and whether these are all.
+/// If not, the next line is the first one that is not in the form.
+// Kept: `TextReadAs` says what holds of each, also where the text has a fault.
 #[derive(Clone, Copy)]
 pub struct TextRead {
     pub cursor: Cursor,
@@ -70,277 +71,235 @@ pub struct TextRead {
     pub ok: bool,
 }
 
-// Whether a byte stands between words.
-fn is_space(b: u8) -> bool
-    ensures { result ≡ is_space b }
-{
-    if b == 32 {
-        return true;
-    }
-    if b == 9 {
-        return true;
-    }
-    b == 13
+// Where a search of a line or a text stops: at a byte that is no space, at the end of a word, at a newline.
+#[derive(Clone, Copy)]
+pub enum Stop {
+    WordStart,
+    WordEnd,
+    LineEnd,
 }
 
-// Whether a search stops at a byte.
-fn stop(what: u8, b: u8) -> bool
-    ensures { result ≡ stops what b }
-{
-    let space = is_space(b);
-    if what == 0 {
-        return !space;
-    }
-    if what == 1 {
-        if space {
-            return true;
+impl Stop {
+    #[tactic(auto, unfolding(crate::specs::Read::stops))]
+    fn is_at(self, byte: u8) -> bool
+        ensures { result ≡ stops self byte }
+    {
+        match self {
+            Stop::WordStart => !is_space(byte),
+            Stop::WordEnd => is_space(byte) || byte == b'#',
+            Stop::LineEnd => byte == b'\n',
         }
-        return b == 35;
     }
-    b == 10
+}
+
+// Whether a byte stands between words.
+fn is_space(byte: u8) -> bool
+    ensures { result ≡ is_space byte }
+{
+    matches!(byte, b' ' | b'\t' | b'\r')
 }
 
 // The first place from `from` on where a search stops, or the end.
-fn find(s: &[u8], from: usize, what: u8) -> usize
-    requires { from ≤ length s.now }
-    ensures { result ≡ from + place (stops what) (drop from s.now) }
+#[tactic(auto, using(lookup::proofs::Search::place_hit, lookup::proofs::Search::place_on, lookup::proofs::Search::place_end))]
+fn find(bytes: &[u8], from: usize, stop: Stop) -> usize
+    requires { from ≤ length bytes.now }
+    ensures { result ≡ from + place (stops stop) (drop from bytes.now) }
 {
-    let mut i = from;
-    while i < s.len() {
-        if stop(what, s[i]) {
-            return i;
+    for at in from..bytes.len() {
+        if stop.is_at(bytes[at]) {
+            return at;
         }
-        i += 1;
     }
-    i
+    bytes.len()
 }
 
 // The first word from `at` on.
+#[tactic(auto, using(crate::proofs::Words::at_end, crate::proofs::Words::at_comment, crate::proofs::Words::at_word))]
 fn next_word(line: &[u8], at: usize) -> Span
     requires { at ≤ length line.now }
     ensures { NextWord line.now at result }
 {
-    let start = find(line, at, 0);
-    if line.len() <= start {
+    let start = find(line, at, Stop::WordStart);
+    if line.len() <= start || line[start] == b'#' {
         return Span { start, end: start };
     }
-    if line[start] == 35 {
-        return Span { start, end: start };
-    }
-    let end = find(line, start, 1);
+    let end = find(line, start, Stop::WordEnd);
     Span { start, end }
 }
 
-// Whether two words are the same.
-fn equal(a: &[u8], b: &[u8]) -> bool
-    ensures { result ≡ same a.now b.now }
+// Whether a word is the one of the kind that a number has; no kind has the empty word.
+#[tactic(auto, using(crate::proofs::Words::same_words))]
+fn is_name(word: &[u8], number: u8) -> bool
+    ensures { result ≡ is_name word.now (kind_at number) }
 {
-    if a.len() != b.len() {
-        return false;
-    }
-    let mut i: usize = 0;
-    while i < a.len() {
-        if a[i] != b[i] {
-            return false;
-        }
-        i += 1;
-    }
-    true
-}
-
-// Whether a word is the one of a kind; no kind has the empty word.
-fn is_name(word: &[u8], kind: u8) -> bool
-    ensures { result ≡ is_name word.now (kind_at kind) }
-{
-    if word.len() == 0 {
-        return false;
-    }
-    let row = events::kind_row(kind);
-    let name = row.word;
-    let n = row.letters;
-    equal(word, &name[..n])
+    !word.is_empty() && word == events::kind_row(number).word
 }
 
 // The line that a word begins which is no kind's.
-fn other_line(word: &[u8]) -> u8
-    ensures { result ≡ other_line word.now }
+#[tactic(auto, using(crate::proofs::Words::same_words), unfolding(crate::specs::Read::other_line))]
+fn other_line(word: &[u8]) -> Option<LineKind>
+    ensures { line_code result ≡ other_line word.now }
 {
-    if equal(word, b"bytes") {
-        return BYTES_LINE;
+    if word == b"bytes".as_slice() {
+        Some(LineKind::Bytes)
+    } else {
+        None
     }
-    NO_WORD
 }
 
-// The kind of line that a word begins.
-fn kind_of(word: &[u8]) -> u8
-    ensures { result ≡ kind_of word.now }
+// The line of an event whose kind has this number.
+fn kind_line(number: u8) -> Option<LineKind>
+    requires { is_kind number ≡ true }
+    ensures { line_code result ≡ number }
 {
-    let mut k: u8 = 0;
-    while k <= events::LAST_KIND {
-        if is_name(word, k) {
-            return k;
+    match Kind::try_from(number) {
+        Ok(kind) => Some(LineKind::Event(kind)),
+        Err(_) => None,
+    }
+}
+
+// The line that a word begins.
+fn kind_of(word: &[u8]) -> Option<LineKind>
+    ensures { line_code result ≡ kind_of word.now }
+{
+    for number in 0..events::KIND_NUMBERS {
+        if is_name(word, number) {
+            return kind_line(number);
         }
-        k += 1;
     }
     other_line(word)
 }
 
 // The width of a field, 0 if there is none.
-fn width_at(kind: u8, f: usize) -> usize
-    ensures { result ≡ width_at kind f }
+#[tactic(auto, using(crate::proofs::Names::not_bytes), unfolding(crate::specs::Read::width_at))]
+fn width_at(kind: LineKind, field: usize) -> usize
+    ensures { result ≡ width_at (line_number kind) field }
 {
-    if kind == BYTES_LINE {
-        return 1;
+    match kind {
+        LineKind::Event(kind) => events::width_at(kind.number(), field),
+        LineKind::Bytes => 1,
     }
-    events::width_at(kind, f)
 }
 
 // Whether a line has all its fields.
-fn is_complete(kind: u8, f: usize) -> bool
-    ensures { result ≡ complete kind f }
+#[tactic(auto, using(crate::proofs::Names::not_bytes), unfolding(crate::specs::Read::complete))]
+fn is_complete(kind: LineKind, fields: usize) -> bool
+    ensures { result ≡ complete (line_number kind) fields }
 {
-    if kind == BYTES_LINE {
-        return 0 < f;
+    match kind {
+        LineKind::Event(_) => width_at(kind, fields) == 0,
+        LineKind::Bytes => 0 < fields,
     }
-    width_at(kind, f) == 0
 }
 
-// The largest number of w bytes.
-fn most(w: usize) -> u64
-    ensures { result ≡ most_of w }
+// The largest number of a width in bytes.
+#[tactic(auto, unfolding(crate::specs::Read::most_of))]
+fn most(width: usize) -> u64
+    ensures { result ≡ most_of width }
 {
-    if w == 1 {
-        return 255;
+    match width {
+        1 => u64::from(u8::MAX),
+        2 => u64::from(u16::MAX),
+        _ => u64::MAX,
     }
-    if w == 2 {
-        return 65535;
-    }
-    18446744073709551615
 }
 
-// A number with one digit more.
-fn with_digit(top: u64, v: u64, b: u8) -> Number
+// A number with one digit more, if it is at most `top`.
+// Kept: the library's `parse` stops at no most, and its errors do not tell the first fault.
+#[tactic(auto, unfolding(crate::specs::Read::with_digit))]
+fn with_digit(top: u64, number: u64, byte: u8) -> Option<u64>
     requires { 9 ≤ top }
-    ensures { result ≡ with_digit top v b }
+    ensures { result ≡ with_digit top number byte }
 {
-    if b < 48 {
-        return Number::Not;
+    if !byte.is_ascii_digit() {
+        return None;
     }
-    if 57 < b {
-        return Number::Not;
+    let digit = u64::from(byte - b'0');
+    if (top - digit) / 10 < number {
+        return None;
     }
-    let d = (b - 48) as u64;
-    if (top - d) / 10 < v {
-        return Number::Not;
-    }
-    Number::Is(10 * v + d)
+    Some(10 * number + digit)
 }
 
-// A word as a number of w bytes.
-fn number_in(word: &[u8], w: usize) -> Number
-    ensures { result ≡ number_in w word.now }
+// A word as a number of a width in bytes.
+#[tactic(auto, using(crate::proofs::Numbers::most_room, crate::proofs::Numbers::digit_next, crate::proofs::Numbers::digit_not, crate::proofs::Numbers::digit_end, crate::proofs::Numbers::number_some, crate::proofs::Numbers::number_none))]
+fn number_in(word: &[u8], width: usize) -> Option<u64>
+    ensures { result ≡ number_in width word.now }
 {
-    if w == 0 {
-        return Number::Not;
+    if width == 0 {
+        return None;
     }
-    let top = most(w);
-    let mut v: u64 = 0;
-    let mut i: usize = 0;
-    while i < word.len() {
-        let n = with_digit(top, v, word[i]);
-        let Number::Is(u) = n else {
-            return Number::Not;
-        };
-        v = u;
-        i += 1;
+    let top = most(width);
+    let mut number = 0;
+    for byte in word {
+        number = with_digit(top, number, *byte)?;
     }
-    Number::Is(v)
+    Some(number)
 }
 
-// The fields of a line from `from` on.
-fn read_fields(line: &[u8], from: usize, kind: u8, out: &mut [u8], c: Cursor) -> LineRead
+// The fields of a line from `from` on, and whether they are in the form.
+// Kept: what is written is said also where a field is at fault, and the number of a field is asked for its width.
+fn read_fields(line: &[u8], from: usize, kind: LineKind, out: &mut Writer<'_>) -> bool
     requires { from ≤ length line.now }
-    ensures { ReadsAs (fields_from kind 0 (words_in (drop from line.now))) out.old out.new c result }
+    ensures { ReadsAs (fields_from (line_number kind) 0 (words_in (drop from line.now))) out.old out.new result }
 {
-    let mut q = c;
     let mut at = from;
-    let mut f: usize = 0;
+    let mut field = 0;
     loop {
         let word = next_word(line, at);
-        let start = word.start;
-        let end = word.end;
-        if start == end {
-            return LineRead {
-                cursor: q,
-                ok: is_complete(kind, f),
-            };
+        if word.start == word.end {
+            return is_complete(kind, field);
         }
-        let w = width_at(kind, f);
-        let n = number_in(&line[start..end], w);
-        let Number::Is(v) = n else {
-            return LineRead {
-                cursor: q,
-                ok: false,
-            };
+        let width = width_at(kind, field);
+        let Some(number) = number_in(&line[word.start..word.end], width) else {
+            return false;
         };
-        q = output::put_le(out, q, v, w);
-        at = end;
-        f += 1;
+        out.put_le(number, width);
+        at = word.end;
+        field += 1;
     }
 }
 
 // The byte of kind that a record begins with.
-fn put_kind(out: &mut [u8], c: Cursor, kind: u8) -> Cursor
-    ensures { room out.new result ≡ puts (room out.old c) (kind_bytes kind) }
+#[tactic(auto, using(output::proofs::Rooms::puts_none, crate::proofs::Names::not_bytes), unfolding(crate::specs::Read::kind_bytes))]
+fn put_kind(out: &mut Writer<'_>, kind: LineKind)
+    ensures { Puts out.old (kind_bytes (line_number kind)) out.new }
 {
-    if kind == BYTES_LINE {
-        return c;
+    if let LineKind::Event(kind) = kind {
+        out.put_byte(kind.number());
     }
-    output::put_byte(out, c, kind)
 }
 
-// A line.
-fn read_line(line: &[u8], out: &mut [u8], c: Cursor) -> LineRead
-    ensures { ReadsAs (words_read (words_in line.now)) out.old out.new c result }
+// A line, and whether it is in the form.
+// Kept: as `read_fields`.
+fn read_line(line: &[u8], out: &mut Writer<'_>) -> bool
+    ensures { ReadsAs (words_read (words_in line.now)) out.old out.new result }
 {
     let word = next_word(line, 0);
-    let start = word.start;
-    let end = word.end;
-    if start == end {
-        return LineRead {
-            cursor: c,
-            ok: true,
-        };
+    if word.start == word.end {
+        return true;
     }
-    let kind = kind_of(&line[start..end]);
-    if kind == NO_WORD {
-        return LineRead {
-            cursor: c,
-            ok: false,
-        };
-    }
-    let q = put_kind(out, c, kind);
-    read_fields(line, end, kind, out, q)
+    let Some(kind) = kind_of(&line[word.start..word.end]) else {
+        return false;
+    };
+    put_kind(out, kind);
+    read_fields(line, word.end, kind, out)
 }
 
-// A text as the bytes of an event file, as many of them as there is room for.
+/// A text as the bytes of an event file, as many of them as there is room for.
+// Kept: the lines are part of the answer.
 pub fn read_text(text: &[u8], out: &mut [u8]) -> TextRead
     ensures { TextReadAs (bytes_of_text text.now) (good_bytes text.now) out.old out.new result }
 {
-    let mut q = Cursor {
-        at: 0,
-        short: false,
-    };
-    let mut at: usize = 0;
-    let mut lines: u64 = 0;
+    let mut writer = Writer::new(out, 0);
+    let mut at = 0;
+    let mut lines = 0;
     while at < text.len() {
-        let end = find(text, at, 2);
-        let good = q.at;
-        let r = read_line(&text[at..end], out, q);
-        q = r.cursor;
-        if !r.ok {
+        let end = find(text, at, Stop::LineEnd);
+        let good = writer.cursor.at;
+        if !read_line(&text[at..end], &mut writer) {
             return TextRead {
-                cursor: q,
+                cursor: writer.cursor,
                 good,
                 lines,
                 ok: false,
@@ -350,141 +309,112 @@ pub fn read_text(text: &[u8], out: &mut [u8]) -> TextRead
         lines += 1;
     }
     TextRead {
-        cursor: q,
-        good: q.at,
+        cursor: writer.cursor,
+        good: writer.cursor.at,
         lines,
         ok: true,
     }
-}
-
-// Whether a byte is a digit.
-fn is_digit(b: u8) -> bool
-    ensures { result ≡ is_digit b }
-{
-    if b < 48 {
-        return false;
-    }
-    b < 58
 }
 
 // Whether all bytes of a word are digits.
 fn all_digits(word: &[u8]) -> bool
     ensures { result ≡ all is_digit word.now }
 {
-    let mut i: usize = 0;
-    while i < word.len() {
-        if !is_digit(word[i]) {
-            return false;
-        }
-        i += 1;
-    }
-    true
+    word.iter().all(|byte| byte.is_ascii_digit())
 }
 
-// The fault of a word where a number of w bytes is due.
-fn word_fault(word: &[u8], w: usize) -> u8
-    ensures { result ≡ word_fault w word.now }
+// The fault of a word where a number of a width in bytes is due.
+#[tactic(auto, unfolding(crate::specs::Fault::word_fault, crate::specs::Fault::fault_by))]
+fn word_fault(word: &[u8], width: usize) -> Option<Fault>
+    ensures { fault_code result ≡ word_fault width word.now }
 {
-    let n = number_in(word, w);
-    let Number::Not = n else {
-        return 0;
-    };
-    if w == 0 {
-        return EXTRA_NUMBER;
+    if number_in(word, width).is_some() {
+        None
+    } else if width == 0 {
+        Some(Fault::ExtraNumber)
+    } else if all_digits(word) {
+        Some(Fault::OutOfRange)
+    } else {
+        Some(Fault::NotNumber)
     }
-    if all_digits(word) {
-        return OUT_OF_RANGE;
-    }
-    NOT_NUMBER
 }
 
 // The first fault in the fields of a line from `from` on.
-fn field_fault(line: &[u8], from: usize, kind: u8) -> Fault
+// Kept: the number of a field is asked for its width and its most.
+fn field_fault(line: &[u8], from: usize, kind: LineKind) -> Option<FaultAt>
     requires { from ≤ length line.now }
-    ensures { Finds (field_fault kind 0 (words_in (drop from line.now))) line.now from result }
+    ensures { Finds (field_fault (line_number kind) 0 (words_in (drop from line.now))) line.now from (told 0 result) }
 {
     let mut at = from;
-    let mut f: usize = 0;
+    let mut field = 0;
     loop {
         let word = next_word(line, at);
-        let start = word.start;
-        let end = word.end;
-        if start == end {
-            let fault = if is_complete(kind, f) {
-                0
-            } else {
-                MISSING_NUMBER
-            };
-            return Fault {
-                kind: fault,
-                at: start,
-            };
+        if word.start == word.end {
+            if is_complete(kind, field) {
+                return None;
+            }
+            return Some(FaultAt {
+                fault: Fault::MissingNumber,
+                at: word.start,
+            });
         }
-        let w = width_at(kind, f);
-        let fault = word_fault(&line[start..end], w);
-        if fault != 0 {
-            return Fault {
-                kind: fault,
-                at: start,
-            };
+        if let Some(fault) = word_fault(&line[word.start..word.end], width_at(kind, field)) {
+            return Some(FaultAt {
+                fault,
+                at: word.start,
+            });
         }
-        at = end;
-        f += 1;
+        at = word.end;
+        field += 1;
     }
 }
 
 // The first fault of a line.
-fn line_fault(line: &[u8]) -> Fault
-    ensures { Finds (words_fault (words_in line.now)) line.now 0 result }
+fn line_fault(line: &[u8]) -> Option<FaultAt>
+    ensures { Finds (words_fault (words_in line.now)) line.now 0 (told 0 result) }
 {
     let word = next_word(line, 0);
-    let start = word.start;
-    let end = word.end;
-    if start == end {
-        return Fault { kind: 0, at: 0 };
+    if word.start == word.end {
+        return None;
     }
-    let kind = kind_of(&line[start..end]);
-    if kind == NO_WORD {
-        return Fault {
-            kind: UNKNOWN_WORD,
-            at: start,
-        };
-    }
-    field_fault(line, end, kind)
+    let Some(kind) = kind_of(&line[word.start..word.end]) else {
+        return Some(FaultAt {
+            fault: Fault::UnknownWord,
+            at: word.start,
+        });
+    };
+    field_fault(line, word.end, kind)
 }
 
-// The first fault of a text; the place is the end of the text where it has none.
-pub fn first_fault(text: &[u8]) -> Fault
-    ensures { result ≡ fault_of text.now }
+/// The first fault of a text.
+pub fn first_fault(text: &[u8]) -> Option<FaultAt>
+    ensures { told (length text.now) result ≡ fault_of text.now }
 {
-    let mut at: usize = 0;
+    let mut at = 0;
     while at < text.len() {
-        let end = find(text, at, 2);
-        let f = line_fault(&text[at..end]);
-        if f.kind != 0 {
-            return Fault {
-                kind: f.kind,
-                at: at + f.at,
-            };
+        let end = find(text, at, Stop::LineEnd);
+        if let Some(found) = line_fault(&text[at..end]) {
+            return Some(FaultAt {
+                fault: found.fault,
+                at: at + found.at,
+            });
         }
         at = end + 1;
     }
-    Fault {
-        kind: 0,
-        at: text.len(),
-    }
+    None
 }
 
-// The end of the last whole line.
+/// The end of the last whole line.
+#[tactic(auto, using(crate::proofs::Lines::last_back, crate::proofs::Lines::last_found, crate::proofs::Lines::last_empty))]
 pub fn whole_lines(text: &[u8]) -> usize
     ensures { result ≡ last_line text.now }
 {
-    let mut i = text.len();
-    while 0 < i {
-        if text[i - 1] == 10 {
-            return i;
+    let mut whole = text;
+    while let [before @ .., last] = whole {
+        if *last == b'\n' {
+            break;
         }
-        i -= 1;
+        whole = before;
     }
-    0
+    whole.len()
 }

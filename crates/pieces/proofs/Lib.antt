@@ -1,4 +1,4 @@
 pub mod Chain
 pub mod Move
 pub mod Message
-pub mod Streams
+pub mod Flow

@@ -1,42 +1,23 @@
--- One byte more goes to the front, and what stands there in the end.
-use Prim.Native.Nat.{◌+◌, ◌-◌, ◌<◌, ◌≤◌, suc, zero, ℕ}
+-- Bytes of a buffer go to its front.
+use Prim.Native.Nat.{◌-◌, ◌<◌, ◌≤◌, suc, zero, ℕ}
 use mathlib.Core.Path.{◌∙◌, ◌≡◌, refl, sym}
-use mathlib.Core.List.{List, [], ◌∷◌, append_assoc}
+use mathlib.Core.List.{List, [], ◌∷◌}
 use lib.Dec.{leb}
-use lib.ListN.{drop, get_or, length, length-drop, length-take, set, take}
+use lib.ListN.{drop, length, length-drop, length-take, take}
 use native.Mathlib.Omega.{arith}
-use native.Mathlib.Numerals.{add-one}
 use borrow.Author.Tests.{le-leb, leb-false, leb-true, lt-leb}
-use lib.Seq.{drop-cons, get_or-append-add, get_or-drop, length-take-le, set_at, take_all, take_at, take-nil, take-suc, take-take}
-use native.Mathlib.Nat.{add_comm}
+use lib.Seq.{paste, take_all, take_at, take-nil, take-take}
+use native.Mathlib.Nat.{zero-add}
 use Rattle.undo.proofs.Laws.{test}
 use Rattle.pieces.specs.Shift.{Refilled, moved, shifted}
+
+pub pasted : (d : List ℕ) (at n : ℕ) → paste d 0 (drop at d) n ≡ shifted d at n
+unfolding shifted
+pasted d at n = rw (zero-add n)
 
 pub shifted_none : (d : List ℕ) (at : ℕ) → shifted d at 0 ≡ d
 unfolding shifted
 shifted_none d at = refl
-
--- the byte at a place that is not passed yet is still the one that was there
-shifted_at : (d : List ℕ) (at k : ℕ) → at + k < length d → get_or (shifted d at k) (at + k) 0 ≡ get_or (drop at d) k 0
-unfolding shifted
-shifted_at d at k h =
-    let f = take k (drop at d) in
-    let l : length f ≡ k = length-take-le k (drop at d) (rw length-drop (omega arith)) in
-    let e : at + k ≡ length f + at = omega arith in
-    rw (e, get_or-append-add f (drop k d) at 0, get_or-drop k d at 0, get_or-drop at d k 0, add_comm k at)
-
--- a byte stored behind those that are moved
-store : (d : List ℕ) (at k : ℕ) → at + k < length d → set (shifted d at k) k (get_or (drop at d) k 0) ≡ shifted d at (k + 1)
-unfolding shifted
-store d at k h =
-    let x = drop at d in
-    let i : k < length x = rw length-drop (omega arith) in
-    let l : length (take k x) ≡ k = length-take-le k x (omega arith) in
-    let j : k < length d = omega arith in
-    rw (add-one k, drop-cons d k 0 j, set_at (take k x) (get_or d k 0) (drop (suc k) d) (get_or x k 0) k l, take-suc x k 0 i, append_assoc (take k x) (get_or x k 0 ∷ []) (drop (suc k) d))
-
-pub shifted_more : (d : List ℕ) (at k : ℕ) → at + k < length d → set (shifted d at k) k (get_or (shifted d at k) (at + k) 0) ≡ shifted d at (k + 1)
-shifted_more d at k h = rw (shifted_at d at k h) (store d at k h)
 
 pub moved_short : (d : List ℕ) (at n : ℕ) → length d < n → moved d at n ≡ 0
 unfolding moved

@@ -1,5 +1,7 @@
 -- What a program says on standard error where its input or output fails.
-use Rattle.std.specs.Prelude.{suc, zero, ℕ, List, [], ◌++◌, ◌∷◌, negsuc, pos, ℤ, take}
+use Rattle.std.specs.Prelude.{ℕ, List, [], ◌++◌, ◌∷◌, take}
+use Rattle.pieces.specs.declared.Failed.{Failed}
+use Rattle.pieces.specs.declared.Failed.TheVariants.{Input, Output}
 
 -- ": standard input cannot be read", ": standard output cannot be written", each with the end of the line
 abbrev pub unread : List ℕ
@@ -8,12 +10,11 @@ unread = 58 ∷ 32 ∷ 115 ∷ 116 ∷ 97 ∷ 110 ∷ 100 ∷ 97 ∷ 114 ∷ 100
 abbrev pub unwritten : List ℕ
 unwritten = 58 ∷ 32 ∷ 115 ∷ 116 ∷ 97 ∷ 110 ∷ 100 ∷ 97 ∷ 114 ∷ 100 ∷ 32 ∷ 111 ∷ 117 ∷ 116 ∷ 112 ∷ 117 ∷ 116 ∷ 32 ∷ 99 ∷ 97 ∷ 110 ∷ 110 ∷ 111 ∷ 116 ∷ 32 ∷ 98 ∷ 101 ∷ 32 ∷ 119 ∷ 114 ∷ 105 ∷ 116 ∷ 116 ∷ 101 ∷ 110 ∷ 10 ∷ []
 
--- what cannot be done, by the descriptor that failed: 0 is standard input
-abbrev pub failure : ℤ → List ℕ
-failure (pos zero) = unread
-failure (pos (suc n)) = unwritten
-failure (negsuc n) = unwritten
+-- what cannot be done
+abbrev pub failure : Failed → List ℕ
+failure Input = unread
+failure Output = unwritten
 
 -- the program's name, and that; at most 64 bytes
-unfoldable pub message : ℤ → List ℕ → List ℕ
+unfoldable pub message : Failed → List ℕ → List ℕ
 message d name = take 64 (name ++ failure d)

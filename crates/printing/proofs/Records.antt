@@ -1,14 +1,13 @@
 -- The lines of the whole records of a file, one behind the other.
-use Prim.Native.Nat.{◌+◌, ◌<◌, ℕ}
+use Prim.Native.Nat.{◌<◌, ℕ}
 use mathlib.Core.Path.{◌≡◌, refl}
 use mathlib.Core.Bool.{false, true}
 use mathlib.Core.List.{List, [], ◌++◌, ◌∷◌}
 use lib.ListN.{drop, get_or}
 use native.Mathlib.Omega.{arith}
-use lib.Seq.{drop-drop}
 use Rattle.events.proofs.Records.{length_empty, not_whole, records_skip, stands}
 use Rattle.events.specs.Whole.{record_length}
-use Rattle.output.proofs.Rooms.{puts_join}
+use Rattle.output.proofs.Rooms.{puts_join, puts_none}
 use Rattle.output.specs.Room.{Room, puts}
 use Rattle.printing.specs.Text.{line_text, number_text, numbers_of, record_text, whole_text}
 use Rattle.rules.specs.Kinds.{bytes_word, widths_of, word_of}
@@ -39,11 +38,12 @@ pub bytes_line : (r : List ℕ) → is_whole (read_record r) ≡ false → recor
 unfolding record_text
 bytes_line r w = rw w
 
--- one whole record more, at a place of a file
-pub text_more : (q : Room) (file : List ℕ) (at n : ℕ) → n ≡ record_length (drop at file) → 0 < n → puts q (whole_text (drop at file)) ≡ puts (puts q (record_text (drop at file))) (whole_text (drop (at + n) file))
-text_more q file at n e h =
-    let z : 0 < record_length (drop at file) = omega arith in
-    rw (text_on (drop at file) z, ← e, drop-drop n at file, puts_join)
+-- one whole record more, and none
+pub text_next : (q : Room) (r : List ℕ) → 0 < record_length r → puts q (whole_text r) ≡ puts (puts q (record_text r)) (whole_text (drop (record_length r) r))
+text_next q r h = rw (text_on r h, puts_join)
+
+pub text_end : (q : Room) (r : List ℕ) → record_length r ≡ 0 → puts q (whole_text r) ≡ q
+text_end q r e = rw (text_off r e) (puts_none q)
 
 -- a line: its word, its numbers, its end
 pub line_puts : (r : Room) (word ns : List ℕ) → puts r (line_text word ns) ≡ puts (puts (puts r word) (flat number_text ns)) (10 ∷ [])

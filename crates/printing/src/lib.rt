@@ -1,115 +1,88 @@
 #![tactic(auto)]
 
 // Event files in the readable form: one event a line, its word and then its numbers in decimal.
-ghost use Rattle.std.specs.Prelude.{◌+◌, ◌≤◌, ◌<◌, ◌≡◌, true, drop, length, take};
+ghost use Rattle.std.specs.Prelude.{◌≤◌, ◌<◌, ◌≡◌, true, length};
 ghost use Rattle.rules.specs.Bytes.{num_of};
 ghost use Rattle.rules.specs.Kinds.{widths_of, word_of};
 ghost use Rattle.rules.specs.Lists.{flat};
 ghost use Rattle.rules.specs.Record.{body_length};
-ghost use Rattle.output.specs.Room.{room, puts};
+ghost use Rattle.output.specs.Writer.{Puts};
 ghost use Rattle.events.specs.Row.{is_width};
-ghost use Rattle.events.specs.Whole.{record_length};
-ghost use Rattle.printing.specs.Text.{number_text, numbers_of, record_text};
-ghost use Rattle.printing.specs.Results.{PutWhole};
+ghost use Rattle.events.specs.Whole.{record_length, whole_length};
+ghost use Rattle.printing.specs.Text.{number_text, numbers_of, record_text, whole_text};
 
-use output::Cursor;
-
-// How far a file is written as text.
-#[derive(Clone, Copy)]
-pub struct Passed {
-    pub at: usize,
-    pub cursor: Cursor,
-}
+use output::Writer;
 
 // A number behind a word.
-fn put_number(out: &mut [u8], c: Cursor, n: u64) -> Cursor
-    ensures { room out.new result ≡ puts (room out.old c) (number_text n) }
+#[tactic(auto, using(output::proofs::Rooms::puts_cons), unfolding(crate::specs::Text::number_text))]
+fn put_number(out: &mut Writer<'_>, n: u64)
+    ensures { Puts out.old (number_text n) out.new }
 {
-    let q = output::put_byte(out, c, 32);
-    output::put_decimal(out, q, n)
+    out.put_byte(b' ');
+    out.put_decimal(n);
 }
 
-// Bytes, each as a number.
-pub fn put_numbers(out: &mut [u8], c: Cursor, src: &[u8]) -> Cursor
-    ensures { room out.new result ≡ puts (room out.old c) (flat number_text src.now) }
+/// Bytes, each as a number.
+#[tactic(auto, using(crate::proofs::Fields::flat_next, crate::proofs::Fields::flat_end))]
+pub fn put_numbers(out: &mut Writer<'_>, bytes: &[u8])
+    ensures { Puts out.old (flat number_text bytes.now) out.new }
 {
-    let mut q = c;
-    let mut i: usize = 0;
-    while i < src.len() {
-        q = put_number(out, q, src[i] as u64);
-        i += 1;
+    for byte in bytes {
+        put_number(out, u64::from(*byte));
     }
-    q
 }
 
-// The word of a kind.
-fn put_word(out: &mut [u8], c: Cursor, kind: u8) -> Cursor
-    ensures { room out.new result ≡ puts (room out.old c) (word_of kind) }
+// The number that the bytes of a field hold.
+#[tactic(auto, using(crate::proofs::Fields::field_one, crate::proofs::Fields::field_two, crate::proofs::Fields::field_word))]
+fn number_in(field: &[u8]) -> u64
+    requires { is_width (length field.now) ≡ true }
+    ensures { result ≡ num_of field.now }
 {
-    let row = events::kind_row(kind);
-    let word = row.word;
-    let n = row.letters;
-    output::put_all(out, c, &word[..n])
-}
-
-// The number of w bytes at a place of a body.
-fn number_at(body: &[u8], at: usize, w: usize) -> u64
-    requires { (is_width w ≡ true) × (at + w ≤ length body.now) }
-    ensures { result ≡ num_of (take w (drop at body.now)) }
-{
-    if w == 1 {
-        return body[at] as u64;
+    match field.len() {
+        1 => u64::from(field[0]),
+        2 => u64::from(lines::join8(field[0], field[1])),
+        _ => lines::take_word(field, 0),
     }
-    if w == 2 {
-        return lines::join8(body[at], body[at + 1]) as u64;
-    }
-    lines::take_word(body, at)
 }
 
 // The numbers in a body, which has all its bytes.
-fn put_body(out: &mut [u8], c: Cursor, kind: u8, body: &[u8]) -> Cursor
+#[tactic(auto, using(events::proofs::Table::body_total, events::proofs::Table::total_next, crate::proofs::Fields::body_next, crate::proofs::Fields::body_end, crate::proofs::Fields::is_field))]
+fn put_body(out: &mut Writer<'_>, kind: u8, body: &[u8])
     requires { body_length kind ≤ length body.now }
-    ensures { room out.new result ≡ puts (room out.old c) (flat number_text (numbers_of (widths_of kind) body.now)) }
+    ensures { Puts out.old (flat number_text (numbers_of (widths_of kind) body.now)) out.new }
 {
-    let mut q = c;
-    let mut at: usize = 0;
-    let mut f: usize = 0;
-    loop {
-        let w = events::width_at(kind, f);
-        if w == 0 {
-            break;
-        }
-        q = put_number(out, q, number_at(body, at, w));
-        at += w;
-        f += 1;
+    let mut rest = body;
+    for width in events::kind_row(kind).widths {
+        let (field, behind) = rest.split_at(usize::from(*width));
+        put_number(out, number_in(field));
+        rest = behind;
     }
-    q
 }
 
 // The line of the whole record at the front.
-fn put_event(out: &mut [u8], c: Cursor, r: &[u8]) -> Cursor
-    requires { 0 < record_length r.now }
-    ensures { room out.new result ≡ puts (room out.old c) (record_text r.now) }
+fn put_event(out: &mut Writer<'_>, bytes: &[u8])
+    requires { 0 < record_length bytes.now }
+    ensures { Puts out.old (record_text bytes.now) out.new }
 {
-    let kind = r[0];
-    let q = put_word(out, c, kind);
-    let p = put_body(out, q, kind, &r[1..]);
-    output::put_byte(out, p, 10)
+    let kind = bytes[0];
+    out.put_all(events::kind_row(kind).word);
+    put_body(out, kind, &bytes[1..]);
+    out.put_byte(b'\n');
 }
 
-// The whole records at the front of a file, each as its line.
-pub fn put_whole(out: &mut [u8], c: Cursor, file: &[u8]) -> Passed
-    ensures { PutWhole file.now out.old out.new c result }
+/// The whole records at the front of a file, each as its line; the result is the place behind them.
+#[tactic(auto, using(events::proofs::Records::fits_on, events::proofs::Records::length_on, events::proofs::Records::length_off, crate::proofs::Records::text_next, crate::proofs::Records::text_end))]
+pub fn put_whole(out: &mut Writer<'_>, file: &[u8]) -> usize
+    ensures text { Puts out.old (whole_text file.now) out.new }
+    ensures passed { result ≡ whole_length file.now }
 {
-    let mut q = c;
-    let mut at: usize = 0;
+    let mut rest = file;
     loop {
-        let n = events::record_length(&file[at..]);
-        if n == 0 {
-            break;
+        let length = events::record_length(rest);
+        if length == 0 {
+            return file.len() - rest.len();
         }
-        q = put_event(out, q, &file[at..]);
-        at += n;
+        put_event(out, rest);
+        rest = rest.split_at(length).1;
     }
-    Passed { at, cursor: q }
 }

@@ -1,35 +1,23 @@
--- The fields of records: four dependences one by one, and the tests of one record.
-use Prim.Native.Nat.{◌*◌, ◌+◌, ◌-◌, ◌<◌, ◌≤◌, suc, ℕ}
-use mathlib.Core.Path.{◌≡◌, refl}
+-- The kinds of records, and the tests of one record.
+use Prim.Native.Nat.{◌*◌, ◌+◌, ◌-◌, ◌<◌, ◌≤◌, suc, zero, ℕ}
+use mathlib.Core.Path.{◌≡◌, ap, refl, sym}
 use mathlib.Core.Bool.{Bool, ◌&&◌, cond, false, true}
 use mathlib.Core.List.{List, [], ◌∷◌}
 use lib.Dec.{eqb, leb, ltb}
-use lib.ListN.{drop, get_or, length}
+use lib.ListN.{drop, get_or, length, take}
+use lib.Seq.{drop-cons, take_all}
 use native.Mathlib.Omega.{arith}
-use native.Mathlib.Numerals.{add-one}
 use borrow.Author.Tests.{eqb-true, leb-true}
 use Rattle.undo.proofs.Laws.{and_true, test}
 use Rattle.headed.proofs.Old.{and_none, header_bounds, or_none}
 use Rattle.rules.specs.Lists.{all}
 use Rattle.rules.specs.Reader.{is_image_kind}
-use Rattle.headed.specs.Reader.{entry_in, headed_body, held_from, held_in, is_header, is_kind_of, is_on_board}
+use Rattle.headed.specs.Reader.{headed_body, held_from, held_in, is_header, is_kind_of, is_on_board}
 use Rattle.reading.specs.Item.{fields_item, item_of, placed}
 use Rattle.reading.specs.Spots.{holds, is_log_kind}
-use Rattle.reading.specs.declared.Item.TheVariants.{Refused}
+use Rattle.std.specs.Prelude.{Err}
+use Rattle.rules.specs.declared.Refusal.TheVariants.{CutShort, OutOfPlace, UnknownKind}
 use Rattle.reading.specs.declared.Tally.{Tally}
-
-pub all_four : (f : ℕ → Bool) (ds : List ℕ) → length ds ≡ 4
-    → all f ds ≡ (f (get_or ds 0 0) && (f (get_or ds 1 0) && (f (get_or ds 2 0) && (f (get_or ds 3 0) && true))))
-all_four f [] e = absurd (omega arith)
-all_four f (a ∷ []) e = absurd (omega arith)
-all_four f (a ∷ b ∷ []) e = absurd (omega arith)
-all_four f (a ∷ b ∷ c ∷ []) e = absurd (omega arith)
-all_four f (a ∷ b ∷ c ∷ d ∷ []) e = refl
-all_four f (a ∷ b ∷ c ∷ d ∷ x ∷ xs) e = absurd (omega arith)
-
-pub and_yes : (b : Bool) → (b && true) ≡ b
-and_yes true = refl
-and_yes false = refl
 
 -- ---- kinds
 
@@ -56,41 +44,36 @@ some_held k = test (is_header k) (λ h. rw h (omega (arith, header_bounds k h)))
 pub few_held : (k : ℕ) → holds k ≤ 7
 few_held k = test (is_header k) (λ e. rw e (omega (arith, header_bounds k e))) (λ e. rw e (omega arith))
 
--- ---- whether the lines of the entries from i on are below l
+-- ---- whether the lines of the entries are below l, by their bytes
 
-module _ (l n : ℕ) (bs : List ℕ) where
-  abbrev pub board_from : ℕ → Bool
-  board_from i = all (is_on_board l) (held_from n bs i (n - i))
+board_held : (l n : ℕ) (bs : List ℕ) (i m : ℕ) → 3 + i + m ≤ length bs → all (is_on_board l) (held_from n bs i m) ≡ all (λ x. ltb x l) (take m (drop (3 + i) bs))
+unfolding held_from
+board_held l n bs i zero h = refl
+board_held l n bs i (suc m) h =
+    let e : drop (3 + i) bs ≡ get_or bs (3 + i) 0 ∷ drop (suc (3 + i)) bs = drop-cons bs (3 + i) 0 (omega arith) in
+    let o : 3 + suc i ≡ suc (3 + i) = omega arith in
+    rw e (ap (λ b. ltb (get_or bs (3 + i) 0) l && b) (rw o at (board_held l n bs (suc i) m (omega arith))))
 
-  held_next : (i : ℕ) → i < n → held_from n bs i (n - i) ≡ entry_in n bs i ∷ held_from n bs (i + 1) (n - (i + 1))
-  unfolding held_from
-  held_next i h = let o : n - i ≡ suc (n - (i + 1)) = omega arith in rw (o, add-one i)
-
-  pub board_next : (i : ℕ) → i < n → ltb (get_or bs (3 + i) 0) l ≡ true → board_from i ≡ board_from (i + 1)
-  board_next i h e = rw (held_next i h, e)
-
-  pub board_not : (i : ℕ) → i < n → ltb (get_or bs (3 + i) 0) l ≡ false → board_from i ≡ false
-  board_not i h e = rw (held_next i h, e)
-
-  pub board_none : (i : ℕ) → n ≤ i → board_from i ≡ true
-  unfolding held_from
-  board_none i h = let o : n - i ≡ 0 = omega arith in rw o
-
-  -- all of them
-  pub board_all : board_from 0 ≡ all (is_on_board l) (held_in n bs)
-  board_all = let o : n - 0 ≡ n = omega arith in rw o
+pub board_all : (l n m : ℕ) (bs : List ℕ) → m ≡ n → 3 + n ≤ length bs → all (λ x. ltb x l) (take m (drop 3 bs)) ≡ all (is_on_board l) (held_in n bs)
+board_all l n m bs e h = rw e (sym (board_held l n bs 0 n (omega arith)))
 
 -- ---- one record
 
-pub item_empty : (headed : Bool) (s : Tally) (bs : List ℕ) → length bs ≡ 0 → item_of headed s bs ≡ Refused 1
+pub item_empty : (headed : Bool) (s : Tally) (bs : List ℕ) → length bs < 1 → item_of headed s bs ≡ Err CutShort
 unfolding item_of
 item_empty headed s [] e = refl
 item_empty headed s (b ∷ bs) e = absurd (omega arith)
 
-pub item_some : (headed : Bool) (s : Tally) (bs : List ℕ) → 0 < length bs → item_of headed s bs
+-- the bytes behind the first
+abbrev pub others : List ℕ → List ℕ
+others bs = take (length bs - 1) (drop 1 bs)
+
+pub item_some : (headed : Bool) (s : Tally) (bs : List ℕ) → 1 ≤ length bs → item_of headed s bs
     ≡ cond (is_kind_of headed (get_or bs 0 0))
-    (cond (placed s (get_or bs 0 0)) (cond (leb (headed_body (get_or bs 0 0)) (length bs - 1)) (fields_item s (get_or bs 0 0) (drop 1 bs)) (Refused 1)) (Refused 7))
-    (Refused 2)
+    (cond (placed s (get_or bs 0 0)) (cond (leb (headed_body (get_or bs 0 0)) (length (others bs))) (fields_item s (get_or bs 0 0) (others bs)) (Err CutShort)) (Err OutOfPlace))
+    (Err UnknownKind)
 unfolding item_of
 item_some headed s [] h = absurd (omega arith)
-item_some headed s (b ∷ bs) h = let e : suc (length bs) - 1 ≡ length bs = omega arith in rw e
+item_some headed s (b ∷ bs) h =
+    let whole : take (length (b ∷ bs) - 1) bs ≡ bs = take_all (length (b ∷ bs) - 1) bs (omega arith) in
+    rw whole

@@ -20,46 +20,38 @@ use Rattle.rules.specs.declared.Listed.{Listed}
 use Rattle.undo.proofs.Laws.{and_true, test}
 use Rattle.reading.specs.Item.{behind_short, count_for, end_item, entries_item, fields_item, head_item, in_order, item_of, placed, region_item, tally_of}
 use Rattle.reading.specs.Spots.{holds, is_log_kind}
+use Rattle.std.specs.Prelude.{Result, Ok, Err}
+use Rattle.rules.specs.Codes.{code}
+use Rattle.rules.specs.declared.Refusal.{Refusal}
 use Rattle.reading.specs.declared.Item.{Item}
-use Rattle.reading.specs.declared.Item.TheVariants.{End, Entries, Head, Line, Refused, Region}
+use Rattle.reading.specs.declared.Item.TheVariants.{End, Entries, Head, Line, Region}
 use Rattle.reading.specs.declared.Tally.{Tally}
 use Rattle.reading.proofs.Counts.{Few, count_of}
 use Rattle.reading.proofs.Tests.{log_high}
 
 -- what a record with this body adds
 abbrev pub added : Progress → List ℕ → Item → Progress
-added s bs (Refused n) = s
 added s bs (Head t l) = record { state = sized t l; kind = s.kind }
 added s bs Line = record { state = with_medium (s.state.medium ++ (line_at bs 0 ∷ [])) s.state; kind = s.kind }
-added s bs (Region k q a b c d) =
-    record { state = with_listed (s.state.regions ++ (record { key = k; state = q; deps = a ∷ b ∷ c ∷ d ∷ [] } ∷ [])) s.state; kind = s.kind }
+added s bs (Region r) = record { state = with_listed (s.state.regions ++ (r ∷ [])) s.state; kind = s.kind }
 added s bs (Entries k d) = record { state = with_logged (s.state.log ++ held_in (holds d) bs) s.state; kind = d }
 added s bs End = s
 
 -- the record as a turn
-abbrev pub turn_from : Progress → List ℕ → Item → Turn Progress
-turn_from s bs (Refused n) = Stop n
-turn_from s bs (Head t l) = Next (added s bs (Head t l))
-turn_from s bs Line = Next (added s bs Line)
-turn_from s bs (Region k q a b c d) = Next (added s bs (Region k q a b c d))
-turn_from s bs (Entries k d) = Next (added s bs (Entries k d))
-turn_from s bs End = Last s
-
--- whether it is taken
-abbrev pub is_taken : Item → Bool
-is_taken (Refused n) = false
-is_taken (Head t l) = true
-is_taken Line = true
-is_taken (Region k q a b c d) = true
-is_taken (Entries k d) = true
-is_taken End = true
+abbrev pub turn_from : Progress → List ℕ → Result Item Refusal → Turn Progress
+turn_from s bs (Err r) = Stop (code r)
+turn_from s bs (Ok (Head t l)) = Next (added s bs (Head t l))
+turn_from s bs (Ok Line) = Next (added s bs Line)
+turn_from s bs (Ok (Region r)) = Next (added s bs (Region r))
+turn_from s bs (Ok (Entries k d)) = Next (added s bs (Entries k d))
+turn_from s bs (Ok End) = Last s
 
 module _ (s : Progress) (bs : List ℕ) where
   head_turn_lem : onward s 32 (head_turn bs) ≡ turn_from s bs (head_item bs)
   unfolding head_turn head_item
   head_turn_lem = test (in_range (get_or bs 0 0) (num_of (take 2 (drop 1 bs)))) (λ e. rw e) (λ e. rw e)
 
-  line_turn_lem : onward s 33 (line_turn s.state bs) ≡ turn_from s bs Line
+  line_turn_lem : onward s 33 (line_turn s.state bs) ≡ turn_from s bs (Ok Line)
   unfolding line_turn
   line_turn_lem = refl
 
@@ -138,28 +130,28 @@ pub record Entered (s : Tally) (b : ℕ) (bs : List ℕ) (k d : ℕ) : Type 0 wh
   pub room : count_for s k + holds b ≤ 32
   pub late : s.lines ≤ s.seen
 
-pub data Shown (s : Tally) (b : ℕ) (bs : List ℕ) : Item → Type 0 where
-  refuses : {n : ℕ} → Shown s b bs (Refused n)
-  head : {t l : ℕ} → b ≡ 32 → s.threads ≡ 0 → 1 ≤ t → t ≤ 8 → Shown s b bs (Head t l)
-  line : b ≡ 33 → (s.threads ≡ 0 → ⊥) → s.seen < s.lines → Shown s b bs Line
-  region : {k q c d e f : ℕ} → b ≡ 34 → (s.threads ≡ 0 → ⊥) → eqb s.logged 0 ≡ true → s.held < 32 → Shown s b bs (Region k q c d e f)
-  entries : {k d : ℕ} → Entered s b bs k d → Shown s b bs (Entries k d)
-  end : (s.threads ≡ 0 → ⊥) → Shown s b bs End
+pub data Shown (s : Tally) (b : ℕ) (bs : List ℕ) : Result Item Refusal → Type 0 where
+  refuses : {r : Refusal} → Shown s b bs (Err r)
+  head : {t l : ℕ} → b ≡ 32 → s.threads ≡ 0 → 1 ≤ t → t ≤ 8 → Shown s b bs (Ok (Head t l))
+  line : b ≡ 33 → (s.threads ≡ 0 → ⊥) → s.seen < s.lines → Shown s b bs (Ok Line)
+  region : {r : Listed} → b ≡ 34 → (s.threads ≡ 0 → ⊥) → eqb s.logged 0 ≡ true → s.held < 32 → Shown s b bs (Ok (Region r))
+  entries : {k d : ℕ} → Entered s b bs k d → Shown s b bs (Ok (Entries k d))
+  end : (s.threads ≡ 0 → ⊥) → Shown s b bs (Ok End)
 
 module _ {s : Tally} {b : ℕ} {bs : List ℕ} where
-  pub is_head : {t l : ℕ} → Shown s b bs (Head t l) → s.threads ≡ 0
+  pub is_head : {t l : ℕ} → Shown s b bs (Ok (Head t l)) → s.threads ≡ 0
   is_head (head e z lo hi) = z
 
-  pub is_line : Shown s b bs Line → s.seen < s.lines
+  pub is_line : Shown s b bs (Ok Line) → s.seen < s.lines
   is_line (line e n m) = m
 
-  pub is_region : {k q c d e f : ℕ} → Shown s b bs (Region k q c d e f) → s.held < 32
+  pub is_region : {r : Listed} → Shown s b bs (Ok (Region r)) → s.held < 32
   is_region (region e n l m) = m
 
-  pub is_entries : {k d : ℕ} → Shown s b bs (Entries k d) → Entered s b bs k d
+  pub is_entries : {k d : ℕ} → Shown s b bs (Ok (Entries k d)) → Entered s b bs k d
   is_entries (entries e) = e
 
-  pub is_end : Shown s b bs End → s.threads ≡ 0 → ⊥
+  pub is_end : Shown s b bs (Ok End) → s.threads ≡ 0 → ⊥
   is_end (end n) = n
 
 -- the tests of a place, one behind the other
@@ -193,7 +185,7 @@ module _ (s : Tally) (bs : List ℕ) where
       (λ f. let r = and_true (leb 1 t) (leb t 8) (and_true (leb 1 t && leb t 8) (leb 1 l && leb l 256) f).0 in rw f (head refl z (leb-true 1 t r.0) (leb-true t 8 r.1)))
       (λ f. rw f refuses)
 
-  line_shown : in_order s 33 ≡ true → Shown s 33 bs Line
+  line_shown : in_order s 33 ≡ true → Shown s 33 bs (Ok Line)
   line_shown q =
       let a = past (eqb s.threads 0) _ q in
       line refl (eqb-false s.threads 0 a.0) (ltb-true s.seen s.lines (second (ltb s.seen s.lines) (eqb s.logged 0) a.1))

@@ -22,18 +22,21 @@ use Rattle.rules.specs.Reader.{Last, Next, Reads, Refuses, Verdict, is_logged_by
 use Rattle.rules.specs.Tables.{thread_of}
 use Rattle.rules.specs.declared.Listed.{Listed}
 use Rattle.rules.specs.declared.Mark.{Mark}
-use Rattle.undo.proofs.Laws.{is_same, never, test}
+use Rattle.undo.proofs.Laws.{is_same, test}
 use Rattle.reading.specs.Item.{after_entries, after_head, after_line, after_region, count_for, item_of, tabled, tally_of}
 use Rattle.reading.specs.Scan.{filled, free_listed, read_of, scan_of}
 use Rattle.reading.specs.Spots.{first_spot, holds, is_inside, log_start, mark_on, spot_at, spots_from}
+use Rattle.std.specs.Prelude.{Result, Ok, Err, is_ok}
+use Rattle.rules.specs.Codes.{code}
+use Rattle.rules.specs.declared.Refusal.{Refusal}
 use Rattle.reading.specs.declared.Item.{Item}
-use Rattle.reading.specs.declared.Item.TheVariants.{End, Entries, Head, Line, Refused, Region}
+use Rattle.reading.specs.declared.Item.TheVariants.{End, Entries, Head, Line, Region}
 use Rattle.reading.specs.declared.Spot.{Spot}
 use Rattle.reading.specs.declared.Tally.{Tally}
 use Rattle.reading.proofs.Counts.{Few, count_of, few_more, few_none, last_listed_lem, length_more, log_room, record_count, record_last}
 use Rattle.reading.proofs.Spots.{Stand, none, record_stands, rest_behind, stand_inside, stand_join, stand_marks, stand_moved}
 use Rattle.reading.proofs.Tests.{item_empty, kind_low, log_body, some_held}
-use Rattle.reading.proofs.Turns.{Entered, Shown, added, end, entries, head, is_end, is_entries, is_head, is_line, is_region, is_taken, item_shown, line, refuses, region, turn_item, turn_from}
+use Rattle.reading.proofs.Turns.{Entered, Shown, added, end, entries, head, is_end, is_entries, is_head, is_line, is_region, item_shown, line, refuses, region, turn_item, turn_from}
 
 -- ---- tables
 
@@ -159,7 +162,7 @@ module _ {ws : List ℕ} {s : Progress} {at : ℕ} (g : Kept ws s at) where
         stand = λ n. rw (← o) (stand_join (g.stand n) (record_stands ws at (some_held kind) inside));
       })
 
-  kept_more : {i : Item} {q : Progress} → headed_body kind ≤ length body → Shown (tally_of s) kind body i → turn_from s body i ≡ Next q → Kept ws q (at + 1 + headed_body kind)
+  kept_more : {i : Result Item Refusal} {q : Progress} → headed_body kind ≤ length body → Shown (tally_of s) kind body i → turn_from s body i ≡ Next q → Kept ws q (at + 1 + headed_body kind)
   unfolding tally_of
   kept_more h refuses e = absurd (false≢true (ap is_on e))
   kept_more h (head {t} {l} b z lo hi) e = rw (← next_same e) (kept_head t l b z lo hi)
@@ -169,7 +172,7 @@ module _ {ws : List ℕ} {s : Progress} {at : ℕ} (g : Kept ws s at) where
   kept_more h (end n) e = absurd (true≢false (ap is_last e))
 
   -- the end
-  ended_here : {i : Item} {q : Progress} → Shown (tally_of s) kind body i → turn_from s body i ≡ Last q → (s ≡ q) × (s.state.threads ≡ 0 → ⊥)
+  ended_here : {i : Result Item Refusal} {q : Progress} → Shown (tally_of s) kind body i → turn_from s body i ≡ Last q → (s ≡ q) × (s.state.threads ≡ 0 → ⊥)
   unfolding tally_of
   ended_here refuses e = absurd (false≢true (ap is_on e))
   ended_here (head b z lo hi) e = absurd (false≢true (ap is_last e))
@@ -199,9 +202,9 @@ after_line_lem : (s : Progress) (bs : List ℕ) → after_line (tally_of s) ≡ 
 unfolding tally_of
 after_line_lem s bs = rw (length_more s.state.medium)
 
-after_region_lem : (s : Progress) (bs : List ℕ) (k q a b c d : ℕ) → after_region (tally_of s) k ≡ tally_of (added s bs (Region k q a b c d))
+after_region_lem : (s : Progress) (bs : List ℕ) (r : Listed) → after_region (tally_of s) r.key ≡ tally_of (added s bs (Region r))
 unfolding tally_of
-after_region_lem s bs k q a b c d = rw (last_listed_lem s.state.regions, length_more s.state.regions)
+after_region_lem s bs r = rw (last_listed_lem s.state.regions, length_more s.state.regions)
 
 after_entries_lem : (s : Progress) (b k d : ℕ) (bs : List ℕ) → Entered (tally_of s) b bs k d → Counted s b k → after_entries (tally_of s) k d ≡ tally_of (added s bs (Entries k d))
 unfolding tally_of
@@ -274,41 +277,45 @@ unfolding tally_of count
 reached_none headed src = record { state = unread; kept = kept_none src; tally = refl; regions = refl; inside = omega arith; reads = refl }
 
 -- the reading stops at a record that is refused
-stop_read : (headed : Bool) (s : Progress) (bs : List ℕ) (n : ℕ) → Few s.state.log → item_of headed (tally_of s) bs ≡ Refused n → records_in headed s 0 bs ≡ Refuses n
-unfolding item_of read_by
-stop_read headed s [] n few e = cc
-stop_read headed s (k ∷ bs) n few e = turn_stop (turn_in headed) headed_body s n k bs (turn_item s bs headed k few ∙ ap (turn_from s bs) e)
+refused_as : Result Item Refusal → Verdict Progress
+refused_as (Ok i) = Refuses 0
+refused_as (Err x) = Refuses (code x)
+
+stop_read : (headed : Bool) (s : Progress) (bs : List ℕ) (x : Refusal) → Few s.state.log → item_of headed (tally_of s) bs ≡ Err x → records_in headed s 0 bs ≡ Refuses (code x)
+unfolding item_of read_by refused_as
+stop_read headed s [] x few e = ap refused_as e
+stop_read headed s (k ∷ bs) x few e = turn_stop (turn_in headed) headed_body s (code x) k bs (turn_item s bs headed k few ∙ ap (turn_from s bs) e)
 
 module _ {headed : Bool} {src : List ℕ} {s : Tally} {rs : List Listed} {at : ℕ} (r : Reached headed src s rs at) where
   abbrev rest : List ℕ
   rest = drop (suc at) src
 
   -- what is judged by the counts is judged by all that was read
-  same_item : {i : Item} → item_of headed s (drop at src) ≡ i → item_of headed (tally_of r.state) (drop at src) ≡ i
+  same_item : {i : Result Item Refusal} → item_of headed s (drop at src) ≡ i → item_of headed (tally_of r.state) (drop at src) ≡ i
   same_item e = ap (λ x. item_of headed x (drop at src)) (sym r.tally) ∙ e
 
-  pub stopped : (n : ℕ) → item_of headed s (drop at src) ≡ Refused n → records_read_as headed src ≡ Refuses n
+  pub stopped : (x : Refusal) → item_of headed s (drop at src) ≡ Err x → records_read_as headed src ≡ Refuses (code x)
   unfolding records_read_as
-  stopped n e = ap state_read (sym r.reads ∙ stop_read headed r.state (drop at src) n r.kept.few (same_item e))
+  stopped x e = ap state_read (sym r.reads ∙ stop_read headed r.state (drop at src) x r.kept.few (same_item e))
 
   -- ---- a record that is taken
 
-  module _ (i : Item) (e : item_of headed s (drop at src) ≡ i) (taken : is_taken i ≡ true) where
+  module _ (i : Item) (e : item_of headed s (drop at src) ≡ Ok i) where
     there : at < length src
     there =
         test (eqb (length (drop at src)) 0)
-        (λ z. never taken (ap is_taken (sym e ∙ item_empty headed s (drop at src) (eqb-true (length (drop at src)) 0 z))))
+        (λ z. let none : length (drop at src) ≡ 0 = eqb-true (length (drop at src)) 0 z in absurd (false≢true (ap is_ok (sym (item_empty headed s (drop at src) (omega arith)) ∙ e))))
         (λ z. omega (arith, length-drop at src, eqb-false (length (drop at src)) 0 z))
 
-    pub shown : Shown s (get_or src at 0) rest i
+    pub shown : Shown s (get_or src at 0) rest (Ok i)
     shown = subst (Shown s (get_or src at 0) rest) (ap (item_of headed s) (sym (drop-cons src at 0 there)) ∙ e) (item_shown s rest headed (get_or src at 0))
 
-    turned : turn_in headed r.state (get_or src at 0 ∷ rest) ≡ turn_from r.state rest i
+    turned : turn_in headed r.state (get_or src at 0 ∷ rest) ≡ turn_from r.state rest (Ok i)
     turned =
         turn_item r.state rest headed (get_or src at 0) r.kept.few
         ∙ ap (turn_from r.state rest) (ap (item_of headed (tally_of r.state)) (sym (drop-cons src at 0 there)) ∙ same_item e)
 
-    went : {t : Tally} {qs : List Listed} → turn_from r.state rest i ≡ Next (added r.state rest i) → t ≡ tally_of (added r.state rest i)
+    went : {t : Tally} {qs : List Listed} → turn_from r.state rest (Ok i) ≡ Next (added r.state rest i) → t ≡ tally_of (added r.state rest i)
         → qs ≡ filled 32 free_listed (added r.state rest i).state.regions → Went headed src t qs at
     went n a b =
         let k = get_or src at 0 in
@@ -332,31 +339,31 @@ module _ {headed : Bool} {src : List ℕ} {s : Tally} {rs : List Listed} {at : �
 
   -- ---- each kind of record, at the loop's place
 
-  pub went_head : (t l : ℕ) → item_of headed s (drop at src) ≡ Head t l → Went headed src (after_head t l) rs at
+  pub went_head : (t l : ℕ) → item_of headed s (drop at src) ≡ Ok (Head t l) → Went headed src (after_head t l) rs at
   unfolding tally_of
   went_head t l e =
-      let z = r.kept.start (rw r.tally at (is_head (shown (Head t l) e refl))) in
-      went (Head t l) e refl refl (after_head_lem r.state rest t l z.kind) (r.regions ∙ ap (filled 32 free_listed) z.regions)
+      let z = r.kept.start (rw r.tally at (is_head (shown (Head t l) e))) in
+      went (Head t l) e refl (after_head_lem r.state rest t l z.kind) (r.regions ∙ ap (filled 32 free_listed) z.regions)
 
-  pub line_room : item_of headed s (drop at src) ≡ Line → s.seen < s.lines
-  line_room e = is_line (shown Line e refl)
+  pub line_room : item_of headed s (drop at src) ≡ Ok Line → s.seen < s.lines
+  line_room e = is_line (shown Line e)
 
-  pub went_line : item_of headed s (drop at src) ≡ Line → Went headed src (after_line s) rs at
-  went_line e = went Line e refl refl (ap after_line r.tally ∙ after_line_lem r.state rest) r.regions
+  pub went_line : item_of headed s (drop at src) ≡ Ok Line → Went headed src (after_line s) rs at
+  went_line e = went Line e refl (ap after_line r.tally ∙ after_line_lem r.state rest) r.regions
 
-  module _ (k q a b c d : ℕ) (e : item_of headed s (drop at src) ≡ Region k q a b c d) where
+  module _ (x : Listed) (e : item_of headed s (drop at src) ≡ Ok (Region x)) where
     pub region_room : s.held < 32
-    region_room = is_region (shown (Region k q a b c d) e refl)
+    region_room = is_region (shown (Region x) e)
 
-    pub went_region : Went headed src (after_region s k) (set rs s.held (record { key = k; state = q; deps = a ∷ b ∷ c ∷ d ∷ [] })) at
+    pub went_region : Went headed src (after_region s x.key) (set rs s.held x) at
     unfolding tally_of
     went_region =
-        went (Region k q a b c d) e refl refl (ap (λ t. after_region t k) r.tally ∙ after_region_lem r.state rest k q a b c d)
-        (rw (r.regions, r.tally) (filled_more 32 free_listed r.state.state.regions (record { key = k; state = q; deps = a ∷ b ∷ c ∷ d ∷ [] })))
+        went (Region x) e refl (ap (λ t. after_region t x.key) r.tally ∙ after_region_lem r.state rest x)
+        (rw (r.regions, r.tally) (filled_more 32 free_listed r.state.state.regions x))
 
-  module _ (k d : ℕ) (e : item_of headed s (drop at src) ≡ Entries k d) where
+  module _ (k d : ℕ) (e : item_of headed s (drop at src) ≡ Ok (Entries k d)) where
     entered : Entered (tally_of r.state) (get_or src at 0) rest k d
-    entered = rw r.tally at (is_entries (shown (Entries k d) e refl))
+    entered = rw r.tally at (is_entries (shown (Entries k d) e))
 
     pub entries_room : (s.logged ≤ 256) × (count_for s k ≤ 32)
     unfolding tally_of
@@ -364,14 +371,14 @@ module _ {headed : Bool} {src : List ℕ} {s : Tally} {rs : List Listed} {at : �
 
     pub went_entries : Went headed src (after_entries s k d) rs at
     went_entries =
-        went (Entries k d) e refl refl (ap (λ t. after_entries t k d) r.tally ∙ after_entries_lem r.state (get_or src at 0) k d rest entered (counted r.kept entered)) r.regions
+        went (Entries k d) e refl (ap (λ t. after_entries t k d) r.tally ∙ after_entries_lem r.state (get_or src at 0) k d rest entered (counted r.kept entered)) r.regions
 
   -- ---- the end
 
-  module _ (e : item_of headed s (drop at src) ≡ End) where
+  module _ (e : item_of headed s (drop at src) ≡ Ok End) where
     all_read : Laid src r.state.state
     unfolding tally_of
-    all_read = laid r.kept (rw r.tally at (is_end (shown End e refl)))
+    all_read = laid r.kept (rw r.tally at (is_end (shown End e)))
 
     pub start_room : (s.seen ≤ s.lines) × (s.held ≤ 32)
     unfolding tally_of
@@ -382,10 +389,10 @@ module _ {headed : Bool} {src : List ℕ} {s : Tally} {rs : List Listed} {at : �
     marks_inside = rw r.tally (stand_inside all_read.stand, all_read.few.1)
 
     pub ended : {log : List Mark} → log ≡ filled 256 no_mark (map (mark_on src) (spots_from s.logged src (spot_at (log_start s.seen s.held))))
-        → record { refusal = 0; scan = tabled s rs log } ≡ read_of src (records_read_as headed src)
+        → Ok (tabled s rs log) ≡ read_of src (records_read_as headed src)
     unfolding records_read_as scan_of tally_of
     ended q =
         let x : records_in headed unread 0 src ≡ Reads r.state
-        = sym r.reads ∙ (ap (records_in headed r.state 0) (drop-cons src at 0 (there End e refl))
-        ∙ turn_last (turn_in headed) headed_body r.state r.state (get_or src at 0) rest (turned End e refl)) in
+        = sym r.reads ∙ (ap (records_in headed r.state 0) (drop-cons src at 0 (there End e))
+        ∙ turn_last (turn_in headed) headed_body r.state r.state (get_or src at 0) rest (turned End e)) in
         rw (x, q, r.tally, r.regions, stand_marks all_read.stand)

@@ -1,5 +1,5 @@
 -- A record of an image, judged by the sizes, the counts and the last keys of what was read before it.
-use Rattle.std.specs.Prelude.{◌+◌, ℕ, Bool, ◌&&◌, ◌||◌, cond, not, List, [], ◌∷◌, eqb, leb, ltb, drop, get_or, length, take}
+use Rattle.std.specs.Prelude.{◌+◌, ℕ, Bool, Result, Ok, Err, ◌&&◌, ◌||◌, cond, not, List, [], ◌∷◌, eqb, leb, ltb, drop, get_or, length, take}
 use Rattle.rules.specs.Bytes.{num_of}
 use Rattle.headed.specs.Reader.{Progress, headed_body, held_in, is_beside, is_header, is_kind_of, is_on_board}
 use Rattle.rules.specs.Lists.{all, count}
@@ -9,7 +9,9 @@ use Rattle.rules.specs.Refusal.{in_range}
 use Rattle.rules.specs.Tables.{thread_of}
 use Rattle.rules.specs.declared.Listed.{Listed}
 use Rattle.rules.specs.declared.Mark.{Mark}
-use Rattle.reading.specs.declared.Item.TheVariants.{End, Entries, Head, Line, Refused, Region}
+use Rattle.rules.specs.declared.Refusal.{Refusal}
+use Rattle.rules.specs.declared.Refusal.TheVariants.{CutShort, NoLine, NoThread, OutOfPlace, OutOfRange, UnknownKind}
+use Rattle.reading.specs.declared.Item.TheVariants.{End, Entries, Head, Line, Region}
 use Rattle.reading.specs.declared.Item.{Item}
 use Rattle.reading.specs.declared.Scan.{Scan}
 use Rattle.reading.specs.declared.Tally.{Tally}
@@ -42,19 +44,16 @@ placed s k = in_order s k && not (is_beside s.kind k)
 
 -- ---- the fields of each record, once its place and its length are right
 
-unfoldable pub head_item : List ℕ → Item
+unfoldable pub head_item : List ℕ → Result Item Refusal
 head_item bs =
     cond (in_range (get_or bs 0 0) (num_of (take 2 (drop 1 bs))))
-    (Head (get_or bs 0 0) (num_of (take 2 (drop 1 bs)))) (Refused 6)
+    (Ok (Head (get_or bs 0 0) (num_of (take 2 (drop 1 bs))))) (Err OutOfRange)
 
-abbrev pub item_of_listed : Listed → Item
-item_of_listed r = Region r.key r.state (get_or r.deps 0 0) (get_or r.deps 1 0) (get_or r.deps 2 0) (get_or r.deps 3 0)
-
-unfoldable pub region_item : Tally → Listed → Item
+unfoldable pub region_item : Tally → Listed → Result Item Refusal
 region_item s r =
     cond (all (is_known_thread s.threads) (r.key ∷ r.deps))
     (cond (eqb s.held 0 || ltb s.last r.key)
-    (cond (ltb s.held most_regions) (item_of_listed r) (Refused 7)) (Refused 7)) (Refused 3)
+    (cond (ltb s.held most_regions) (Ok (Region r)) (Err OutOfPlace)) (Err OutOfPlace)) (Err NoThread)
 
 -- the log entries of the key's thread, where no later thread has one
 abbrev pub count_for : Tally → ℕ → ℕ
@@ -65,32 +64,32 @@ abbrev pub behind_short : Tally → ℕ → Bool
 behind_short s k = is_header s.kind && (ltb s.kind 47 && eqb s.mark k)
 
 -- a record of 35 is judged as one of 41: behind a short record it has no place
-unfoldable pub entries_item : Tally → ℕ → List ℕ → Item
+unfoldable pub entries_item : Tally → ℕ → List ℕ → Result Item Refusal
 entries_item s k bs =
     cond (is_known_thread s.threads (key_at bs 0))
     (cond (all (is_on_board s.lines) (held_in (holds k) bs))
     (cond (leb s.mark (key_at bs 0))
     (cond (not (behind_short s (key_at bs 0)))
-    (cond (leb (count_for s (key_at bs 0) + holds k) most_entries) (Entries (key_at bs 0) k)
-    (Refused 7)) (Refused 7)) (Refused 7)) (Refused 4)) (Refused 3)
+    (cond (leb (count_for s (key_at bs 0) + holds k) most_entries) (Ok (Entries (key_at bs 0) k))
+    (Err OutOfPlace)) (Err OutOfPlace)) (Err OutOfPlace)) (Err NoLine)) (Err NoThread)
 
-unfoldable pub end_item : List ℕ → Item
-end_item bs = cond (eqb (length bs) 0) End (Refused 7)
+unfoldable pub end_item : List ℕ → Result Item Refusal
+end_item bs = cond (eqb (length bs) 0) (Ok End) (Err OutOfPlace)
 
-unfoldable pub fields_item : Tally → ℕ → List ℕ → Item
+unfoldable pub fields_item : Tally → ℕ → List ℕ → Result Item Refusal
 fields_item s k bs =
     cond (eqb k 32) (head_item bs)
-    (cond (eqb k 33) Line
+    (cond (eqb k 33) (Ok Line)
     (cond (eqb k 34) (region_item s (listed_at bs))
     (cond (is_log_kind k) (entries_item s k bs) (end_item bs))))
 
 -- ---- a record at the front of the bytes
-unfoldable pub item_of : Bool → Tally → List ℕ → Item
-item_of headed s [] = Refused 1
+unfoldable pub item_of : Bool → Tally → List ℕ → Result Item Refusal
+item_of headed s [] = Err CutShort
 item_of headed s (k ∷ bs) =
     cond (is_kind_of headed k)
-    (cond (placed s k) (cond (leb (headed_body k) (length bs)) (fields_item s k bs) (Refused 1)) (Refused 7))
-    (Refused 2)
+    (cond (placed s k) (cond (leb (headed_body k) (length bs)) (fields_item s k bs) (Err CutShort)) (Err OutOfPlace))
+    (Err UnknownKind)
 
 -- ---- what the record behind it is judged by
 

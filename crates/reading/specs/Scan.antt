@@ -1,12 +1,14 @@
 -- What was read of an image, held in tables of fixed length.
-use Rattle.std.specs.Prelude.{ℕ, List, [], map, length, replicate}
+use Rattle.std.specs.Prelude.{ℕ, Result, Ok, Err, List, map, length, replicate, take}
 use Rattle.std.proofs.lemmas.List.Edits.{sets}
 use Rattle.rules.specs.Image.{Persistent}
 use Rattle.rules.specs.Marks.{marks_of, no_mark}
 use Rattle.rules.specs.Measures.{most_deps, most_logged, most_regions}
-use Rattle.rules.specs.Reader.{Reads, Refuses, Verdict, nothing}
+use Rattle.rules.specs.Reader.{Reads, Refuses, Verdict}
 use Rattle.rules.specs.declared.Listed.{Listed}
-use Rattle.reading.specs.declared.Read.{Read}
+use Rattle.rules.specs.declared.Mark.{Mark}
+use Rattle.rules.specs.Codes.{code}
+use Rattle.rules.specs.declared.Refusal.{Refusal}
 use Rattle.reading.specs.declared.Scan.{Scan}
 use Rattle.reading.specs.Spots.{first_spot, old_at, spots_from}
 
@@ -35,10 +37,19 @@ scan_of ps p =
 abbrev pub olds_of : List ℕ → Persistent → List ℕ
 olds_of bs p = map (old_at bs) (spots_from (length p.log) bs (first_spot p))
 
--- the answer of the reader: a refusal with empty tables, or 0 with what was read of the bytes
-abbrev pub refused_with : ℕ → Read
-refused_with n = record { refusal = n; scan = scan_of [] nothing }
+-- the outcome of the reader: a refusal, or what was read of the bytes
+abbrev pub read_of : List ℕ → Verdict Persistent → Result Scan ℕ
+read_of bs (Refuses n) = Err n
+read_of bs (Reads p) = Ok (scan_of (olds_of bs p) p)
 
-abbrev pub read_of : List ℕ → Verdict Persistent → Read
-read_of bs (Refuses n) = refused_with n
-read_of bs (Reads p) = record { refusal = 0; scan = scan_of (olds_of bs p) p }
+-- an outcome with the number of its refusal
+abbrev pub by_number : {A : Type 0} → Result A Refusal → Result A ℕ
+by_number (Ok x) = Ok x
+by_number (Err r) = Err (code r)
+
+-- the regions and the log entries that were read
+abbrev pub regions_of : Scan → List Listed
+regions_of s = take s.held s.regions
+
+abbrev pub log_of : Scan → List Mark
+log_of s = take s.logged s.log

@@ -1,20 +1,21 @@
 #![tactic(auto)]
 
 // One pass over the records of an image of either form: 32 head, then L records 33, any 34, any 35 or any of 41 to 47, then 36. A second one over its log.
-ghost use Rattle.std.specs.Prelude.{◌*◌, ◌+◌, ◌<◌, ◌≤◌, ◌&&◌, ◌||◌, true, eqb, leb, ltb, ◌≡◌, [], ◌∷◌, map, length};
+ghost use Rattle.std.specs.Prelude.{◌*◌, ◌+◌, ◌<◌, ◌≤◌, ◌&&◌, ◌||◌, true, eqb, ltb, ◌≡◌, map, drop, length, take};
 ghost use Rattle.rules.specs.Marks.{no_mark};
 ghost use Rattle.rules.specs.Reader.{is_known_thread, key_at, listed_at};
 ghost use Rattle.rules.specs.Lists.{all};
 ghost use Rattle.headed.specs.Reader.{headed_body, held_in, is_beside, is_header, is_kind_of, is_on_board, records_read_as};
-ghost use Rattle.reading.specs.Scan.{filled, free_listed, read_of, refused_with};
+ghost use Rattle.reading.specs.Scan.{by_number, filled, log_of, read_of, regions_of};
 ghost use Rattle.reading.specs.Spots.{holds, is_inside, is_log_kind, log_start, mark_on, next_spot, old_at, spot_at, spots_from};
 ghost use Rattle.reading.specs.Item.{behind_short, count_for, end_item, entries_item, fields_item, head_item, item_of, placed, region_item};
 ghost use Rattle.reading.specs.Item.{after_entries, after_head, after_line, after_region, tabled};
 
-use measures::{MOST_ENTRIES, MOST_LOGGED, MOST_REGIONS, NUMBERS};
-use rules::{Listed, Mark};
+use measures::{MOST_DEPS, MOST_ENTRIES, MOST_LOGGED, MOST_REGIONS, NUMBERS};
+use rules::{Listed, Mark, Refusal};
 
-// What was read: T and L (0 before the head), the number of line records, the regions, the log entries.
+/// What was read of an image: T and L, the number of line records, the regions and the log entries. The first `held` places of `regions` and the first
+/// `logged` of `log` are in use. Kept: fixed memory, and no type of any element can hold an array of it.
 #[derive(Clone, Copy)]
 pub struct Scan {
     pub threads: u8,
@@ -26,15 +27,24 @@ pub struct Scan {
     pub log: [Mark; MOST_LOGGED],
 }
 
-// The answer: a refusal with empty tables, or 0 with what was read.
-#[derive(Clone, Copy)]
-pub struct Read {
-    pub refusal: u8,
-    pub scan: Scan,
+impl Scan {
+    /// The regions that were read.
+    pub fn regions(&self) -> &[Listed]
+        ensures { result.now ≡ regions_of self.now }
+    {
+        &self.regions[..self.held.min(MOST_REGIONS)]
+    }
+
+    /// The log entries that were read.
+    pub fn log(&self) -> &[Mark]
+        ensures { result.now ≡ log_of self.now }
+    {
+        &self.log[..self.logged.min(MOST_LOGGED)]
+    }
 }
 
-// What the next record is judged by: T and L, how many lines, regions and log entries came before it, the key of the last region and of the last log entry,
-// how many log entries the thread of the last one has, and the kind of the last log record, 0 before the first.
+/// What the next record is judged by: T and L, 0 before the head; how many lines, regions and log entries came before it, the key of the last region and of
+/// the last log entry, how many log entries the thread of the last one has, and the kind of the last log record, 0 before the first.
 #[derive(Clone, Copy)]
 pub struct Tally {
     pub threads: u8,
@@ -48,59 +58,69 @@ pub struct Tally {
     pub kind: u8,
 }
 
-// An old line among the log records: that of one entry of the record at a place.
+/// An old line among the log records: that of one entry of the record at a place.
 #[derive(Clone, Copy)]
 pub struct Spot {
     pub at: usize,
     pub entry: usize,
 }
 
-// A record: refused with its number; T and L; a line; a region's key, state and dependences; the key of log entries and the kind that holds them; the end.
+/// A record that is taken: T and L; a line; a region; log entries, by their key and the kind that holds them; the end.
 #[derive(Clone, Copy)]
 pub enum Item {
-    Refused(u8),
     Head(u8, u16),
     Line,
-    Region(u32, u8, u32, u32, u32, u32),
+    Region(Listed),
     Entries(u32, u8),
     End,
 }
 
-fn is_within(k: u8, low: u8, high: u8) -> bool
-    ensures { result ≡ (leb low k && leb k high) }
-{
-    low <= k && k <= high
-}
+// A place without a region.
+const NO_REGION: Listed = Listed {
+    key: 0,
+    state: 0,
+    deps: [0; MOST_DEPS],
+};
+
+// A place without a log entry.
+const NO_MARK: Mark = Mark {
+    key: 0,
+    line: 0,
+    at: 0,
+};
+
+// ---- kinds. Kept as bytes: an unknown one is told from one out of its place, and the definitions judge by the byte.
 
 // Whether a record is one of 41 to 47.
-fn is_header(k: u8) -> bool
-    ensures { result ≡ is_header k }
+fn is_header(kind: u8) -> bool
+    ensures { result ≡ is_header kind }
 {
-    is_within(k, 41, 47)
+    41 <= kind && kind <= 47
 }
 
 // Whether a record is one of an image, with `headed` of a new one too.
-fn is_kind(k: u8, headed: bool) -> bool
-    ensures { result ≡ is_kind_of headed k }
+fn is_kind(kind: u8, headed: bool) -> bool
+    ensures { result ≡ is_kind_of headed kind }
 {
-    is_within(k, 32, 36) || (headed && is_header(k))
+    (32 <= kind && kind <= 36) || (headed && is_header(kind))
 }
 
 // Whether a record holds log entries.
-fn is_log_kind(k: u8) -> bool
-    ensures { result ≡ is_log_kind k }
+fn is_log_kind(kind: u8) -> bool
+    ensures { result ≡ is_log_kind kind }
 {
-    k == 35 || is_header(k)
+    kind == 35 || is_header(kind)
 }
 
 // How many log entries a record of a log holds.
-fn held_by(k: u8) -> usize
-    ensures { result ≡ holds k }
+fn held_by(kind: u8) -> usize
+    ensures { result ≡ holds kind }
 {
-    if is_header(k) {
-        return (k - 40) as usize;
+    if is_header(kind) {
+        (kind - 40) as usize
+    } else {
+        1
     }
-    1
 }
 
 // The bytes of a body, by its kind.
@@ -108,381 +128,350 @@ fn body_length(kind: u8) -> usize
     requires { 32 ≤ kind }
     ensures { result ≡ headed_body kind }
 {
-    let table: [usize; 4] = [3, 64, 16, 68];
-    if is_header(kind) {
-        return 3 + 65 * held_by(kind);
+    match kind {
+        32 => 3,
+        33 => 64,
+        34 => 16,
+        35 => 68,
+        41..=47 => 3 + 65 * held_by(kind),
+        _ => 0,
     }
-    if 36 <= kind {
-        return 0;
-    }
-    let k = (kind - 32) as usize;
-    table[k]
 }
 
 // Whether 35 stands beside any of 41 to 47.
-fn is_beside(last: u8, k: u8) -> bool
-    ensures { result ≡ is_beside last k }
+fn is_beside(last: u8, kind: u8) -> bool
+    ensures { result ≡ is_beside last kind }
 {
-    if k == 35 {
-        return is_header(last);
-    }
-    is_header(k) && last == 35
+    (kind == 35 && is_header(last)) || (is_header(kind) && last == 35)
 }
 
-// Whether a record of this kind may stand here.
-fn is_placed(s: Tally, k: u8) -> bool
-    ensures { result ≡ placed s k }
+// ---- what the next record is judged by
+
+// Whether the thread of a key is below T.
+fn is_known(threads: u8, key: u32) -> bool
+    ensures { result ≡ is_known_thread threads key }
 {
-    if is_beside(s.kind, k) {
-        return false;
-    }
-    if s.threads == 0 {
-        return k == 32;
-    }
-    if s.seen < s.lines as usize {
-        return k == 33;
-    }
-    if s.logged == 0 {
-        return 34 <= k;
-    }
-    35 <= k
+    key / NUMBERS < threads as u32
 }
+
+impl Tally {
+    // Behind the head, or with T and L 0 before it.
+    fn new(threads: u8, lines: u16) -> Tally
+        ensures { result ≡ after_head threads lines }
+    {
+        Tally {
+            threads,
+            lines,
+            seen: 0,
+            held: 0,
+            last: 0,
+            logged: 0,
+            mark: 0,
+            count: 0,
+            kind: 0,
+        }
+    }
+
+    fn after_line(self) -> Tally
+        requires { self.seen < self.lines }
+        ensures { result ≡ after_line self }
+    {
+        Tally {
+            seen: self.seen + 1,
+            ..self
+        }
+    }
+
+    fn after_region(self, key: u32) -> Tally
+        requires { self.held < 32 }
+        ensures { result ≡ after_region self key }
+    {
+        Tally {
+            held: self.held + 1,
+            last: key,
+            ..self
+        }
+    }
+
+    fn after_entries(self, key: u32, kind: u8) -> Tally
+        requires { (self.logged ≤ 256) × (count_for self key ≤ 32) }
+        ensures { result ≡ after_entries self key kind }
+    {
+        let entries = held_by(kind);
+        Tally {
+            logged: self.logged + entries,
+            mark: key,
+            count: self.count_for(key) + entries,
+            kind,
+            ..self
+        }
+    }
+
+    // Whether a record of this kind may stand here.
+    fn is_placed(self, kind: u8) -> bool
+        ensures { result ≡ placed self kind }
+    {
+        if is_beside(self.kind, kind) {
+            return false;
+        }
+        if self.threads == 0 {
+            return kind == 32;
+        }
+        if self.seen < self.lines as usize {
+            return kind == 33;
+        }
+        if self.logged == 0 {
+            return 34 <= kind;
+        }
+        35 <= kind
+    }
+
+    // Whether a region's key rises.
+    fn rises(self, key: u32) -> bool
+        ensures { result ≡ (eqb self.held 0 || ltb self.last key) }
+    {
+        self.held == 0 || self.last < key
+    }
+
+    // How many log entries the thread of a key has.
+    fn count_for(self, key: u32) -> usize
+        ensures { result ≡ count_for self key }
+    {
+        if self.mark / NUMBERS == key / NUMBERS {
+            self.count
+        } else {
+            0
+        }
+    }
+
+    // Whether the last log record is of this region and holds fewer than seven entries.
+    fn is_behind_short(self, key: u32) -> bool
+        ensures { result ≡ behind_short self key }
+    {
+        is_header(self.kind) && (self.kind < 47 && self.mark == key)
+    }
+
+    // Where the records of the log begin: behind the head, the lines and the regions.
+    fn log_start(self) -> usize
+        requires { (self.seen ≤ self.lines) × (self.held ≤ 32) }
+        ensures { result ≡ log_start self.seen self.held }
+    {
+        4 + 65 * self.seen + 17 * self.held
+    }
+
+    // What was read, with the tables as they are filled.
+    fn scan(self, regions: [Listed; MOST_REGIONS], log: [Mark; MOST_LOGGED]) -> Scan
+        ensures { result ≡ tabled self regions log }
+    {
+        Scan {
+            threads: self.threads,
+            lines: self.lines,
+            seen: self.seen,
+            held: self.held,
+            regions,
+            logged: self.logged,
+            log,
+        }
+    }
+}
+
+// ---- the fields of a record
 
 // Thread and number at a place of a body.
-fn key_at(body: &[u8], i: usize) -> u32
-    requires { i + 3 ≤ length body.now }
-    ensures { result ≡ key_at body.now i }
+fn key_at(body: &[u8], place: usize) -> u32
+    requires { place + 3 ≤ length body.now }
+    ensures { result ≡ key_at body.now place }
 {
-    let n = lines::join8(body[i + 1], body[i + 2]);
-    lines::join16(n, body[i] as u16)
+    let number = lines::join8(body[place + 1], body[place + 2]);
+    lines::join16(number, body[place] as u16)
 }
 
 // The head: 6 for T or L out of range.
-fn head(body: &[u8]) -> Item
+fn head(body: &[u8]) -> Result<Item, Refusal>
     requires { 3 ≤ length body.now }
     ensures { result ≡ head_item body.now }
 {
-    let t = body[0];
-    let l = lines::join8(body[1], body[2]);
-    if lookup::in_range(t, l) {
-        return Item::Head(t, l);
-    }
-    Item::Refused(6)
-}
-
-// A region out of the numbers of its record.
-fn listed_of(key: u32, state: u8, a: u32, b: u32, c: u32, d: u32) -> Listed
-    ensures { result ≡ record { key = key; state = state; deps = a ∷ b ∷ c ∷ d ∷ [] } }
-{
-    Listed {
-        key: key,
-        state: state,
-        deps: [a, b, c, d],
+    let threads = body[0];
+    let lines = lines::join8(body[1], body[2]);
+    if lookup::in_range(threads, lines) {
+        Ok(Item::Head(threads, lines))
+    } else {
+        Err(Refusal::OutOfRange)
     }
 }
 
+// Kept: four dependences by their places in the record.
+#[tactic(auto, unfolding(rules::specs::Reader::listed_at))]
 fn listed_at(body: &[u8]) -> Listed
     requires { 16 ≤ length body.now }
     ensures { result ≡ listed_at body.now }
 {
-    let key = key_at(body, 0);
-    let a = key_at(body, 4);
-    let b = key_at(body, 7);
-    let c = key_at(body, 10);
-    let d = key_at(body, 13);
-    listed_of(key, body[3], a, b, c, d)
+    Listed {
+        key: key_at(body, 0),
+        state: body[3],
+        deps: [
+            key_at(body, 4),
+            key_at(body, 7),
+            key_at(body, 10),
+            key_at(body, 13),
+        ],
+    }
 }
 
-// Whether the thread of a key is below T.
-fn is_known(t: u8, k: u32) -> bool
-    ensures { result ≡ is_known_thread t k }
+// Whether the threads of the keys are below T.
+fn all_known(threads: u8, keys: &[u32]) -> bool
+    ensures { result ≡ all (is_known_thread threads) keys.now }
 {
-    k / NUMBERS < t as u32
+    keys.iter().all(|&key| is_known(threads, key))
 }
 
-// Whether the thread of the region and those of its dependences are below T.
-fn is_all_known(t: u8, r: Listed) -> bool
-    ensures { result ≡ all (is_known_thread t) (r.key ∷ r.deps) }
+// A region: 3 for a thread, its own or that of a dependence, 7 for a key that does not rise, 7 for a region too many.
+#[tactic(auto, unfolding(crate::specs::Item::region_item))]
+fn region(tally: Tally, region: Listed) -> Result<Item, Refusal>
+    ensures { result ≡ region_item tally region }
 {
-    let d = r.deps;
-    if !is_known(t, r.key) {
-        return false;
+    if !is_known(tally.threads, region.key) {
+        return Err(Refusal::NoThread);
     }
-    if !is_known(t, d[0]) {
-        return false;
+    if !all_known(tally.threads, &region.deps) {
+        return Err(Refusal::NoThread);
     }
-    if !is_known(t, d[1]) {
-        return false;
+    if !tally.rises(region.key) {
+        return Err(Refusal::OutOfPlace);
     }
-    if !is_known(t, d[2]) {
-        return false;
+    if MOST_REGIONS <= tally.held {
+        return Err(Refusal::OutOfPlace);
     }
-    is_known(t, d[3])
+    Ok(Item::Region(region))
 }
 
-// Whether a region's key rises.
-fn rises(s: Tally, k: u32) -> bool
-    ensures { result ≡ (eqb s.held 0 || ltb s.last k) }
+fn all_below(numbers: &[u8], most: u16) -> bool
+    ensures { result ≡ all (λ n. ltb n most) numbers.now }
 {
-    if s.held == 0 {
-        return true;
-    }
-    s.last < k
+    numbers.iter().all(|&number| (number as u16) < most)
 }
 
-// A region: 3 for a thread, 7 for a key that does not rise, 7 for a region too many.
-fn region(s: Tally, r: Listed) -> Item
-    ensures { result ≡ region_item s r }
+// Whether the lines of as many entries are below L.
+fn is_on_board(body: &[u8], entries: usize, lines: u16) -> bool
+    requires { 3 + entries ≤ length body.now }
+    ensures { result ≡ all (is_on_board lines) (held_in entries body.now) }
 {
-    if !is_all_known(s.threads, r) {
-        return Item::Refused(3);
-    }
-    if !rises(s, r.key) {
-        return Item::Refused(7);
-    }
-    if MOST_REGIONS <= s.held {
-        return Item::Refused(7);
-    }
-    let d = r.deps;
-    Item::Region(r.key, r.state, d[0], d[1], d[2], d[3])
-}
-
-// How many log entries the thread of a key has.
-fn count_for(s: Tally, k: u32) -> usize
-    ensures { result ≡ count_for s k }
-{
-    if s.mark / NUMBERS == k / NUMBERS {
-        return s.count;
-    }
-    0
-}
-
-// Whether the lines of n entries are below L.
-fn is_on_board(body: &[u8], n: usize, l: u16) -> bool
-    requires { 3 + n ≤ length body.now }
-    ensures { result ≡ all (is_on_board l) (held_in n body.now) }
-{
-    let mut i: usize = 0;
-    while i < n {
-        if l <= body[3 + i] as u16 {
-            return false;
-        }
-        i = i + 1;
-    }
-    true
-}
-
-// Whether the last log record is of this region and holds fewer than seven entries.
-fn is_behind_short(s: Tally, k: u32) -> bool
-    ensures { result ≡ behind_short s k }
-{
-    is_header(s.kind) && (s.kind < 47 && s.mark == k)
+    all_below(&body[3..3 + entries], lines)
 }
 
 // Log entries: 3 for their thread, 4 for any of their lines, 7 for a key that falls, 7 behind fewer than seven of their region, 7 for entries too many of
 // their thread.
-fn entries(body: &[u8], s: Tally, kind: u8) -> Item
+#[tactic(auto, using(crate::proofs::Tests::few_held), unfolding(crate::specs::Item::entries_item))]
+fn entries(body: &[u8], tally: Tally, kind: u8) -> Result<Item, Refusal>
     requires { 3 + 65 * holds kind ≤ length body.now }
-    ensures { result ≡ entries_item s kind body.now }
+    ensures { result ≡ entries_item tally kind body.now }
 {
-    let n = held_by(kind);
-    let k = key_at(body, 0);
-    if !is_known(s.threads, k) {
-        return Item::Refused(3);
+    let entries = held_by(kind);
+    let key = key_at(body, 0);
+    if !is_known(tally.threads, key) {
+        return Err(Refusal::NoThread);
     }
-    if !is_on_board(body, n, s.lines) {
-        return Item::Refused(4);
+    if !is_on_board(body, entries, tally.lines) {
+        return Err(Refusal::NoLine);
     }
-    if k < s.mark {
-        return Item::Refused(7);
+    if key < tally.mark {
+        return Err(Refusal::OutOfPlace);
     }
-    if is_behind_short(s, k) {
-        return Item::Refused(7);
+    if tally.is_behind_short(key) {
+        return Err(Refusal::OutOfPlace);
     }
-    if MOST_ENTRIES - n < count_for(s, k) {
-        return Item::Refused(7);
+    if MOST_ENTRIES - entries < tally.count_for(key) {
+        return Err(Refusal::OutOfPlace);
     }
-    Item::Entries(k, kind)
+    Ok(Item::Entries(key, kind))
 }
 
 // The end: 7 for bytes behind it.
-fn end(body: &[u8]) -> Item
+#[tactic(auto, unfolding(crate::specs::Item::end_item))]
+fn end(body: &[u8]) -> Result<Item, Refusal>
     ensures { result ≡ end_item body.now }
 {
-    if body.len() == 0 {
-        return Item::End;
+    if body.is_empty() {
+        Ok(Item::End)
+    } else {
+        Err(Refusal::OutOfPlace)
     }
-    Item::Refused(7)
 }
 
-fn fields(body: &[u8], s: Tally, k: u8) -> Item
-    requires { headed_body k ≤ length body.now }
-    ensures { result ≡ fields_item s k body.now }
+#[tactic(auto, using(crate::proofs::Tests::log_body), unfolding(crate::specs::Item::fields_item))]
+fn fields(body: &[u8], tally: Tally, kind: u8) -> Result<Item, Refusal>
+    requires { headed_body kind ≤ length body.now }
+    ensures { result ≡ fields_item tally kind body.now }
 {
-    if k == 32 {
+    if kind == 32 {
         return head(body);
     }
-    if k == 33 {
-        return Item::Line;
+    if kind == 33 {
+        return Ok(Item::Line);
     }
-    if k == 34 {
-        return region(s, listed_at(body));
+    if kind == 34 {
+        return region(tally, listed_at(body));
     }
-    if is_log_kind(k) {
-        return entries(body, s, k);
+    if is_log_kind(kind) {
+        return entries(body, tally, kind);
     }
     end(body)
 }
 
 // The record at the front: 1 if nothing is left, 2 for its kind, 7 for its place, 1 for its length, then its fields.
-fn one_record(src: &[u8], s: Tally, headed: bool) -> Item
-    ensures { result ≡ item_of headed s src.now }
+fn one_record(src: &[u8], tally: Tally, headed: bool) -> Result<Item, Refusal>
+    ensures { result ≡ item_of headed tally src.now }
 {
-    if src.len() == 0 {
-        return Item::Refused(1);
+    let [kind, body @ ..] = src else {
+        return Err(Refusal::CutShort);
+    };
+    let kind = *kind;
+    if !is_kind(kind, headed) {
+        return Err(Refusal::UnknownKind);
     }
-    let k = src[0];
-    if !is_kind(k, headed) {
-        return Item::Refused(2);
+    if !tally.is_placed(kind) {
+        return Err(Refusal::OutOfPlace);
     }
-    if !is_placed(s, k) {
-        return Item::Refused(7);
+    if body.len() < body_length(kind) {
+        return Err(Refusal::CutShort);
     }
-    let wanted = body_length(k);
-    if src.len() - 1 < wanted {
-        return Item::Refused(1);
-    }
-    fields(&src[1..], s, k)
+    fields(body, tally, kind)
 }
 
-// What the record behind is judged by.
-fn after_head(t: u8, l: u16) -> Tally
-    ensures { result ≡ after_head t l }
-{
-    Tally {
-        threads: t,
-        lines: l,
-        seen: 0,
-        held: 0,
-        last: 0,
-        logged: 0,
-        mark: 0,
-        count: 0,
-        kind: 0,
-    }
-}
-
-fn after_line(s: Tally) -> Tally
-    requires { s.seen < s.lines }
-    ensures { result ≡ after_line s }
-{
-    let mut q = s;
-    q.seen = s.seen + 1;
-    q
-}
-
-fn after_region(s: Tally, k: u32) -> Tally
-    requires { s.held < 32 }
-    ensures { result ≡ after_region s k }
-{
-    let mut q = s;
-    q.held = s.held + 1;
-    q.last = k;
-    q
-}
-
-fn after_entries(s: Tally, k: u32, kind: u8) -> Tally
-    requires { (s.logged ≤ 256) × (count_for s k ≤ 32) }
-    ensures { result ≡ after_entries s k kind }
-{
-    let n = held_by(kind);
-    let mut q = s;
-    q.logged = s.logged + n;
-    q.mark = k;
-    q.count = count_for(s, k) + n;
-    q.kind = kind;
-    q
-}
-
-// Where the records of the log begin: behind the head, the lines and the regions.
-fn log_start(s: Tally) -> usize
-    requires { (s.seen ≤ s.lines) × (s.held ≤ 32) }
-    ensures { result ≡ log_start s.seen s.held }
-{
-    4 + 65 * s.seen + 17 * s.held
-}
-
-fn no_listed() -> Listed
-    ensures { result ≡ free_listed }
-{
-    listed_of(0, 0, 0, 0, 0, 0)
-}
-
-// A log entry out of the numbers of its record and the place of its old line.
-fn mark_of(key: u32, line: u8, at: u16) -> Mark
-    ensures { result ≡ record { key = key; line = line; at = at } }
-{
-    Mark {
-        key: key,
-        line: line,
-        at: at,
-    }
-}
-
-// The answer with the tables as they are filled.
-fn read_of(refusal: u8, s: Tally, regions: [Listed; MOST_REGIONS], log: [Mark; MOST_LOGGED]) -> Read
-    ensures { result ≡ record { refusal = refusal; scan = tabled s regions log } }
-{
-    Read {
-        refusal: refusal,
-        scan: Scan {
-            threads: s.threads,
-            lines: s.lines,
-            seen: s.seen,
-            held: s.held,
-            regions: regions,
-            logged: s.logged,
-            log: log,
-        },
-    }
-}
-
-// A refusal with empty tables.
-pub fn refused(n: u8) -> Read
-    ensures { result ≡ refused_with n }
-{
-    let regions = [no_listed(); MOST_REGIONS];
-    let log = [mark_of(0, 0, 0); MOST_LOGGED];
-    read_of(n, after_head(0, 0), regions, log)
-}
+// ---- the log entries
 
 // The log entry at a spot.
-fn mark_at(src: &[u8], s: Spot) -> Mark
-    requires { old_at src.now s + 64 ≤ length src.now }
-    ensures { result ≡ mark_on src.now s }
+// Kept: the place is told modulo 65536, as `Mark` of specs/ has it.
+#[tactic(auto, using(crate::proofs::Spots::mark_is))]
+fn mark_at(src: &[u8], spot: Spot) -> Mark
+    requires { old_at src.now spot + 64 ≤ length src.now }
+    ensures { result ≡ mark_on src.now spot }
 {
-    let at = s.at;
-    let i = s.entry;
-    let old = at + 4 + held_by(src[at]) + 64 * i;
-    mark_of(key_at(src, at + 1), src[at + 4 + i], (old % 65536) as u16)
+    let old = spot.at + 4 + held_by(src[spot.at]) + 64 * spot.entry;
+    Mark {
+        key: key_at(src, spot.at + 1),
+        line: src[spot.at + 4 + spot.entry],
+        at: (old % 65536) as u16,
+    }
 }
 
 // The spot behind it: of the next entry of its record, or of the first one of the next record.
-fn next_spot(src: &[u8], s: Spot) -> Spot
-    requires { old_at src.now s + 64 ≤ length src.now }
-    ensures { result ≡ next_spot src.now s }
+#[tactic(auto, unfolding(crate::specs::Spots::next_spot))]
+fn next_spot(src: &[u8], spot: Spot) -> Spot
+    requires { old_at src.now spot + 64 ≤ length src.now }
+    ensures { result ≡ next_spot src.now spot }
 {
-    let at = s.at;
-    let n = held_by(src[at]);
-    if s.entry + 1 < n {
-        return Spot {
-            at: at,
-            entry: s.entry + 1,
-        };
-    }
-    Spot {
-        at: at + 4 + 65 * n,
-        entry: 0,
+    let entries = held_by(src[spot.at]);
+    if spot.entry + 1 < entries {
+        Spot {
+            at: spot.at,
+            entry: spot.entry + 1,
+        }
+    } else {
+        Spot {
+            at: spot.at + 4 + 65 * entries,
+            entry: 0,
+        }
     }
 }
 
@@ -491,53 +480,49 @@ fn log_marks(src: &[u8], first: usize, logged: usize) -> [Mark; MOST_LOGGED]
     requires { (all (is_inside src.now) (spots_from logged src.now (spot_at first)) ≡ true) × (logged ≤ 256) }
     ensures { result ≡ filled 256 no_mark (map (mark_on src.now) (spots_from logged src.now (spot_at first))) }
 {
-    let mut log = [mark_of(0, 0, 0); MOST_LOGGED];
-    let mut s = Spot {
+    let mut log = [NO_MARK; MOST_LOGGED];
+    let mut spot = Spot {
         at: first,
         entry: 0,
     };
-    let mut i: usize = 0;
-    while i < logged {
-        log[i] = mark_at(src, s);
-        s = next_spot(src, s);
-        i = i + 1;
+    for i in 0..logged {
+        log[i] = mark_at(src, spot);
+        spot = next_spot(src, spot);
     }
     log
 }
 
-// Record for record, until one is refused or the image is whole.
-pub fn read_records(src: &[u8], headed: bool) -> Read
-    ensures { result ≡ read_of src.now (records_read_as headed src.now) }
+// ---- the whole
+
+/// Reads an image record for record, until one is refused or the image is whole: 1 for nothing left or a record cut short, 2 for an unknown kind, 3 for a
+/// thread not below T, 4 for a line not below L, 6 for T or L out of range, 7 for a record out of its place. `headed`: of either form.
+pub fn read_records(src: &[u8], headed: bool) -> Result<Scan, Refusal>
+    ensures { by_number result ≡ read_of src.now (records_read_as headed src.now) }
 {
-    let mut s = after_head(0, 0);
-    let mut regions = [no_listed(); MOST_REGIONS];
-    let mut at: usize = 0;
+    let mut tally = Tally::new(0, 0);
+    let mut regions = [NO_REGION; MOST_REGIONS];
+    let mut at = 0;
     loop {
-        let item = one_record(&src[at..], s, headed);
+        let item = one_record(&src[at..], tally, headed)?;
         match item {
-            Item::Refused(n) => {
-                return refused(n);
-            }
-            Item::Head(t, l) => {
-                s = after_head(t, l);
+            Item::Head(threads, lines) => {
+                tally = Tally::new(threads, lines);
             }
             Item::Line => {
-                s = after_line(s);
+                tally = tally.after_line();
             }
-            Item::Region(key, state, a, b, c, d) => {
-                let i = s.held;
-                regions[i] = listed_of(key, state, a, b, c, d);
-                s = after_region(s, key);
+            Item::Region(region) => {
+                regions[tally.held] = region;
+                tally = tally.after_region(region.key);
             }
             Item::Entries(key, kind) => {
-                s = after_entries(s, key, kind);
+                tally = tally.after_entries(key, kind);
             }
             Item::End => {
-                let log = log_marks(src, log_start(s), s.logged);
-                return read_of(0, s, regions, log);
+                let log = log_marks(src, tally.log_start(), tally.logged);
+                return Ok(tally.scan(regions, log));
             }
         }
-        let kind = src[at];
-        at = at + 1 + body_length(kind);
+        at = at + 1 + body_length(src[at]);
     }
 }

@@ -1,4 +1,5 @@
 -- What the call that tells of a log entry says of a step: the entries of an accepted image have keys above 0 and lines below 256.
+use Rattle.std.specs.Prelude.{None, Option, Some}
 use Prim.Native.Nat.{◌%◌, ◌*◌, ◌+◌, ◌/◌, ◌<◌, ◌≤◌, ℕ}
 use mathlib.Core.Path.{◌≡◌, ap, refl, subst}
 use mathlib.Core.Logic.{◌≢◌}
@@ -26,8 +27,6 @@ use Rattle.rules.specs.Recovery.{restore_by}
 use Rattle.rules.specs.Refusal.{in_range}
 use Rattle.rules.specs.Tables.{number_of, thread_of}
 use Rattle.rules.specs.Walk.{walk, walk_entries}
-use Rattle.rules.specs.declared.Found.TheVariants.{At, Full}
-use Rattle.rules.specs.declared.Found.{Found}
 use Rattle.rules.specs.declared.Listed.{Listed}
 use Rattle.undo.proofs.Laws.{never, or_false, test}
 use Rattle.undo.specs.Table.{any}
@@ -161,9 +160,9 @@ left_at : (headed : Bool) (bs : List ℕ) (p : Persistent) (at : ℕ) → read_a
 unfolding read_as
 left_at headed bs p at q = go (nth (indices_in p) at) refl
   where
-    go : (g : Found) → nth (indices_in p) at ≡ g → Left p.log (drop at (walk_entries p))
-    go Full f = nothing_left (entry_none p at f)
-    go (At i) f =
+    go : (g : Option ℕ) → nth (indices_in p) at ≡ g → Left p.log (drop at (walk_entries p))
+    go None f = nothing_left (entry_none p at f)
+    go (Some i) f =
         let a = accepted (records_read_as headed bs) p q in
         let b = read_boarded headed bs p a.0 in
         let m : length (keys_of p) ≡ length p.log = length-map p.log (λ e. e.key) in

@@ -1,406 +1,312 @@
 #![tactic(auto)]
 
-// The reading half of an event: its tests on the lent rows, in the order of document 01. The refusal is the number of the first test that fails, or 0.
-// Nothing here changes a row, and every function has its answer for every content of the rows. A function takes the rows that its tests look at;
-// its contract says that the others make no difference. The last two tests of a write, 20 and 21, stand with its step, which makes the one pass over
-// the slots.
-ghost use Rattle.std.specs.Prelude.{◌-◌, ◌/◌, ℕ, ◌≡◌, ◌&&◌, not, eqb, leb};
-ghost use Rattle.measures.specs.Loan.{shown};
-ghost use Rattle.undo.specs.Table.{any};
-ghost use Rattle.rules.specs.Access.{is_of};
-ghost use Rattle.rules.specs.Refusal.{first_bad, fits, in_range, no_room_for, no_room_for_dep, no_room_in, other_party, refusal, tests_of};
-ghost use Rattle.rules.specs.Tables.{region_at};
+// Which refusal an event meets: its tests, in the order of document 01. Nothing here changes a table, and every test has its answer for every content of the tables. The
+// last two tests of a write, 20 and 21, stand with its step, which makes the one pass over the slots.
+ghost use Rattle.std.specs.Prelude.{◌≡◌, ◌<◌, ◌≤◌, ◌&&◌, cond, eqb, IfErr, IsTrue, OnOk};
+ghost use Rattle.rules.specs.Access.{needs_log};
+ghost use Rattle.rules.specs.Codes.{code, code_of};
+ghost use Rattle.rules.specs.Refusal.{depth_of, first_bad, fits, is_foreign_open, is_set_up, no_room_for, no_room_for_dep, other_party, refusal, tests_of};
+ghost use Rattle.rules.specs.Tables.{locked, region_at, thread_at};
 ghost use Rattle.rules.specs.declared.Tables.{Tables};
-ghost use Rattle.rules.specs.declared.Event.TheVariants.{Begin, Cut, DataAck, End, LogAck, Read, Setup, Write};
-ghost use Rattle.rows.specs.Row.{regions_of, thread_of};
-ghost use Rattle.rows.specs.Whole.{tables_of};
-ghost use Rattle.tables.specs.Held.{thread_held};
-ghost use Rattle.refusals.specs.Order.{before};
-ghost use Rattle.refusals.specs.Told.{ByHead, ByLocks, ByOwners, ByRegions, ByRows, ByThreads};
-ghost use Rattle.refusals.specs.Writer.{writer_of};
+ghost use Rattle.rules.specs.declared.Event.TheVariants.{Begin, Cut, DataAck, End, Fence, LogAck, Read, Setup, Write};
+ghost use Rattle.refusals.specs.Order.{before, late};
 
 use measures::{
-    LINE_BYTES, LINE_WORDS, Locks, MOST_DEPTH, MOST_ENTRIES, MOST_IN_CHANNEL, MOST_MODIFIED,
-    MOST_NUMBER, MOST_REGIONS, MOST_THREADS, NUMBERS, Owners, Regions, ThreadRow, Threads,
-    WHOLE_WORD,
+    LINE_BYTES, LINE_WORDS, MOST_DEPTH, MOST_IN_CHANNEL, MOST_MODIFIED, MOST_NUMBER, NUMBERS,
 };
-use rows::Head;
-use rules::{Event, Shares, Size};
-
-// Another uncommitted region that wrote a line last: its key, 0 if there is none, and whether it has ended or there is none.
-#[derive(Clone, Copy)]
-struct Writer {
-    key: u32,
-    ended: bool,
-}
+use rules::{Refusal, Shares, Size, Tables};
 
 // ---- the conditions
 
-// The lent memory has 64 bytes for each line.
-fn memory_fits(z: Size, l: u16) -> bool
-    ensures { result ≡ fits l z }
+// Lent memory has 64 bytes for each line.
+fn fits(lines: u16, size: Size) -> bool
+    ensures { result ≡ fits lines size }
 {
-    if z.zero {
-        return true;
-    }
-    z.lent == (LINE_BYTES as u64) * (l as u64)
+    size.zero || size.lent == LINE_BYTES as u64 * lines as u64
 }
 
-fn is_set_up(h: Head) -> bool
-    ensures { result ≡ in_range h.size.threads h.size.lines }
+fn is_set_up(tables: &Tables) -> bool
+    ensures test { result ≡ is_set_up tables.now }
+    ensures within { IsTrue result → tables.now.size.threads ≤ 8 }
 {
-    let z = h.size;
-    lookup::in_range(z.threads, z.lines)
+    lookup::in_range(tables.size.threads, tables.size.lines)
 }
 
-fn no_such_thread(h: Head, t: u8) -> bool
-    ensures { result ≡ leb h.size.threads t }
+// The owner is an open region of another thread.
+fn is_foreign_open(tables: &Tables, thread: u8, owner: u32) -> bool
+    ensures { result ≡ is_foreign_open thread owner tables.now }
 {
-    let z = h.size;
-    z.threads <= t
+    owner != 0
+        && owner / NUMBERS != thread as u32
+        && !tables::region_at(&tables.regions, owner).ended
 }
 
-fn no_such_line(h: Head, l: u8) -> bool
-    ensures { result ≡ leb h.size.lines l }
+fn other_party(party: u8) -> u8
+    ensures { result ≡ other_party party }
 {
-    let z = h.size;
-    z.lines <= l as u16
+    u8::from(party == 0)
 }
 
-// Of a line that region o wrote last, for an access by region k: no search where o is k or no region.
-fn last_writer(regions: &Regions, o: u32, k: u32) -> Writer
-    ensures { result ≡ writer_of o k (regions_of regions.now) }
+// An entry of the number that the thread would open next would leave fewer free entries in its channel than the other party's reserve still lacks there.
+fn no_room_for(tables: &Tables, thread: u8) -> bool
+    ensures { result ≡ no_room_for thread tables.now }
 {
-    rows::regions_length(regions);
-    let none = Writer {
-        key: 0,
-        ended: true,
-    };
-    if o == 0 {
-        return none;
-    }
-    if o == k {
-        return none;
-    }
-    let i = tables::place_of(regions, o);
-    if MOST_REGIONS <= i {
-        return none;
-    }
-    Writer {
-        key: o,
-        ended: tables::ended_at(regions, i),
-    }
-}
-
-// The writer is an open region of another thread than t.
-fn is_foreign(x: Writer, t: u8) -> bool
-    ensures { result ≡ (not x.ended && not (eqb (x.key / 65536) t)) }
-{
-    let other = x.key / NUMBERS != t as u32;
-    if x.ended { false } else { other }
-}
-
-fn other_party(p: u8) -> u8
-    ensures { result ≡ other_party p }
-{
-    if p == 0 { 1 } else { 0 }
-}
-
-// What is left of a reserve when `held` entries are taken from it.
-fn lack_of(reserve: u8, held: u8) -> u8
-    ensures { result ≡ reserve - held }
-{
-    if held < reserve { reserve - held } else { 0 }
-}
-
-// An entry of party p in channel c would leave fewer free entries there than the other party's reserve still lacks, which is at most that reserve.
-fn no_room_in(h: Head, regions: &Regions, c: u8, p: u8) -> bool
-    ensures { ByRegions (no_room_in c p) h (shown regions) result }
-{
-    let z = h.size;
-    let other = other_party(p);
-    let reserve = lookup::reserve_of(z.shares, other);
-    let taken = tables::count_channel(regions, c) as usize + 1;
-    if taken + reserve as usize <= MOST_IN_CHANNEL {
+    let shares = tables.size.shares;
+    let channel = lookup::channel_of(tables::last_of(tables, thread) as u32 + 1);
+    let other = other_party(lookup::party_of(shares, thread as u32));
+    let reserve = lookup::reserve_of(shares, other) as usize;
+    let taken = tables::count_channel(&tables.regions, channel) + 1;
+    // What the reserve still lacks is at most all of it.
+    if taken + reserve <= MOST_IN_CHANNEL {
         return false;
     }
-    let held = tables::count_party(regions, z.shares, c, other);
-    MOST_IN_CHANNEL < taken + lack_of(reserve, held) as usize
-}
-
-// The channel is that of the number which a begin of thread t would open.
-fn no_room_for(h: Head, threads: &Threads, regions: &Regions, t: u8) -> bool
-    ensures { ByRows (no_room_for t) h (shown threads) (shown regions) result }
-{
-    let z = h.size;
-    let c = lookup::channel_of(tables::last_of(threads, t) as u32 + 1);
-    no_room_in(h, regions, c, lookup::party_of(z.shares, t as u32))
+    let held = tables::count_party(&tables.regions, shares, channel, other);
+    MOST_IN_CHANNEL < taken + reserve.saturating_sub(held)
 }
 
 // A write that needs a log entry, on a line still locked.
-fn waits(logs: bool, locked: bool) -> bool
-    ensures { result ≡ (logs && locked) }
+fn is_held_up(tables: &Tables, key: u32, line: u8) -> bool
+    ensures { result ≡ (needs_log key line tables.now && locked line tables.now) }
 {
-    logs && locked
+    tables.owner[line as usize] != key && tables.lock[line as usize]
 }
 
-// A thread's log has a free place.
-fn has_free(row: &ThreadRow) -> bool
-    ensures { result ≡ any (is_of 0) (thread_of row.now).log }
+// Region `key` has no place for the dependence on the line's owner; none is needed on no region and on itself.
+fn lacks_dep(tables: &Tables, key: u32, owner: u32) -> bool
+    ensures { result ≡ no_room_for_dep (cond (eqb owner key) 0 owner) (region_at key tables.now.regions).deps }
 {
-    rows::thread_length(row);
-    rows::free_entry(row) < MOST_ENTRIES
-}
-
-// A write of thread t that needs a log entry, and no place for it.
-pub fn lacks_entry(threads: &Threads, t: u8, logs: bool) -> bool
-    ensures { result ≡ (logs && not (any (is_of 0) (thread_held threads.now t).log)) }
-{
-    rows::threads_length(threads);
-    if !logs {
-        return false;
-    }
-    let i = t as usize;
-    if i < MOST_THREADS {
-        !has_free(&threads[i])
-    } else {
-        false
-    }
-}
-
-// ---- tests that several events share: those of one event before a number
-
-// Setup, thread and cut: begin and end, and all tests of a fence.
-fn thread_refusal(h: Head, t: u8) -> u8
-    ensures { ByHead (λ ts. first_bad (before 12 (tests_of ts (End t)))) h result }
-{
-    if !is_set_up(h) {
-        return 6;
-    }
-    if no_such_thread(h, t) {
-        return 3;
-    }
-    if h.cut { 11 } else { 0 }
-}
-
-// Setup, line and cut: the acknowledgements.
-fn ack_refusal(h: Head, l: u8) -> u8
-    ensures { ByHead (λ ts. first_bad (before 22 (tests_of ts (LogAck l)))) h result }
-{
-    if !is_set_up(h) {
-        return 6;
-    }
-    if no_such_line(h, l) {
-        return 4;
-    }
-    if h.cut { 11 } else { 0 }
-}
-
-// The numbers of the record, cut and an open region: read and write. A read, which has no mask, is tested with that of a whole word.
-fn access_refusal(h: Head, threads: &Threads, t: u8, l: u8, w: u8, mask: u8) -> u8
-    ensures { (v : ℕ) → ByThreads (λ ts. first_bad (before 17 (tests_of ts (Write t l w mask v)))) h (shown threads) result }
-{
-    if !is_set_up(h) {
-        return 6;
-    }
-    if no_such_thread(h, t) {
-        return 3;
-    }
-    if no_such_line(h, l) {
-        return 4;
-    }
-    if LINE_WORDS <= w as usize {
-        return 5;
-    }
-    if mask == 0 {
-        return 27;
-    }
-    if h.cut {
-        return 11;
-    }
-    let depth = tables::depth_of(threads, t);
-    if depth == 0 { 12 } else { 0 }
+    owner != 0
+        && owner != key
+        && lookup::no_room_for_dep(&tables::region_at(&tables.regions, key).deps, owner)
 }
 
 // ---- the tests of each event
+//
+// Kept: each event has its list of tests whole, as document 01 has it, and the check finds each by itself; with the parts that a read and a write share in functions of their own it finds none.
 
-// z: the numbers before the setup.
-pub fn setup_refusal(z: Size, n: u8, l: u16, s: Shares) -> u8
-    ensures { (ts : Tables) → ts.size ≡ z → result ≡ refusal ts (Setup n l s) }
+/// A setup of T threads and L lines, where `size` are the numbers before it: 6, 24.
+#[tactic(auto, unfolding(rules::specs::Refusal::refusal, rules::specs::Refusal::tests_of))]
+pub fn test_setup(size: Size, threads: u8, lines: u16, shares: Shares) -> Result<(), Refusal>
+    ensures { (ts : Tables) → ts.size ≡ size → code_of result ≡ refusal ts (Setup threads lines shares) }
 {
-    if !lookup::in_range(n, l) {
-        return 6;
+    if !lookup::in_range(threads, lines) {
+        return Err(Refusal::OutOfRange);
     }
-    if !memory_fits(z, l) {
-        return 6;
+    if !fits(lines, size) {
+        return Err(Refusal::OutOfRange);
     }
-    if lookup::in_range(z.threads, z.lines) {
-        return 6;
+    if lookup::in_range(size.threads, size.lines) {
+        return Err(Refusal::OutOfRange);
     }
-    if lookup::is_unfit(n, s) { 24 } else { 0 }
+    if lookup::is_unfit(threads, shares) {
+        return Err(Refusal::UnfitParties);
+    }
+    Ok(())
 }
 
-fn begin_refusal(h: Head, threads: &Threads, regions: &Regions, t: u8) -> u8
-    ensures { ByRows (λ ts. refusal ts (Begin t)) h (shown threads) (shown regions) result }
+/// A begin: 6, 3, 11, 13, and at depth 0 the numbers, the modified list and the channel, 14, 15, 16.
+#[tactic(auto, unfolding(rules::specs::Refusal::refusal, rules::specs::Refusal::tests_of))]
+pub fn test_begin(tables: &Tables, thread: u8) -> Result<(), Refusal>
+    ensures code { code_of result ≡ refusal tables.now (Begin thread) }
+    ensures within { OnOk result ((thread < 8) × ((thread_at thread tables.now).depth < 15)) }
+    ensures number { OnOk result ((thread_at thread tables.now).depth ≡ 0 → (thread_at thread tables.now).last < 65535) }
 {
-    let c = thread_refusal(h, t);
-    if c != 0 {
-        return c;
+    if !is_set_up(tables) {
+        return Err(Refusal::OutOfRange);
     }
-    let depth = tables::depth_of(threads, t);
+    if tables.size.threads <= thread {
+        return Err(Refusal::NoThread);
+    }
+    if tables.cut {
+        return Err(Refusal::AfterCut);
+    }
+    let depth = tables::depth_of(tables, thread);
     if MOST_DEPTH <= depth {
-        return 13;
+        return Err(Refusal::TooDeep);
     }
     if depth != 0 {
-        return 0;
+        return Ok(());
     }
-    if MOST_NUMBER <= tables::last_of(threads, t) {
-        return 14;
+    if MOST_NUMBER <= tables::last_of(tables, thread) {
+        return Err(Refusal::NumbersSpent);
     }
-    if MOST_MODIFIED <= tables::count_modified(regions, t) {
-        return 15;
+    if MOST_MODIFIED as usize <= tables::count_modified(&tables.regions, thread) {
+        return Err(Refusal::ModifiedFull);
     }
-    if no_room_for(h, threads, regions, t) {
-        16
-    } else {
-        0
+    if no_room_for(tables, thread) {
+        return Err(Refusal::ChannelFull);
     }
+    Ok(())
 }
 
-fn end_refusal(h: Head, threads: &Threads, t: u8) -> u8
-    ensures { ByThreads (λ ts. refusal ts (End t)) h (shown threads) result }
+/// An end: 6, 3, 11, 12.
+#[tactic(auto, unfolding(rules::specs::Refusal::refusal, rules::specs::Refusal::tests_of))]
+pub fn test_end(tables: &Tables, thread: u8) -> Result<(), Refusal>
+    ensures { code_of result ≡ refusal tables.now (End thread) }
 {
-    let c = thread_refusal(h, t);
-    if c != 0 {
-        return c;
+    test_fence(tables, thread)?;
+    if tables::depth_of(tables, thread) == 0 {
+        return Err(Refusal::NoOpenRegion);
     }
-    let depth = tables::depth_of(threads, t);
-    if depth == 0 { 12 } else { 0 }
+    Ok(())
 }
 
-// The dependence on x, if there is one, and no place for it in region k.
-fn lacks_dep(regions: &Regions, k: u32, x: Writer) -> bool
-    ensures { result ≡ no_room_for_dep x.key (region_at k (regions_of regions.now)).deps }
+/// A read: 6, 3, 4, 5, 11, 12, 17, 19.
+#[tactic(auto, unfolding(rules::specs::Refusal::refusal, rules::specs::Refusal::tests_of))]
+pub fn test_read(tables: &Tables, thread: u8, line: u8, word: u8) -> Result<(), Refusal>
+    ensures code { code_of result ≡ refusal tables.now (Read thread line word) }
+    ensures within { OnOk result (word < 8) }
 {
-    if x.key == 0 {
-        return false;
+    if !is_set_up(tables) {
+        return Err(Refusal::OutOfRange);
     }
-    let i = tables::place_of(regions, k);
-    tables::lacks_dep(regions, i, x.key)
+    if tables.size.threads <= thread {
+        return Err(Refusal::NoThread);
+    }
+    if tables.size.lines <= line as u16 {
+        return Err(Refusal::NoLine);
+    }
+    if LINE_WORDS <= word as usize {
+        return Err(Refusal::NoWord);
+    }
+    if tables.cut {
+        return Err(Refusal::AfterCut);
+    }
+    if tables::depth_of(tables, thread) == 0 {
+        return Err(Refusal::NoOpenRegion);
+    }
+    let owner = tables::owner_of(tables, line);
+    if is_foreign_open(tables, thread, owner) {
+        return Err(Refusal::Owned);
+    }
+    if lacks_dep(tables, tables::current(tables, thread), owner) {
+        return Err(Refusal::DependencesFull);
+    }
+    Ok(())
 }
 
-fn read_refusal(
-    h: Head,
-    threads: &Threads,
-    regions: &Regions,
-    owner: &Owners,
-    t: u8,
-    l: u8,
-    w: u8,
-) -> u8
-    ensures { ByOwners (λ ts. refusal ts (Read t l w)) h (shown threads) (shown regions) (shown owner) result }
-{
-    let c = access_refusal(h, threads, t, l, w, WHOLE_WORD);
-    if c != 0 {
-        return c;
-    }
-    let k = tables::current(threads, t);
-    let x = last_writer(regions, owner[l as usize], k);
-    if is_foreign(x, t) {
-        return 17;
-    }
-    if lacks_dep(regions, k, x) { 19 } else { 0 }
-}
-
-// The tests of a write before 20.
-fn write_refusal(
-    h: Head,
-    threads: &Threads,
-    regions: &Regions,
-    owner: &Owners,
-    lock: &Locks,
-    t: u8,
-    l: u8,
-    w: u8,
+/// A write, before its last two tests: 6, 3, 4, 5, 27, 11, 12, 17, 25, 18, 19. Where it passes them, its refusal is what the last two say.
+#[tactic(auto, unfolding(rules::specs::Refusal::refusal, rules::specs::Refusal::tests_of, rules::specs::Access::needs_log))]
+pub fn test_write(
+    tables: &Tables,
+    thread: u8,
+    line: u8,
+    word: u8,
     mask: u8,
-) -> u8
-    ensures { (v : ℕ) → result ≡ first_bad (before 20 (tests_of (tables_of h threads.now regions.now owner.now lock.now) (Write t l w mask v))) }
+    value: u64,
+) -> Result<(), Refusal>
+    ensures code { code_of result ≡ first_bad (before 20 (tests_of tables.now (Write thread line word mask value))) }
+    ensures refused { IfErr result (λ r. code r ≡ refusal tables.now (Write thread line word mask value)) }
+    ensures passed { OnOk result (late thread line tables.now ≡ refusal tables.now (Write thread line word mask value)) }
 {
-    let c = access_refusal(h, threads, t, l, w, mask);
-    if c != 0 {
-        return c;
+    if !is_set_up(tables) {
+        return Err(Refusal::OutOfRange);
     }
-    let k = tables::current(threads, t);
-    let o = owner[l as usize];
-    let x = last_writer(regions, o, k);
-    if is_foreign(x, t) {
-        return 17;
+    if tables.size.threads <= thread {
+        return Err(Refusal::NoThread);
     }
-    if tables::read_elsewhere(threads, t, l) {
-        return 25;
+    if tables.size.lines <= line as u16 {
+        return Err(Refusal::NoLine);
     }
-    if waits(o != k, lock[l as usize]) {
-        return 18;
+    if LINE_WORDS <= word as usize {
+        return Err(Refusal::NoWord);
     }
-    if lacks_dep(regions, k, x) { 19 } else { 0 }
+    if mask == 0 {
+        return Err(Refusal::NoByte);
+    }
+    if tables.cut {
+        return Err(Refusal::AfterCut);
+    }
+    if tables::depth_of(tables, thread) == 0 {
+        return Err(Refusal::NoOpenRegion);
+    }
+    let owner = tables::owner_of(tables, line);
+    if is_foreign_open(tables, thread, owner) {
+        return Err(Refusal::Owned);
+    }
+    if tables::read_elsewhere(tables, thread, line) {
+        return Err(Refusal::BeingRead);
+    }
+    let key = tables::current(tables, thread);
+    if is_held_up(tables, key, line) {
+        return Err(Refusal::Locked);
+    }
+    if lacks_dep(tables, key, owner) {
+        return Err(Refusal::DependencesFull);
+    }
+    Ok(())
 }
 
-fn log_ack_refusal(h: Head, lock: &Locks, l: u8) -> u8
-    ensures { ByLocks (λ ts. refusal ts (LogAck l)) h (shown lock) result }
+// Setup, line and cut: what both acknowledgements are tested for before 22.
+#[tactic(auto, unfolding(rules::specs::Refusal::tests_of))]
+fn test_ack(tables: &Tables, line: u8) -> Result<(), Refusal>
+    ensures { code_of result ≡ first_bad (before 22 (tests_of tables.now (LogAck line))) }
 {
-    let c = ack_refusal(h, l);
-    if c != 0 {
-        return c;
+    if !is_set_up(tables) {
+        return Err(Refusal::OutOfRange);
     }
-    if lock[l as usize] { 0 } else { 22 }
+    if tables.size.lines <= line as u16 {
+        return Err(Refusal::NoLine);
+    }
+    if tables.cut {
+        return Err(Refusal::AfterCut);
+    }
+    Ok(())
 }
 
-fn data_ack_refusal(h: Head, regions: &Regions, l: u8) -> u8
-    ensures { ByRegions (λ ts. refusal ts (DataAck l)) h (shown regions) result }
+/// A log acknowledgement: 6, 4, 11, 22.
+#[tactic(auto, unfolding(rules::specs::Refusal::refusal, rules::specs::Refusal::tests_of))]
+pub fn test_log_ack(tables: &Tables, line: u8) -> Result<(), Refusal>
+    ensures { code_of result ≡ refusal tables.now (LogAck line) }
 {
-    let c = ack_refusal(h, l);
-    if c != 0 {
-        return c;
+    test_ack(tables, line)?;
+    if !tables.lock[line as usize] {
+        return Err(Refusal::NotInFlight);
     }
-    rows::regions_length(regions);
-    let place = tables::flight_place(regions, l);
-    if place < MOST_REGIONS { 0 } else { 22 }
+    Ok(())
 }
 
-fn cut_refusal(h: Head) -> u8
-    ensures { ByHead (λ ts. refusal ts Cut) h result }
+/// A data acknowledgement: 6, 4, 11, 22.
+#[tactic(auto, unfolding(rules::specs::Refusal::refusal, rules::specs::Refusal::tests_of))]
+pub fn test_data_ack(tables: &Tables, line: u8) -> Result<(), Refusal>
+    ensures { code_of result ≡ refusal tables.now (DataAck line) }
 {
-    if !is_set_up(h) {
-        return 6;
+    test_ack(tables, line)?;
+    if !tables::is_in_flight(tables, line) {
+        return Err(Refusal::NotInFlight);
     }
-    if h.cut { 11 } else { 0 }
+    Ok(())
 }
 
-// The refusal of an event by its tests before 20, which are all tests of every event but a write; 0 if it passes them.
-pub fn first_refusal(
-    h: Head,
-    threads: &Threads,
-    regions: &Regions,
-    owner: &Owners,
-    lock: &Locks,
-    e: Event,
-) -> u8
-    ensures { result ≡ first_bad (before 20 (tests_of (tables_of h threads.now regions.now owner.now lock.now) e)) }
+/// A fence: 6, 3, 11.
+#[tactic(auto, unfolding(rules::specs::Refusal::refusal, rules::specs::Refusal::tests_of))]
+pub fn test_fence(tables: &Tables, thread: u8) -> Result<(), Refusal>
+    ensures { code_of result ≡ refusal tables.now (Fence thread) }
 {
-    match e {
-        Event::Setup(n, l, s) => {
-            let z = h.size;
-            setup_refusal(z, n, l, s)
-        }
-        Event::Begin(t) => begin_refusal(h, threads, regions, t),
-        Event::End(t) => end_refusal(h, threads, t),
-        Event::Read(t, l, w) => read_refusal(h, threads, regions, owner, t, l, w),
-        Event::Write(t, l, w, mask, _) => write_refusal(
-            h, threads, regions, owner, lock, t, l, w, mask,
-        ),
-        Event::LogAck(l) => log_ack_refusal(h, lock, l),
-        Event::DataAck(l) => data_ack_refusal(h, regions, l),
-        Event::Fence(t) => thread_refusal(h, t),
-        Event::Cut => cut_refusal(h),
+    if !is_set_up(tables) {
+        return Err(Refusal::OutOfRange);
     }
+    let threads = tables.size.threads;
+    if threads <= thread {
+        return Err(Refusal::NoThread);
+    }
+    if tables.cut {
+        return Err(Refusal::AfterCut);
+    }
+    Ok(())
+}
+
+/// A cut: 6, 11.
+#[tactic(auto, unfolding(rules::specs::Refusal::refusal, rules::specs::Refusal::tests_of))]
+pub fn test_cut(tables: &Tables) -> Result<(), Refusal>
+    ensures { code_of result ≡ refusal tables.now Cut }
+{
+    if !is_set_up(tables) {
+        return Err(Refusal::OutOfRange);
+    }
+    let cut = tables.cut;
+    if cut {
+        return Err(Refusal::AfterCut);
+    }
+    Ok(())
 }

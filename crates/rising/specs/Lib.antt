@@ -1,1 +1,1 @@
--- The contracts cite the definitions of `rules`; this crate has none of its own.
+pub mod Walk

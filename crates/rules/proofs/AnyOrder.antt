@@ -16,7 +16,7 @@ use Rattle.rules.specs.declared.Tables.{Tables}
 use Rattle.undo.proofs.Laws.{and_true, flip, is_same, never, or_false, or_right, or_true, test}
 use Rattle.undo.specs.Table.{any, is_in}
 use Rattle.rules.proofs.Sim.Done.{earliest_none, without_zero}
-use Rattle.rules.proofs.Lists.{eq_both}
+use Rattle.rules.proofs.Lists.{count_le, eq_both}
 
 -- ---- commits in any order
 
@@ -235,16 +235,6 @@ unfolding commits
 earliest_in rs e = ⊎_elim (λ q. never e (ap commits q)) (λ a. a) (found no_region rs)
 
 -- if it cannot commit, no region can
-earlier_rest : (best r : Region) → commits (earlier best r) ≡ false → (commits best ≡ false) × (commits r ≡ false)
-unfolding earlier
-earlier_rest best r e =
-    test (commits r)
-    (λ c.
-    test (commits best)
-    (λ b. test (ltb r.stamp best.stamp) (λ l. never c (rw (c, b, l) at e)) (λ l. never b (rw (c, b, l) at e)))
-    (λ b. never c (rw (c, b) at e)))
-    (λ c. (rw c at e, c))
-
 -- each commit takes a place of the list
 held_most : (k : ℕ) (rs : List Region) → count is_held (map (after_commit k) rs) ≤ count is_held rs
 unfolding count after_commit
@@ -280,13 +270,6 @@ none_held (r ∷ rs) h =
     (λ g. rw g (none_held rs (rw g at h)))
     (λ g. absurd (let z : suc (count is_held rs) ≤ 0 = rw g at h in omega arith))
 
-count_length : {A : Type 0} (p : A → Bool) (xs : List A) → count p xs ≤ length xs
-unfolding count
-count_length p [] = omega arith
-count_length p (x ∷ xs) =
-    let h = count_length p xs in
-    test (p x) (λ e. rw e (omega arith)) (λ e. rw e (omega arith))
-
 -- the commits of some regions: a chain, and no region that can commit is left
 pub record Ends (rs : List Region) (s : Settled) : Type 0 where
   pub chain : Chain rs s.keys s.tables.regions
@@ -316,7 +299,7 @@ ends (suc n) ts h =
 pub settled_ends : (ts : Tables) → Ends (map done_region ts.regions) (settled ts)
 unfolding settled
 settled_ends ts =
-    let h = count_length is_held (map done_region ts.regions) in
+    let h = count_le is_held (map done_region ts.regions) in
     ends (length ts.regions) (with_regions (map done_region ts.regions) ts) (omega (arith, length-map ts.regions done_region))
 
 -- what commits in a step does not depend on the order of choice among the committable, and neither does the value, which is its number

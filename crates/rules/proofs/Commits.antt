@@ -1,4 +1,5 @@
 -- The regions that have committed, as the rules tell them over a list of records: those that were opened and are listed no more.
+use Rattle.std.specs.Prelude.{Err, Ok}
 use Prim.Native.Nat.{◌<◌, suc, zero, ℕ}
 use mathlib.Core.Path.{◌∙◌, ◌≡◌, ap, refl, sym}
 use mathlib.Core.Logic.{⊎_elim}
@@ -30,11 +31,11 @@ use Rattle.rules.specs.Record.{read_record}
 use Rattle.rules.specs.Refusal.{depth_of, refusal, tests_of}
 use Rattle.rules.specs.Run.{run}
 use Rattle.rules.specs.Step.{apply, settled_board, setup, step, step_by, step_event, step_read}
-use Rattle.rules.specs.Tables.{Board, Memory, current, fresh, listed, number_of, thread_at, thread_of, with_regions}
+use Rattle.rules.specs.Tables.{Memory, current, fresh, listed, number_of, thread_at, thread_of, with_regions}
+use Rattle.rules.specs.declared.Board.{Board}
 use Rattle.rules.specs.declared.Event.{Event}
 use Rattle.rules.specs.declared.Event.TheVariants.{Begin, Cut, DataAck, End, Fence, LogAck, Read, Setup, Write}
-use Rattle.rules.specs.declared.Reading.{Reading}
-use Rattle.rules.specs.declared.Reading.TheVariants.{Refused, Whole}
+use Rattle.rules.specs.Record.{Reading}
 use Rattle.rules.specs.declared.Region.{Region}
 use Rattle.rules.specs.declared.Tables.{Tables}
 use Rattle.undo.proofs.Laws.{and_true, never, or_true, test}
@@ -154,12 +155,12 @@ gone_after m b es ks Cut r kept p = p
 step_gone : (m : Memory) (b : Board) (es : List Account) (ks : List ℕ) (x : Reading) → Kept m b es → Gone b es ks
     → Gone (step_read b x).board (noted (step_read b x).answer.refusal x es) (commits_by (step_read b x).answer.refusal x b ++ ks)
 unfolding step_event step_by
-step_gone m b es ks (Refused zero) kept p = p
-step_gone m b es ks (Refused (suc n)) kept p = p
-step_gone m b es ks (Whole e) kept p = go (refusal b.tables e) refl
+step_gone m b es ks (Err zero) kept p = p
+step_gone m b es ks (Err (suc n)) kept p = p
+step_gone m b es ks (Ok e) kept p = go (refusal b.tables e) refl
   where
     go : (n : ℕ) → refusal b.tables e ≡ n
-        → Gone (step_by n b e).board (noted (step_by n b e).answer.refusal (Whole e) es) (commits_by (step_by n b e).answer.refusal (Whole e) b ++ ks)
+        → Gone (step_by n b e).board (noted (step_by n b e).answer.refusal (Ok e) es) (commits_by (step_by n b e).answer.refusal (Ok e) b ++ ks)
     go zero r = gone_after m b es ks e r kept p
     go (suc n) r = p
 

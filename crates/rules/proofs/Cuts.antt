@@ -1,4 +1,5 @@
 -- The board is cut exactly if a cut is among the accepted events; the commits of a step leave that, and the numbers of the setup.
+use Rattle.std.specs.Prelude.{Err, Ok}
 use Prim.Native.Nat.{suc, zero, ℕ}
 use mathlib.Core.Path.{◌∙◌, ◌≡◌, refl}
 use mathlib.Core.Bool.{Bool, false, true}
@@ -17,11 +18,11 @@ use Rattle.rules.specs.Record.{read_record}
 use Rattle.rules.specs.Refusal.{depth_of, refusal}
 use Rattle.rules.specs.Run.{run}
 use Rattle.rules.specs.Step.{apply, settled_board, setup, step, step_by, step_event, step_read}
-use Rattle.rules.specs.Tables.{Board, Memory, current, fresh, with_regions}
+use Rattle.rules.specs.Tables.{Memory, current, fresh, with_regions}
+use Rattle.rules.specs.declared.Board.{Board}
 use Rattle.rules.specs.declared.Event.{Event}
 use Rattle.rules.specs.declared.Event.TheVariants.{Begin, Cut, DataAck, End, Fence, LogAck, Read, Setup, Write}
-use Rattle.rules.specs.declared.Reading.{Reading}
-use Rattle.rules.specs.declared.Reading.TheVariants.{Refused, Whole}
+use Rattle.rules.specs.Record.{Reading}
 use Rattle.rules.specs.declared.Tables.{Tables}
 use Rattle.undo.proofs.Laws.{test}
 
@@ -62,11 +63,11 @@ apply_cut b Cut es h = refl
 step_cut : (b : Board) (x : Reading) (es : List Account) → b.tables.cut ≡ has_cut es
     → (step_read b x).board.tables.cut ≡ has_cut (noted (step_read b x).answer.refusal x es)
 unfolding step_event step_by
-step_cut b (Refused zero) es h = h
-step_cut b (Refused (suc n)) es h = h
-step_cut b (Whole e) es h = go (refusal b.tables e)
+step_cut b (Err zero) es h = h
+step_cut b (Err (suc n)) es h = h
+step_cut b (Ok e) es h = go (refusal b.tables e)
   where
-    go : (n : ℕ) → (step_by n b e).board.tables.cut ≡ has_cut (noted (step_by n b e).answer.refusal (Whole e) es)
+    go : (n : ℕ) → (step_by n b e).board.tables.cut ≡ has_cut (noted (step_by n b e).answer.refusal (Ok e) es)
     go zero = apply_cut b e es h
     go (suc n) = h
 

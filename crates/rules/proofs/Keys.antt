@@ -17,7 +17,8 @@ use Rattle.rules.specs.History.{commits_of}
 use Rattle.rules.specs.Lists.{count, place}
 use Rattle.rules.specs.Refusal.{depth_of}
 use Rattle.rules.specs.Step.{apply, settled_board, setup}
-use Rattle.rules.specs.Tables.{Board, channel_of, current, free_place, is_held, is_key, is_placed, key_of, listed, no_region, number_of, place_of, thread_at, with_regions}
+use Rattle.rules.specs.Tables.{channel_of, current, free_place, is_held, is_key, is_placed, key_of, listed, no_region, number_of, place_of, thread_at, with_regions}
+use Rattle.rules.specs.declared.Board.{Board}
 use Rattle.rules.specs.declared.Event.{Event}
 use Rattle.rules.specs.declared.Event.TheVariants.{Begin, Cut, DataAck, End, Fence, LogAck, Read, Setup, Write}
 use Rattle.rules.specs.declared.Region.{Region}

@@ -1,5 +1,6 @@
 -- Laws of the definitions: a refusal changes nothing, answers lie in the list of document 01, what commits in a step does not depend on the order of choice,
 -- a record holds bytes of its file, and a part of it is the same whatever stands behind it.
+use Rattle.std.specs.Prelude.{Err, Ok}
 use Prim.Native.Nat.{◌+◌, ◌≤◌, suc, zero, ℕ}
 use mathlib.Core.Bool.{Bool, ◌&&◌, ◌||◌, not, true}
 use mathlib.Core.List.{List, [], ◌++◌, ◌∷◌}
@@ -17,11 +18,10 @@ use Rattle.rules.specs.Lists.{all}
 use Rattle.rules.specs.Record.{body_length, event_of, is_whole, read_record, records_from, shares_at}
 use Rattle.rules.specs.Refusal.{Test, first_bad, refusal, tests_of}
 use Rattle.rules.specs.Step.{step, step_by, step_event, step_read}
-use Rattle.rules.specs.Tables.{Board}
+use Rattle.rules.specs.declared.Board.{Board}
 use Rattle.rules.specs.declared.Event.TheVariants.{Begin, Cut, DataAck, End, Fence, LogAck, Read, Setup, Write}
 use Rattle.rules.specs.declared.Event.{Event}
-use Rattle.rules.specs.declared.Reading.TheVariants.{Refused, Whole}
-use Rattle.rules.specs.declared.Reading.{Reading}
+use Rattle.rules.specs.Record.{Reading}
 use Rattle.rules.specs.declared.Tables.{Tables}
 
 -- ---- a refusal leaves the board and has the value 0
@@ -33,8 +33,8 @@ by_leaves (suc c) b e n = (refl, refl)
 
 read_leaves : (b : Board) (x : Reading) → (step_read b x).answer.refusal ≢ 0 → ((step_read b x).board ≡ b) × ((step_read b x).answer.value ≡ 0)
 unfolding step_event
-read_leaves b (Refused c) n = (refl, refl)
-read_leaves b (Whole e) n = by_leaves (refusal b.tables e) b e n
+read_leaves b (Err c) n = (refl, refl)
+read_leaves b (Ok e) n = by_leaves (refusal b.tables e) b e n
 
 pub refusal_leaves : (b : Board) (bs : List ℕ) → (step b bs).answer.refusal ≢ 0 → ((step b bs).board ≡ b) × ((step b bs).answer.value ≡ 0)
 unfolding step

@@ -2,7 +2,7 @@
 use Prim.Native.Nat.{◌<◌, ◌≤◌, suc, zero, ℕ}
 use mathlib.Core.Path.{◌≡◌, ap, refl, sym}
 use mathlib.Core.Logic.{◌≢◌}
-use mathlib.Core.Bool.{◌||◌, Bool, cond, false, false≢true, not, true}
+use mathlib.Core.Bool.{◌||◌, Bool, cond, false, false≢true, true}
 use mathlib.Core.List.{List, [], ◌∷◌, map}
 use lib.Dec.{eqb}
 use lib.ListN
@@ -15,10 +15,6 @@ use Rattle.undo.proofs.Laws.{never, or_false, or_right, test}
 use Rattle.undo.specs.Table.{any}
 
 -- ---- tests
-
-pub not_not : (a : Bool) → not (not a) ≡ a
-not_not true = refl
-not_not false = refl
 
 pub or_none : (b : Bool) → (b || false) ≡ b
 or_none true = refl
@@ -33,11 +29,6 @@ eq_both false false f g = refl
 -- ---- searches in any list
 
 module _ {A : Type 0} where
-  pub get_d_any : (xs : List A) (i : ℕ) (a b : A) → i < length xs → get_or xs i a ≡ get_or xs i b
-  get_d_any [] i a b h = absurd (omega arith)
-  get_d_any (x ∷ xs) zero a b h = refl
-  get_d_any (x ∷ xs) (suc i) a b h = get_d_any xs i a b (omega arith)
-
   -- an element after a `set`
   pub get_or_set : (xs : List A) (i j : ℕ) (x d : A) → i < length xs → get_or (set xs i x) j d ≡ cond (eqb j i) x (get_or xs j d)
   get_or_set xs i j x d h =
@@ -90,15 +81,6 @@ module _ {A : Type 0} where
   unfolding place
   place_true p [] d e = absurd (false≢true e)
   place_true p (x ∷ xs) d e = test (p x) (λ a. rw a a) (λ a. rw a (place_true p xs d (rw a at e)))
-
-  pub place_before : (p : A → Bool) (xs : List A) (i : ℕ) (d : A) → i < place p xs → p (get_or xs i d) ≡ false
-  unfolding place
-  place_before p [] i d h = absurd (omega arith)
-  place_before p (x ∷ xs) zero d h = test (p x) (λ a. let z : 0 < 0 = rw a at h in absurd (omega arith)) (λ a. a)
-  place_before p (x ∷ xs) (suc i) d h =
-      test (p x)
-      (λ a. let z : suc i < 0 = rw a at h in absurd (omega arith))
-      (λ a. let z : suc i < suc (place p xs) = rw a at h in place_before p xs i d (omega arith))
 
   -- the first that passes
   pub place_is : (p : A → Bool) (xs : List A) (i : ℕ) (d : A) → i < length xs → p (get_or xs i d) ≡ true

@@ -1,4 +1,5 @@
 -- The slot that a write takes.
+use Rattle.std.specs.Prelude.{None, Option, Some}
 use Prim.Native.Nat.{◌+◌, ◌<◌, suc, ℕ}
 use mathlib.Core.Path.{◌∙◌, ◌≡◌, refl}
 use mathlib.Core.Bool.{cond, false, false≢true, true, true≢false}
@@ -12,8 +13,6 @@ use Rattle.rules.proofs.Views.{state_of}
 use Rattle.rules.specs.Lists.{place}
 use Rattle.rules.specs.Slots.{counted, counted_slot, is_empty, is_full, or_at, slot_for, slot_from, written, written_at}
 use Rattle.rules.specs.Tables.{no_slot, with_line, with_state}
-use Rattle.rules.specs.declared.Found.{Found}
-use Rattle.rules.specs.declared.Found.TheVariants.{At, Full}
 use Rattle.rules.specs.declared.Slot.{Slot}
 use Rattle.rules.specs.declared.SlotState.TheVariants.{Empty, Waiting}
 use Rattle.undo.proofs.Laws.{flip, is_same, never, or_false, test}
@@ -79,23 +78,23 @@ fits_free l (s ∷ ss) n e =
     (λ d. rw d (is_free d (state_none l ss z.1)))
     (λ d. rw d (later z.0 (fits_free l ss z.1 (rw d at e))))
 
-pub search_named : (l : ℕ) (free : Found) (i : ℕ) (ss : List Slot) → any (named l) ss ≡ true → slot_from l free i ss ≡ At (i + place (named l) ss)
+pub search_named : (l : ℕ) (free : Option ℕ) (i : ℕ) (ss : List Slot) → any (named l) ss ≡ true → slot_from l free i ss ≡ Some (i + place (named l) ss)
 unfolding slot_from place
 search_named l free i [] e = absurd (false≢true e)
 search_named l free i (s ∷ ss) e =
     test (named l s)
     (λ d. rw (d, add-zero i))
-    (λ d. let ih : slot_from l (or_at free (is_empty s.state) i) (suc i) ss ≡ At (suc i + place (named l) ss)
+    (λ d. let ih : slot_from l (or_at free (is_empty s.state) i) (suc i) ss ≡ Some (suc i + place (named l) ss)
     = search_named l (or_at free (is_empty s.state) i) (suc i) ss (rw d at e) in
     let q : suc i + place (named l) ss ≡ i + suc (place (named l) ss) = omega arith in
     rw (d, ih, q))
 
-search_had : (l k i : ℕ) (ss : List Slot) → any (named l) ss ≡ false → slot_from l (At k) i ss ≡ At k
+search_had : (l k i : ℕ) (ss : List Slot) → any (named l) ss ≡ false → slot_from l (Some k) i ss ≡ Some k
 unfolding slot_from
 search_had l k i [] e = refl
 search_had l k i (s ∷ ss) e = let z = or_false (named l s) (any (named l) ss) e in rw z.0 (search_had l k (suc i) ss z.1)
 
-pub search_free : (l i : ℕ) (ss : List Slot) → any (named l) ss ≡ false → slot_from l Full i ss ≡ cond (any empties ss) (At (i + place empties ss)) Full
+pub search_free : (l i : ℕ) (ss : List Slot) → any (named l) ss ≡ false → slot_from l None i ss ≡ cond (any empties ss) (Some (i + place empties ss)) None
 unfolding slot_from place
 search_free l i [] e = refl
 search_free l i (s ∷ ss) e =
@@ -117,7 +116,7 @@ wrote_at : (ls : List ℕ) (l : ℕ) (ss : List Slot) → is_full (slot_for l ss
 unfolding written
 wrote_at ls l ss e =
     test (any (named l) ss)
-    (λ d. at (place (named l) ss) (fits_named l ss d) (rw (search_named l Full 0 ss d, zero-add (place (named l) ss))))
+    (λ d. at (place (named l) ss) (fits_named l ss d) (rw (search_named l None 0 ss d, zero-add (place (named l) ss))))
     (λ d. test (any empties ss)
     (λ f. at (place empties ss) (fits_free l ss d f) (rw (search_free l 0 ss d, f, zero-add (place empties ss))))
     (λ f. absurd (true≢false (rw (search_free l 0 ss d, f) at e))))
@@ -126,9 +125,9 @@ pub length_written : (ls : List ℕ) (l : ℕ) (ss : List Slot) → length (writ
 unfolding written
 length_written ls l ss = go (slot_for l ss)
   where
-    go : (f : Found) → length (written_at ls l f ss) ≡ length ss
-    go (At p) = length-set (map (counted_slot ls) ss) p (waiting l) ∙ length-map ss (counted_slot ls)
-    go Full = refl
+    go : (f : Option ℕ) → length (written_at ls l f ss) ≡ length ss
+    go (Some p) = length-set (map (counted_slot ls) ss) p (waiting l) ∙ length-map ss (counted_slot ls)
+    go None = refl
 
 module _ (ls : List ℕ) (ss : List Slot) (l : ℕ) (room : is_full (slot_for l ss) ≡ false) where
   pub state_written : state_of l (written ls l ss) ≡ Waiting 0

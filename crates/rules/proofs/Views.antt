@@ -7,7 +7,8 @@ use lib.Dec.{eqb, leb}
 use lib.ListN.{get_or}
 use Rattle.rules.specs.History.{Account, opened_in}
 use Rattle.rules.specs.Slots.{names}
-use Rattle.rules.specs.Tables.{Board, line_of, no_entry, number_of, region_at, thread_at, thread_of}
+use Rattle.rules.specs.Tables.{line_of, no_entry, number_of, region_at, thread_at, thread_of}
+use Rattle.rules.specs.declared.Board.{Board}
 use Rattle.rules.specs.declared.Entry.{Entry}
 use Rattle.rules.specs.declared.Slot.{Slot}
 use Rattle.rules.specs.declared.SlotState.{SlotState}

@@ -6,7 +6,8 @@ use Rattle.rules.specs.Flight.{flown}
 use Rattle.rules.specs.Lists.{count, place}
 use Rattle.rules.specs.Slots.{renewed, written}
 use Rattle.rules.specs.Measures.{most_entries, word_bits}
-use Rattle.rules.specs.Tables.{Board, current, line_of, no_entry, owner_of, region_at, thread_at, with_cur, with_deps, with_lock, with_log, with_old, with_owner, with_reads, with_recent, with_region, with_slots, with_tables, with_thread, with_write}
+use Rattle.rules.specs.Tables.{current, line_of, no_entry, owner_of, region_at, thread_at, with_cur, with_deps, with_lock, with_log, with_old, with_owner, with_reads, with_recent, with_region, with_slots, with_tables, with_thread, with_write}
+use Rattle.rules.specs.declared.Board.{Board}
 use Rattle.rules.specs.declared.Entry.{Entry}
 use Rattle.rules.specs.declared.Region.{Region}
 use Rattle.rules.specs.declared.Tables.{Tables}
@@ -66,7 +67,7 @@ fresh_entry t k l ts = with_write k l (count (is_of k) (thread_at t ts).log) no_
 -- region k of thread t logs line l
 unfoldable pub logged : ℕ → ℕ → ℕ → Board → Board
 logged t k l b =
-    with_old (set b.old (most_entries * t + free_entry t b.tables) (line_of l b.cur))
+    with_old (set b.log_lines (most_entries * t + free_entry t b.tables) (line_of l b.cur))
     (with_tables
     (with_thread t
     (with_log (set (thread_at t b.tables).log (free_entry t b.tables) (fresh_entry t k l b.tables)) (thread_at t b.tables))

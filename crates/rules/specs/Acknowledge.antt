@@ -3,7 +3,8 @@ use Rattle.std.specs.Prelude.{ℕ, Bool, ◌&&◌, cond, false, true, List, map,
 use Rattle.rules.specs.Flight.{flown}
 use Rattle.rules.specs.Lists.{place}
 use Rattle.rules.specs.Slots.{carries}
-use Rattle.rules.specs.Tables.{Board, is_key, line_of, no_region, no_slot, thread_at, thread_of, with_lock, with_log, with_med, with_persistent, with_regions, with_slots, with_tables, with_thread}
+use Rattle.rules.specs.Tables.{is_key, line_of, no_region, no_slot, thread_at, thread_of, with_lock, with_log, with_med, with_persistent, with_regions, with_slots, with_tables, with_thread}
+use Rattle.rules.specs.declared.Board.{Board}
 use Rattle.rules.specs.declared.Entry.{Entry}
 use Rattle.rules.specs.declared.Region.{Region}
 use Rattle.rules.specs.declared.Slot.{Slot}

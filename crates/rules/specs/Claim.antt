@@ -6,7 +6,8 @@ use Rattle.rules.specs.Lists.{all}
 use Rattle.rules.specs.Reader.{Reads, image_body, read_image}
 use Rattle.rules.specs.Recovery.{Act, PowerCut, Recovering, act, acts, is_finished, restore}
 use Rattle.rules.specs.Run.{run}
-use Rattle.rules.specs.Tables.{Board, Lent, Memory, Zero, fresh}
+use Rattle.rules.specs.Tables.{Lent, Memory, Zero, fresh}
+use Rattle.rules.specs.declared.Board.{Board}
 
 -- the board after a list of event calls
 abbrev pub board_after : Memory → List (List ℕ) → Board

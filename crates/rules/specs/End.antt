@@ -1,7 +1,8 @@
 -- "End to depth 0 ends the region; to other depths only the depth falls."
 use Rattle.std.specs.Prelude.{◌%◌, ◌+◌, ◌-◌, ℕ}
 use Rattle.rules.specs.Flight.{flown}
-use Rattle.rules.specs.Tables.{Board, current, no_reads, region_at, thread_at, with_clock, with_depth, with_end, with_reads, with_region, with_tables, with_thread}
+use Rattle.rules.specs.Tables.{current, no_reads, region_at, thread_at, with_clock, with_depth, with_end, with_reads, with_region, with_tables, with_thread}
+use Rattle.rules.specs.declared.Board.{Board}
 use Rattle.rules.specs.declared.Region.{Region}
 use Rattle.rules.specs.declared.Tables.{Tables}
 

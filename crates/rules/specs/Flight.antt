@@ -3,7 +3,8 @@
 -- that owns the line: after each of these events the slots of that region are looked through.
 use Rattle.std.specs.Prelude.{ℕ}
 use Rattle.rules.specs.Slots.{carried, flown_slots}
-use Rattle.rules.specs.Tables.{Board, region_at, with_car, with_region, with_slots, with_tables}
+use Rattle.rules.specs.Tables.{region_at, with_car, with_region, with_slots, with_tables}
+use Rattle.rules.specs.declared.Board.{Board}
 
 -- region k's slots fly where they can
 unfoldable pub flown : ℕ → Board → Board

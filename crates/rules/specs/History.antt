@@ -1,5 +1,5 @@
 -- The words of demand 3, by the event list alone. A list of accepted events stands newest first here, each as its account: what is behind one came before it.
-use Rattle.std.specs.Prelude.{◌+◌, ◌-◌, suc, zero, ℕ, Bool, ◌&&◌, ◌||◌, cond, false, not, true, List, [], ◌++◌, ◌∷◌, eqb, ltb, drop, take}
+use Rattle.std.specs.Prelude.{◌+◌, ◌-◌, suc, zero, ℕ, Bool, ◌&&◌, ◌||◌, cond, false, not, true, List, [], ◌++◌, ◌∷◌, eqb, ltb, drop, take, Err, Ok}
 use Rattle.rules.specs.Access.{change_line, stored_in}
 use Rattle.rules.specs.Acknowledge.{data_ack, log_ack}
 use Rattle.rules.specs.Bytes.{line_bytes, num_of}
@@ -10,11 +10,11 @@ use Rattle.rules.specs.Record.{read_record}
 use Rattle.rules.specs.Recovery.{line_start}
 use Rattle.rules.specs.Refusal.{depth_of}
 use Rattle.rules.specs.Step.{step}
-use Rattle.rules.specs.Tables.{Board, Memory, fresh, key_of, start_lines}
+use Rattle.rules.specs.Tables.{Memory, fresh, key_of, start_lines}
+use Rattle.rules.specs.declared.Board.{Board}
 use Rattle.rules.specs.declared.Event.{Event}
 use Rattle.rules.specs.declared.Event.TheVariants.{Begin, Cut, DataAck, End, Fence, LogAck, Read, Setup, Write}
-use Rattle.rules.specs.declared.Reading.{Reading}
-use Rattle.rules.specs.declared.Reading.TheVariants.{Refused, Whole}
+use Rattle.rules.specs.Record.{Reading}
 use Rattle.rules.specs.declared.Shares.{Shares}
 use Rattle.undo.specs.Table.{any, is_in}
 
@@ -48,8 +48,8 @@ account_of Cut = Cuts
 
 -- the event of a step, if it was accepted
 abbrev pub noted : ℕ → Reading → List Account → List Account
-noted zero (Whole e) es = account_of e ∷ es
-noted zero (Refused n) es = es
+noted zero (Ok e) es = account_of e ∷ es
+noted zero (Err n) es = es
 noted (suc c) x es = es
 
 -- the accepted events of a list of records, newest first, before those already noted
@@ -215,8 +215,8 @@ commits_of (Fence t) b = []
 commits_of Cut b = []
 
 abbrev pub commits_by : ℕ → Reading → Board → List ℕ
-commits_by zero (Whole e) b = commits_of e b
-commits_by zero (Refused n) b = []
+commits_by zero (Ok e) b = commits_of e b
+commits_by zero (Err n) b = []
 commits_by (suc c) x b = []
 
 -- the regions that commit in a list of records, before those already noted

@@ -5,7 +5,8 @@ use Rattle.rules.specs.Lists.{flat, place, rising}
 use Rattle.rules.specs.Measures.{most_deps, most_entries, most_threads}
 use Rattle.rules.specs.Refusal.{is_set_up}
 use Rattle.rules.specs.Run.{Wrote, run_file, wrote_into}
-use Rattle.rules.specs.Tables.{Board, Lent, is_key, line_of, no_entry, no_region, number_of, thread_at, thread_of}
+use Rattle.rules.specs.Tables.{Lent, is_key, line_of, no_entry, no_region, number_of, thread_at, thread_of}
+use Rattle.rules.specs.declared.Board.{Board}
 use Rattle.rules.specs.declared.Entry.{Entry}
 use Rattle.rules.specs.declared.Listed.{Listed}
 use Rattle.rules.specs.declared.Region.{Region}
@@ -67,7 +68,7 @@ saved_entry t log old o =
 
 -- "by thread, oldest write first"
 unfoldable pub saved_thread : ℕ → Board → List Logged
-saved_thread t b = map (saved_entry t (thread_at t b.tables).log b.old) (rising (map order_of (thread_at t b.tables).log))
+saved_thread t b = map (saved_entry t (thread_at t b.tables).log b.log_lines) (rising (map order_of (thread_at t b.tables).log))
 
 -- the entries of n threads from thread t on
 unfoldable pub saved_log : ℕ → ℕ → Board → List Logged

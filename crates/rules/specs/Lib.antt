@@ -11,6 +11,7 @@ pub mod Access
 pub mod Commit
 pub mod Acknowledge
 pub mod End
+pub mod Codes
 pub mod Refusal
 pub mod Step
 pub mod Run

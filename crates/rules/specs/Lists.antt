@@ -1,4 +1,5 @@
 -- Searches in lists: how many, which one is first, which are different, and numbers in rising order.
+use Rattle.std.specs.List.{list_all}
 use Rattle.std.specs.Prelude.{suc, zero, ℕ, Bool, ◌&&◌, ◌||◌, cond, false, not, true, List, [], ◌++◌, ◌∷◌, eqb, ltb, length}
 use Rattle.undo.specs.Table.{keep}
 
@@ -15,8 +16,7 @@ module _ {A : Type 0} where
 
   -- every element passes
   abbrev pub all : (A → Bool) → List A → Bool
-  all p [] = true
-  all p (x ∷ xs) = p x && all p xs
+  all p xs = list_all p xs
 
 -- the different numbers of a list, each where it stands first
 unfoldable pub different : List ℕ → List ℕ

@@ -1,12 +1,10 @@
 -- "One byte of kind, then a body whose length the kind fixes": the reader of event records, by the table of kinds.
-use Rattle.std.specs.Prelude.{suc, zero, ℕ, Bool, cond, false, true, List, [], ◌∷◌, eqb, ltb, drop, get_or, length, take}
+use Rattle.std.specs.Prelude.{suc, zero, ℕ, Bool, cond, false, true, List, [], ◌∷◌, eqb, ltb, drop, get_or, length, take, Err, Ok, Result}
 use Rattle.rules.specs.Bytes.{num_of}
 use Rattle.rules.specs.Kinds.{body_lengths, is_kind}
 use Rattle.rules.specs.Measures.{whole_word}
 use Rattle.rules.specs.declared.Event.{Event}
 use Rattle.rules.specs.declared.Event.TheVariants.{Begin, Cut, DataAck, End, Fence, LogAck, Read, Setup, Write}
-use Rattle.rules.specs.declared.Reading.{Reading}
-use Rattle.rules.specs.declared.Reading.TheVariants.{Refused, Whole}
 use Rattle.rules.specs.declared.Shares.{Shares}
 
 -- the bytes of the body of a kind
@@ -31,17 +29,21 @@ event_of k body =
     (cond (eqb k 7) (Fence (get_or body 0 0))
     (cond (eqb k 10) (Write (get_or body 0 0) (get_or body 1 0) (get_or body 2 0) (get_or body 3 0) (num_of (take 8 (drop 4 body)))) Cut))))))))
 
+-- what a record is: an event, or the number of a refusal
+abbrev pub Reading : Type 0
+Reading = Result Event ℕ
+
 -- "2 unknown kind (in an event not 0 to 8)": no kind's number, so that 10 is known and 9 is not. "1 record cut short or empty (bytes behind a whole record are
 -- not looked at)." "Event order: 2, 1, .."
 unfoldable pub read_record : List ℕ → Reading
-read_record [] = Refused 1
+read_record [] = Err 1
 read_record (k ∷ body) =
-    cond (is_kind k) (cond (ltb (length body) (body_length k)) (Refused 1) (Whole (event_of k body))) (Refused 2)
+    cond (is_kind k) (cond (ltb (length body) (body_length k)) (Err 1) (Ok (event_of k body))) (Err 2)
 
 -- a record that does not end its file
 abbrev pub is_whole : Reading → Bool
-is_whole (Refused n) = false
-is_whole (Whole e) = true
+is_whole (Err n) = false
+is_whole (Ok e) = true
 
 -- the records of a file, each with all that stands behind it, where k bytes are still to pass before the next one
 -- "1 and 2 end an event file; a file that stops behind a whole record, or is empty, ends without a refusal"

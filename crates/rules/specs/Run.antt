@@ -4,7 +4,8 @@ use Rattle.rules.specs.Bytes.{bytes_of, paste}
 use Rattle.rules.specs.Lists.{flat}
 use Rattle.rules.specs.Record.{records_of, shares_at}
 use Rattle.rules.specs.Step.{step, step_event}
-use Rattle.rules.specs.Tables.{Board, Lent, Memory, fresh}
+use Rattle.rules.specs.Tables.{Lent, Memory, fresh}
+use Rattle.rules.specs.declared.Board.{Board}
 use Rattle.rules.specs.declared.Answer.{Answer}
 use Rattle.rules.specs.declared.Event.TheVariants.{Setup}
 

@@ -1,10 +1,8 @@
 -- The slots of a region: "each slot is empty, waiting with its count, or in flight".
-use Rattle.std.specs.Prelude.{suc, ℕ, Bool, ◌&&◌, ◌||◌, cond, false, not, true, List, [], ◌∷◌, map, eqb, get_or, set, take}
+use Rattle.std.specs.Prelude.{suc, ℕ, Bool, ◌&&◌, ◌||◌, cond, false, not, true, List, [], ◌∷◌, map, eqb, get_or, set, take, None, Option, Some}
 use Rattle.rules.specs.Lists.{place}
 use Rattle.rules.specs.Measures.{ripe_count}
 use Rattle.rules.specs.Tables.{line_of, no_slot, with_line, with_state}
-use Rattle.rules.specs.declared.Found.{Found}
-use Rattle.rules.specs.declared.Found.TheVariants.{At, Full}
 use Rattle.rules.specs.declared.Region.{Region}
 use Rattle.rules.specs.declared.Slot.{Slot}
 use Rattle.rules.specs.declared.SlotState.{SlotState}
@@ -38,21 +36,21 @@ has_slot r = any (λ s. not (is_empty s.state)) r.slots
 -- ---- "The line gets a slot if none of the region's slots names it"
 
 -- the first empty slot seen, if there was none before
-abbrev pub or_at : Found → Bool → ℕ → Found
-or_at (At k) e i = At k
-or_at Full e i = cond e (At i) Full
+abbrev pub or_at : Option ℕ → Bool → ℕ → Option ℕ
+or_at (Some k) e i = Some k
+or_at None e i = cond e (Some i) None
 
 -- the slot that names the line, else the first empty one, from slot i on, where `free` is the first empty one before it
-unfoldable pub slot_from : ℕ → Found → ℕ → List Slot → Found
+unfoldable pub slot_from : ℕ → Option ℕ → ℕ → List Slot → Option ℕ
 slot_from l free i [] = free
-slot_from l free i (s ∷ ss) = cond (names l s.state s.line) (At i) (slot_from l (or_at free (is_empty s.state) i) (suc i) ss)
+slot_from l free i (s ∷ ss) = cond (names l s.state s.line) (Some i) (slot_from l (or_at free (is_empty s.state) i) (suc i) ss)
 
-abbrev pub slot_for : ℕ → List Slot → Found
-slot_for l ss = slot_from l Full 0 ss
+abbrev pub slot_for : ℕ → List Slot → Option ℕ
+slot_for l ss = slot_from l None 0 ss
 
-abbrev pub is_full : Found → Bool
-is_full (At k) = false
-is_full Full = true
+abbrev pub is_full : Option ℕ → Bool
+is_full (Some k) = false
+is_full None = true
 
 -- ---- request 2: "A slot's count is the number of different other lines the region has written since its last write of this line, up to 4. This replaces the
 -- counting in document 01."
@@ -77,9 +75,9 @@ abbrev pub counted_slot : List ℕ → Slot → Slot
 counted_slot ls s = with_state (counted ls s.line s.state) s
 
 -- "that slot waits with count 0, and if it was in flight the flight is taken back"
-abbrev pub written_at : List ℕ → ℕ → Found → List Slot → List Slot
-written_at ls l (At k) ss = set (map (counted_slot ls) ss) k (with_state (Waiting 0) (with_line l no_slot))
-written_at ls l Full ss = ss
+abbrev pub written_at : List ℕ → ℕ → Option ℕ → List Slot → List Slot
+written_at ls l (Some k) ss = set (map (counted_slot ls) ss) k (with_state (Waiting 0) (with_line l no_slot))
+written_at ls l None ss = ss
 
 -- the slots after a write of line l, where ls are the region's last four different lines, l the newest
 unfoldable pub written : List ℕ → ℕ → List Slot → List Slot

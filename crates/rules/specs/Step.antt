@@ -1,5 +1,5 @@
 -- A step: what an accepted event does and the value of its answer; a refusal changes nothing and has the value 0.
-use Rattle.std.specs.Prelude.{suc, zero, ℕ, Bool, ◌&&◌, cond, not, true, List, eqb, get_or, length}
+use Rattle.std.specs.Prelude.{suc, zero, ℕ, Bool, ◌&&◌, cond, not, true, List, eqb, get_or, length, Err, Ok}
 use Rattle.rules.specs.Access.{note_read, read, stored_in, write}
 use Rattle.rules.specs.Acknowledge.{data_ack, log_ack}
 use Rattle.rules.specs.Begin.{begin}
@@ -8,12 +8,12 @@ use Rattle.rules.specs.End.{end_region, shallower}
 use Rattle.rules.specs.Lists.{count}
 use Rattle.rules.specs.Record.{read_record}
 use Rattle.rules.specs.Refusal.{depth_of, is_of_thread, refusal}
-use Rattle.rules.specs.Tables.{Board, current, is_held, is_key, line_of, with_cut, with_numbers, with_size, with_tables}
+use Rattle.rules.specs.Tables.{current, is_held, is_key, line_of, with_cut, with_numbers, with_size, with_tables}
+use Rattle.rules.specs.declared.Board.{Board}
 use Rattle.rules.specs.declared.Answer.{Answer}
 use Rattle.rules.specs.declared.Event.{Event}
 use Rattle.rules.specs.declared.Event.TheVariants.{Begin, Cut, DataAck, End, Fence, LogAck, Read, Setup, Write}
-use Rattle.rules.specs.declared.Reading.{Reading}
-use Rattle.rules.specs.declared.Reading.TheVariants.{Refused, Whole}
+use Rattle.rules.specs.Record.{Reading}
 use Rattle.rules.specs.declared.Region.{Region}
 use Rattle.rules.specs.declared.Shares.{Shares}
 use Rattle.rules.specs.declared.Tables.{Tables}
@@ -80,8 +80,8 @@ unfoldable pub step_event : Board → Event → Stepped
 step_event b e = step_by (refusal b.tables e) b e
 
 abbrev pub step_read : Board → Reading → Stepped
-step_read b (Refused n) = refused n b
-step_read b (Whole e) = step_event b e
+step_read b (Err n) = refused n b
+step_read b (Ok e) = step_event b e
 
 -- one event call: a record of any content
 unfoldable pub step : Board → List ℕ → Stepped

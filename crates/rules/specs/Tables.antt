@@ -3,6 +3,7 @@ use Rattle.std.specs.Prelude.{◌%◌, ◌*◌, ◌+◌, ◌/◌, suc, zero, ℕ
 use Rattle.rules.specs.Bytes.{line_at}
 use Rattle.rules.specs.Lists.{place}
 use Rattle.rules.specs.Measures.{line_words, most_deps, most_entries, most_lines, most_logged, most_regions, most_slots, most_threads, read_words, ripe_count}
+pub use Rattle.rules.specs.declared.Board.{Board}
 use Rattle.rules.specs.declared.Entry.{Entry}
 use Rattle.rules.specs.declared.Region.{Region}
 use Rattle.rules.specs.declared.Shares.{Shares}
@@ -13,15 +14,6 @@ use Rattle.rules.specs.declared.SlotState.TheVariants.{Empty}
 use Rattle.rules.specs.declared.Tables.{Tables}
 use Rattle.rules.specs.declared.Thread.{Thread}
 use Rattle.undo.specs.Table.{any}
-
--- the tables and the four line memories: current memory, the medium, the old lines of the log (entry k of thread t at 32 * t + k), and the line that
--- the flight of each line carries ("at most one flight per line exists")
-pub record Board : Type 0 where
-  pub tables : Tables
-  pub cur : List (List ℕ)
-  pub med : List (List ℕ)
-  pub old : List (List ℕ)
-  pub car : List (List ℕ)
 
 -- ---- what a free place holds
 
@@ -97,7 +89,7 @@ fresh m =
       tables = fresh_tables (is_zero m) (lent_length m);
       cur = start_lines m;
       med = start_lines m;
-      old = replicate most_logged no_line;
+      log_lines = replicate most_logged no_line;
       car = replicate most_lines no_line;
     }
 
@@ -234,19 +226,19 @@ abbrev pub with_reads : List ℕ → Thread → Thread
 with_reads rs th = record { depth = th.depth; last = th.last; log = th.log; reads = rs }
 
 abbrev pub with_tables : Tables → Board → Board
-with_tables ts b = record { tables = ts; cur = b.cur; med = b.med; old = b.old; car = b.car }
+with_tables ts b = record { tables = ts; cur = b.cur; med = b.med; log_lines = b.log_lines; car = b.car }
 
 abbrev pub with_cur : List (List ℕ) → Board → Board
-with_cur m b = record { tables = b.tables; cur = m; med = b.med; old = b.old; car = b.car }
+with_cur m b = record { tables = b.tables; cur = m; med = b.med; log_lines = b.log_lines; car = b.car }
 
 abbrev pub with_med : List (List ℕ) → Board → Board
-with_med m b = record { tables = b.tables; cur = b.cur; med = m; old = b.old; car = b.car }
+with_med m b = record { tables = b.tables; cur = b.cur; med = m; log_lines = b.log_lines; car = b.car }
 
 abbrev pub with_old : List (List ℕ) → Board → Board
-with_old m b = record { tables = b.tables; cur = b.cur; med = b.med; old = m; car = b.car }
+with_old m b = record { tables = b.tables; cur = b.cur; med = b.med; log_lines = m; car = b.car }
 
 abbrev pub with_car : List (List ℕ) → Board → Board
-with_car m b = record { tables = b.tables; cur = b.cur; med = b.med; old = b.old; car = m }
+with_car m b = record { tables = b.tables; cur = b.cur; med = b.med; log_lines = b.log_lines; car = m }
 
 -- ---- and at a place of a list
 

@@ -1,5 +1,5 @@
-pub mod Emit
-pub mod Gathered
+pub mod Mapped
+pub mod Parts
 pub mod Headers
-pub mod Records
+pub mod Turns
 pub mod Whole

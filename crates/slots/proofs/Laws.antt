@@ -1,4 +1,5 @@
 -- The last four different lines one by one, and one turn of the pass and of the flight, at an index of the array.
+use Rattle.std.specs.Prelude.{None, Option, Some}
 use Prim.Native.Nat.{◌+◌, ◌<◌, ◌≤◌, suc, ℕ}
 use mathlib.Core.Path.{◌≡◌, refl}
 use mathlib.Core.Bool.{Bool, ◌||◌, cond, false, true}
@@ -12,8 +13,6 @@ use Rattle.lookup.proofs.Search.{four}
 use Rattle.rules.specs.Lists.{place}
 use Rattle.rules.specs.Slots.{carried, flies, is_empty, names, or_at, renewed, slot_from, without_line}
 use Rattle.rules.specs.Tables.{line_of}
-use Rattle.rules.specs.declared.Found.{Found}
-use Rattle.rules.specs.declared.Found.TheVariants.{At, Full}
 use Rattle.rules.specs.declared.Slot.{Slot}
 use Rattle.slots.specs.Pass.{or_else}
 use Rattle.undo.proofs.Laws.{test}
@@ -47,12 +46,12 @@ module _ (ls : List ℕ) (l : ℕ) (h : length ls ≡ 4) where
 
 -- The slot for line l: `named` and `free` are what the slots below i gave, and q differs from the slots at the start only there
 
-or_turn : (f : Found) (hit : Bool) (i : ℕ) (rest : Found) → or_else f (cond hit (At i) rest) ≡ or_else (or_at f hit i) rest
-or_turn (At k) hit i rest = refl
-or_turn Full true i rest = refl
-or_turn Full false i rest = refl
+or_turn : (f : Option ℕ) (hit : Bool) (i : ℕ) (rest : Option ℕ) → or_else f (cond hit (Some i) rest) ≡ or_else (or_at f hit i) rest
+or_turn (Some k) hit i rest = refl
+or_turn None true i rest = refl
+or_turn None false i rest = refl
 
-module _ (l : ℕ) (named free : Found) (i : ℕ) (q : List Slot) where
+module _ (l : ℕ) (named free : Option ℕ) (i : ℕ) (q : List Slot) where
   pub found_more : (d x : Slot) → i < length q →
       or_else named (slot_from l free i (drop i q))
       ≡ or_else (or_at named (names l (get_or q i d).state (get_or q i d).line) i)

@@ -8,6 +8,7 @@ use lib.Dec.{eqb, ltb}
 use lib.ListN.{length, length-append}
 use native.Mathlib.Omega.{arith}
 use native.Mathlib.Nat.{div-lt_iff_lt-mul, pow-suc}
+use Rattle.std.specs.Prelude.{None, Option, Some}
 use Rattle.rules.specs.Lists.{all, flat}
 use Rattle.parsing.proofs.Numbers.{digit_not, is_number}
 use Rattle.parsing.proofs.Reading.{glued_line}
@@ -15,24 +16,22 @@ use Rattle.parsing.proofs.Words.{space_passed, word_start_lem, words_empty}
 use Rattle.parsing.specs.Read.{in_word, is_break, lines_of, number_from, with_digit, words_in}
 use Rattle.output.specs.Decimal.{decimal, digits}
 use Rattle.printing.specs.Text.{line_text, number_text}
-use Rattle.parsing.specs.declared.Number.{Number}
-use Rattle.parsing.specs.declared.Number.TheVariants.{Is, Not}
 use Rattle.undo.proofs.Laws.{and_true, test}
 
 -- ---- digits
 
-number_join : (m : ℕ) (n : Number) (xs ys : List ℕ) → number_from m n (xs ++ ys) ≡ number_from m (number_from m n xs) ys
+number_join : (m : ℕ) (n : Option ℕ) (xs ys : List ℕ) → number_from m n (xs ++ ys) ≡ number_from m (number_from m n xs) ys
 unfolding number_from
 number_join m n [] ys = refl
-number_join m Not (x ∷ xs) ys = sym (digit_not m ys)
-number_join m (Is v) (x ∷ xs) ys = number_join m (with_digit m v x) xs ys
+number_join m None (x ∷ xs) ys = sym (digit_not m ys)
+number_join m (Some v) (x ∷ xs) ys = number_join m (with_digit m v x) xs ys
 
-digit_back : (m v d : ℕ) → d < 10 → 10 * v + d ≤ m → with_digit m v (48 + d) ≡ Is (10 * v + d)
+digit_back : (m v d : ℕ) → d < 10 → 10 * v + d ≤ m → with_digit m v (48 + d) ≡ Some (10 * v + d)
 digit_back m v d h l =
     let e : 48 + d - 48 ≡ d = omega arith in
     is_number m v (48 + d) (omega arith) (omega arith) (rw e l) ∙ rw e
 
-one_digit : (m v d : ℕ) → number_from m (Is v) ((48 + d) ∷ []) ≡ with_digit m v (48 + d)
+one_digit : (m v d : ℕ) → number_from m (Some v) ((48 + d) ∷ []) ≡ with_digit m v (48 + d)
 unfolding number_from
 one_digit m v d = refl
 
@@ -44,12 +43,12 @@ digits_last : (f n : ℕ) → 10 ≤ n → digits (suc f) n ≡ digits f (n / 10
 unfolding digits
 digits_last f n h = rw (le-ltb n 10 h)
 
-small_back : (m f n : ℕ) → n < 10 → n ≤ m → number_from m (Is 0) (digits (suc f) n) ≡ Is n
+small_back : (m f n : ℕ) → n < 10 → n ≤ m → number_from m (Some 0) (digits (suc f) n) ≡ Some n
 small_back m f n h l =
     let e : 10 * 0 + n ≡ n = omega arith in
     rw (digits_one f n h, one_digit m 0 n) (digit_back m 0 n h (omega arith) ∙ rw e)
 
-digits_back : (m f n : ℕ) → n < 10 ^ suc f → n ≤ m → number_from m (Is 0) (digits (suc f) n) ≡ Is n
+digits_back : (m f n : ℕ) → n < 10 ^ suc f → n ≤ m → number_from m (Some 0) (digits (suc f) n) ≡ Some n
 digits_back m zero n h l = small_back m zero n (omega arith) l
 digits_back m (suc f) n h l =
     let z : 0 < 10 = omega arith in
@@ -57,9 +56,9 @@ digits_back m (suc f) n h l =
     let ih = digits_back m f (n / 10) ((div-lt_iff_lt-mul z).1 g) (omega arith) in
     let e : 10 * (n / 10) + n % 10 ≡ n = omega arith in
     test (ltb n 10) (λ t. small_back m (suc f) n (ltb-true n 10 t) l)
-    (λ t. rw (digits_last (suc f) n (ltb-false n 10 t), number_join m (Is 0) (digits (suc f) (n / 10)) ((48 + n % 10) ∷ []), ih, one_digit m (n / 10) (n % 10)) (digit_back m (n / 10) (n % 10) (omega arith) (omega arith) ∙ rw e))
+    (λ t. rw (digits_last (suc f) n (ltb-false n 10 t), number_join m (Some 0) (digits (suc f) (n / 10)) ((48 + n % 10) ∷ []), ih, one_digit m (n / 10) (n % 10)) (digit_back m (n / 10) (n % 10) (omega arith) (omega arith) ∙ rw e))
 
-pub decimal_back : (m n : ℕ) → n < 18446744073709551616 → n ≤ m → number_from m (Is 0) (decimal n) ≡ Is n
+pub decimal_back : (m n : ℕ) → n < 18446744073709551616 → n ≤ m → number_from m (Some 0) (decimal n) ≡ Some n
 unfolding decimal
 decimal_back m n h l = digits_back m 19 n (omega arith) l
 

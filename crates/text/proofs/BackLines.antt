@@ -9,13 +9,13 @@ use native.Mathlib.Omega.{arith}
 use borrow.Author.Tests.{eqb-false, eqb-true, lt-ltb, ltb-false, ltb-true, ne_eqb}
 use lib.Seq.{length-take-le}
 use native.Mathlib.Nat.{add-zero, pow-suc, zero-add}
+use Rattle.std.specs.Prelude.{Some}
 use Rattle.events.proofs.Table.{body_total, fitting}
 use Rattle.events.specs.Row.{is_width}
 use Rattle.lines.proofs.Words.{Bytes, a_byte, bytes_num, no_byte}
 use Rattle.output.specs.Decimal.{decimal}
 use Rattle.parsing.proofs.Numbers.{number_some}
 use Rattle.parsing.specs.Read.{behind, bytes_line, complete, field, fields_from, got, kind_bytes, kind_of, kind_then, most_of, no_word, number_in, other_line, same, width_at, words_in, words_read}
-use Rattle.parsing.specs.declared.Number.TheVariants.{Is}
 use Rattle.printing.proofs.Pieces.{numbers_front}
 use Rattle.printing.specs.Text.{number_text, numbers_of}
 use Rattle.rules.specs.Bytes.{bytes_of, num_of}
@@ -61,7 +61,7 @@ width8 : Width 8
 unfolding most_of
 width8 = record { some = λ e. omega arith; limit = refl; small = omega arith }
 
-field_back : (w : ℕ) (bs : List ℕ) → Width w → Bytes bs → w ≤ length bs → number_in w (decimal (num_of (take w bs))) ≡ Is (num_of (take w bs))
+field_back : (w : ℕ) (bs : List ℕ) → Width w → Bytes bs → w ≤ length bs → number_in w (decimal (num_of (take w bs))) ≡ Some (num_of (take w bs))
 field_back w bs h b l =
     let n = num_of (take w bs) in
     let e : length (take w bs) ≡ w = length-take-le w bs l in
@@ -83,7 +83,7 @@ got_nil : (k f : ℕ) → complete k f ≡ true → fields_from k f [] ≡ got [
 unfolding fields_from
 got_nil k f e = rw e
 
-got_one : (k f v : ℕ) (w : List ℕ) (ws : List (List ℕ)) → number_in (width_at k f) w ≡ Is v → fields_from k f (w ∷ ws) ≡ behind (bytes_of (width_at k f) v) (fields_from k (suc f) ws)
+got_one : (k f v : ℕ) (w : List ℕ) (ws : List (List ℕ)) → number_in (width_at k f) w ≡ Some v → fields_from k f (w ∷ ws) ≡ behind (bytes_of (width_at k f) v) (fields_from k (suc f) ws)
 unfolding fields_from field
 got_one k f v w ws e = rw e
 
@@ -97,7 +97,7 @@ fields_back k f [] bs (done e) b l = rw (nothing_left bs l) (got_nil k f e)
 fields_back k f (w ∷ ws) bs (one e h fs) b l =
     let t : w ≤ length bs = omega arith in
     let d : length (drop w bs) ≡ total ws = rw (length-drop, l) (omega arith) in
-    let n : number_in (width_at k f) (decimal (num_of (take w bs))) ≡ Is (num_of (take w bs)) = rw e (field_back w bs h b t) in
+    let n : number_in (width_at k f) (decimal (num_of (take w bs))) ≡ Some (num_of (take w bs)) = rw e (field_back w bs h b t) in
     let ih = fields_back k (suc f) ws (drop w bs) fs (bytes_drop w b) d in
     got_one k f (num_of (take w bs)) (decimal (num_of (take w bs))) (map decimal (numbers_of ws (drop w bs))) n ∙ rw (e, ih, field_bytes w bs b t, behind_got (take w bs) (drop w bs), take-append-drop)
 

@@ -11,7 +11,9 @@ use Rattle.events.specs.Whole.{whole_from, whole_length}
 use Rattle.lines.proofs.Paste.{rest}
 use Rattle.output.proofs.Rooms.{puts_filled, puts_join, puts_none}
 use Rattle.output.specs.Room.{Room, filled, puts, room}
+use Rattle.output.specs.Writer.{room_of}
 use Rattle.output.specs.declared.Cursor.{Cursor}
+use Rattle.output.specs.declared.Writer.{Writer}
 use Rattle.parsing.specs.Fault.{fault_of}
 use Rattle.parsing.specs.Read.{bytes_of_text}
 use Rattle.printing.proofs.Pieces.{in_pieces}
@@ -31,11 +33,15 @@ fills : (d bs : List ℕ) → length bs ≤ length d → filled d bs ≡ room (b
 unfolding filled
 fills d bs h = rw (le-leb (length bs) (length d) h, take_all (length d) bs h)
 
-pub wrote_all : (d d' bs : List ℕ) (c : Cursor) → room d' c ≡ filled d bs → length bs ≤ length d → record { answer = record { refusal = 0; value = c.at }; buffer = d' } ≡ wrote_front bs d
+pub wrote_back : (d x bs : List ℕ) (c : Cursor) → room x c ≡ filled d bs → length bs ≤ length d → record { answer = record { refusal = 0; value = c.at }; buffer = x } ≡ wrote_front bs d
 unfolding room
-wrote_all d d' bs c e h =
-    let w : Room → Wrote = λ r. record { answer = record { refusal = 0; value = r.cursor.at }; buffer = r.buffer } in
-    ap w (e ∙ fills d bs h)
+wrote_back d x bs c e h =
+    let f : Room → Wrote = λ r. record { answer = record { refusal = 0; value = r.cursor.at }; buffer = r.buffer } in
+    ap f (e ∙ fills d bs h)
+
+-- the same where the writer w has filled the buffer, which is now x
+pub wrote_all : (d x bs : List ℕ) (w : Writer) → x ≡ w.out.now → room_of w ≡ filled d bs → length bs ≤ length d → record { answer = record { refusal = 0; value = w.cursor.at }; buffer = x } ≡ wrote_front bs d
+wrote_all d x bs w y e h = rw y (wrote_back d w.out.now bs w.cursor e h)
 
 pub says_refused : (a : Answer) (n : ℕ) (d : List ℕ) (w : Wrote) → a ≡ record { refusal = n; value = 0 } → w ≡ refused_by n d → record { answer = a; buffer = d } ≡ w
 says_refused a n d w e f = rw e (sym f)
@@ -68,8 +74,8 @@ rest_some r [] n = absurd (n refl)
 rest_some r (b ∷ bs) n = sym (line_puts r bytes_word (b ∷ bs))
 
 -- the whole records, and what is left, fill the buffer with the text
-pub text_filled : (file t m : List ℕ) (at : ℕ) (c : Cursor) (r : Room) → at ≡ whole_length file → room m c ≡ puts (room t (record { at = 0; short = false })) (whole_text file) → r ≡ puts (room m c) (rest_text (take (length file - at) (drop at file))) → r ≡ filled t (text_of file)
-text_filled file t m at c r e p h =
+pub text_filled : (file t : List ℕ) (m : Writer) (at : ℕ) (r : Room) → at ≡ whole_length file → room_of m ≡ puts (room t (record { at = 0; short = false })) (whole_text file) → r ≡ puts (room_of m) (rest_text (take (length file - at) (drop at file))) → r ≡ filled t (text_of file)
+text_filled file t m at r e p h =
     h ∙ rw (rest file at, p, e, ← puts_join (room t (record { at = 0; short = false })) (whole_text file) (rest_text (drop (whole_length file) file)), text_parts file) (puts_filled t (text_of file))
 
 pub text_refused : (file d : List ℕ) → length d < 32 * length file → text_call file d ≡ refused_by 6 d

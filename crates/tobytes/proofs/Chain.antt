@@ -1,19 +1,20 @@
 -- The bytes that are handed over piece by piece are those of the text.
-use Rattle.std.proofs.Common.{◌≡◌, ℕ, ◌-◌, ◌<◌, ◌≤◌, Bool, true, false, cond, not, ◌&&◌, ltb, leb, List, [], ◌++◌, length, take, drop, sym, refl, ◌∙◌, append_assoc, append-nil, arith, length-append, take-append-drop}
+use Rattle.std.proofs.Common.{◌≡◌, ℕ, ◌≤◌, Bool, true, false, cond, not, ◌&&◌, ltb, leb, List, [], ◌++◌, Option, length, take, drop, sym, subst, refl, ◌∙◌, append_assoc, append-nil, arith, length-append, take-append-drop}
 use mathlib.Core.Bool.{false≢true}
 use lib.Seq.{drop-length, take-length}
 use borrow.Author.Tests.{not-true}
 use Rattle.output.proofs.Digits.{decimal_short}
-use Rattle.output.proofs.Rooms.{puts_join}
+use Rattle.output.proofs.Rooms.{put_front, puts_join}
 use Rattle.output.specs.Decimal.{decimal}
-use Rattle.output.specs.Room.{Room, puts}
+use Rattle.output.specs.Room.{Room, puts, room}
+use Rattle.output.specs.declared.Cursor.{Cursor}
 use Rattle.parsing.proofs.Lines.{lines_in_pieces}
 use Rattle.parsing.specs.Claim.{LinesInPieces}
 use Rattle.parsing.specs.Read.{bytes_of_text, good_bytes, good_of, lines_of}
-use Rattle.pieces.proofs.Chain.{Going, one_more}
-use Rattle.pieces.specs.Chain.{Chain, Chained, stop, turn}
+use Rattle.pieces.proofs.Message.{put_fits}
+use Rattle.pieces.specs.Chain.{Chain, ChainedOver, stop, turn}
 use Rattle.undo.proofs.Laws.{and_true, test}
-use Rattle.tobytes.specs.Results.{Between, Pieced, Ran, Turned, between, complaint, complaint_end, complaint_start, follows, goes_on, line_end, start}
+use Rattle.tobytes.specs.Results.{Between, RanOver, Turned, between, complaint, complaint_end, complaint_start, follows, goes_on, line_end, start}
 use Rattle.tobytes.specs.declared.Left.{Left}
 
 -- where a piece follows, all lines were in the form and more may come
@@ -51,22 +52,30 @@ run_right (turn {came = came} {new = new} {t = a} c g t) f h =
     let last : leb (length p.piece) a.left.held ≡ true → f ≡ [] = λ z. h (p.ends ∙ z) in
     rw (append_assoc came new f, ih, on_form a.left (length a.buffer) g, joined, piece_right (leb (length p.piece) a.left.held) p.piece f last, p.form, p.left, t.goes, append_assoc)
 
--- the parts of a complaint, and its length
-pub complaint_puts : (r : Room) (n : ℕ) → puts r (complaint n) ≡ puts (puts (puts r complaint_start) (decimal n)) complaint_end
-unfolding complaint
-complaint_puts r n = rw (puts_join r complaint_start (decimal n ++ complaint_end), puts_join (puts r complaint_start) (decimal n) complaint_end)
-
-pub complaint_short : (n : ℕ) → length (complaint n) ≤ 64
+complaint_short : (n : ℕ) → length (complaint n) ≤ 64
 unfolding complaint
 complaint_short n = omega (arith, decimal_short n, length-append complaint_start (decimal n ++ complaint_end), length-append (decimal n) complaint_end)
 
--- ---- a run that goes on, with `left` turns left to count
+-- the parts of a complaint, in a buffer of 64 bytes
+pub complaint_put : (d d' : List ℕ) (n : ℕ) (r₀ r₁ r₂ : Room) (c : Cursor) → length d ≡ 64 → r₀ ≡ room d (record { at = 0; short = false }) → r₁ ≡ puts r₀ complaint_start → r₂ ≡ puts r₁ (decimal n)
+    → room d' c ≡ puts r₂ complaint_end → (take c.at d' ≡ complaint n) × (c.at ≤ 64)
+unfolding complaint
+complaint_put d d' n r₀ r₁ r₂ c l e₀ e₁ e₂ e₃ =
+    let e : room d' c ≡ puts (room d (record { at = 0; short = false })) (complaint n) =
+    e₃ ∙ rw (
+      e₂,
+      e₁,
+      e₀,
+      puts_join (room d (record { at = 0; short = false })) complaint_start (decimal n ++ complaint_end),
+      puts_join (puts (room d (record { at = 0; short = false })) complaint_start) (decimal n) complaint_end,
+    ) in
+    (put_front d d' (complaint n) c e (omega (arith, l, complaint_short n)), rw (← l) (put_fits d d' (complaint n) c e))
 
-abbrev pub Running : List ℕ → List ℕ → Left → ℕ → Type 0
-Running d d' r left = Going follows Turned (between d start) (between d' r) left
+-- ---- the whole run
 
-abbrev pub goes_on_lem : (d e d' : List ℕ) (t r : Left) (left : ℕ) → Running d e t left → 0 < left → goes_on t (length e) ≡ true → Pieced e d' t.held t.read r → Running d d' r (left - 1)
-goes_on_lem d e d' t r left g h o p = one_more g h o (record { pieced = p; comes = refl; goes = refl })
-
-abbrev pub ran : (d d' : List ℕ) (r : Left) → Chained follows Turned (between d start) (between d' r) → Ran d d' r
-ran d d' r c = record { run = c; right = run_right c.run }
+pub run_over : (d d' : List ℕ) (s r : Left) (i i' o o' : Option (List ℕ)) → s ≡ start → ChainedOver follows Turned (between d s) (between d' r) i i' o o' r.sent
+    → RanOver i i' o o' d d' r
+run_over d d' s r i i' o o' e chained =
+    let c : ChainedOver follows Turned (between d start) (between d' r) i i' o o' r.sent =
+    subst (λ (x : Left). ChainedOver follows Turned (between d x) (between d' r) i i' o o' r.sent) e chained in
+    record { ran = record { run = c.run; right = run_right c.run.run }; streamed = c.streamed }

@@ -1,11 +1,11 @@
 -- What a piece of a text leaves, and what the whole run does.
 use Rattle.std.specs.Prelude.{◌≡◌, ℕ, ◌+◌, ◌%◌, ◌^◌, Bool, true, false, cond, not, ◌&&◌, ◌||◌, List, [], ◌∷◌, ◌++◌, Option, length, take, drop, nat_le, nat_lt}
 use Rattle.output.specs.Decimal.{decimal}
-use Rattle.parsing.specs.Read.{Text, bytes_of_text, good_bytes, last_line}
+use Rattle.parsing.specs.Read.{bytes_of_text, good_bytes, last_line}
 use Rattle.pieces.specs.Chain.{Chained}
 use Rattle.pieces.specs.Streams.{Streamed}
 use Rattle.tobytes.specs.declared.Left.{Left}
-use Rattle.tobytes.specs.declared.Read.{Read}
+use Rattle.undo.proofs.Laws.{and_true}
 
 -- where the lines of a piece end that are read: behind the last whole line; of the last piece all
 unfoldable pub line_end : Bool → List ℕ → ℕ
@@ -19,11 +19,6 @@ lines_in have piece = take (line_end (nat_le (length piece) have) piece) piece
 abbrev pub counted : ℕ → ℕ → ℕ
 counted before n = (before + n) % 2 ^ 64
 
--- lines are read as t: how many are in the form, and whether all are. Whether their bytes went out is the system's choice
-pub record Lined (t : Text) (before : ℕ) (r : Read) : Type 0 where
-  pub reads : r.read ≡ counted before t.lines
-  pub form : r.form ≡ t.ok
-
 -- from a buffer d, of which the first `have` bytes are held and `before` lines are read, to d': the lines of a piece that begins with those bytes are read.
 -- What is left of it is at the front
 pub record Pieced (d d' : List ℕ) (have before : ℕ) (r : Left) : Type 0 where
@@ -34,14 +29,14 @@ pub record Pieced (d d' : List ℕ) (have before : ℕ) (r : Left) : Type 0 wher
   pub form : r.form ≡ (bytes_of_text (lines_in have piece)).ok
   pub ends : r.last ≡ nat_le (length piece) have
 
--- the same from a reader to a writer: what came with the piece was read, and the bytes of its lines went out
-pub record PiecedOver (i i' o o' : Option (List ℕ)) (d d' : List ℕ) (have before : ℕ) (r : Left) : Type 0 where
-  pub pieced : Pieced d d' have before r
-  pub streamed : Streamed i i' o o' (drop have pieced.piece) (good_bytes (lines_in have pieced.piece)) r.sent
-
 -- a piece follows: more may come, all lines were in the form and their bytes went out, and the buffer has room
 unfoldable pub goes_on : Left → ℕ → Bool
 goes_on s room = s.sent && (s.form && (not s.last && nat_lt s.held room))
+
+-- only where the bytes of all lines so far went out
+pub sent_all : (s : Left) (room : ℕ) → goes_on s room ≡ true → s.sent ≡ true
+unfolding goes_on
+sent_all s room e = (and_true s.sent (s.form && (not s.last && nat_lt s.held room)) e).0
 
 -- a line is not in the form: one that was read, or one that the buffer can't hold
 unfoldable pub is_bad : Left → ℕ → Bool

@@ -4,30 +4,22 @@
 // The first line that is not in the form is named on standard error: the bytes of all lines before it go out, and nothing after them.
 // In whatever pieces a text comes, the bytes that go out are its (`Ran`). The contracts say what is read and what goes out where a reader's and a writer's bytes
 // are known (`RanOver`); of standard input and output no contract can: there the functions that write ask it of their callers.
-ghost use Rattle.std.specs.Prelude.{◌≡◌, ◌*◌, ◌≤◌, true, length, take};
-ghost use Rattle.std.specs.Io.KnownBytes.{Appends};
-ghost use Rattle.parsing.specs.Read.{bytes_of_text, good_bytes};
+ghost use Rattle.std.specs.Prelude.{◌≡◌, ◌≤◌, length, take};
 ghost use Rattle.pieces.specs.Streams.{AppendsFront};
-ghost use Rattle.tobytes.specs.Results.{Lined, PiecedOver, RanOver, complaint, goes_on, is_bad, line_end};
+ghost use Rattle.tobytes.specs.Results.{RanOver, Turned, between, complaint, goes_on, is_bad, line_end, sent_all, start};
 
-use output::Cursor;
-use std::io;
+use output::Writer;
+use pieces::{Stage, Streams, Unsent};
+use std::io::{Read, Stderr, Stdin, Stdout, Write};
 
 // A piece of the text, and its bytes: a byte of text is at most four bytes of a record.
 const PIECE: usize = 65536;
 
 const BYTES: usize = 4 * PIECE;
 
-// How many lines of the text are read, whether all are in the form, and whether their bytes went out.
-#[derive(Clone, Copy)]
-struct Read {
-    read: u64,
-    form: bool,
-    sent: bool,
-}
-
 // What a piece leaves: how many bytes at the front of the buffer are not yet read, how many lines are, whether all were in the form, whether their bytes went
 // out, and whether nothing more came.
+// Kept as flags: `Ran` says what holds of each, also where the bytes did not go out.
 #[derive(Clone, Copy)]
 struct Left {
     held: usize,
@@ -37,185 +29,126 @@ struct Left {
     last: bool,
 }
 
-// Says that a line is not in the form.
-fn send_complaint<E: io::Write>(errors: &mut E, out: &[u8], n: usize, line: u64) -> bool
-    requires { take n out.now ≡ complaint line }
-    ensures { AppendsFront (E.contents errors.old) (E.contents errors.new) (complaint line) }
-{
-    if out.len() < n {
-        return false;
+// A text that is read as long as its lines are in the form: a piece of it, the bytes of that, and what is left.
+#[derive(Drop)]
+struct Lines {
+    text: [u8; PIECE],
+    bytes: [u8; BYTES],
+    left: Left,
+}
+
+impl Lines {
+    fn new() -> Lines
+        ensures { result.left ≡ start }
+    {
+        Lines {
+            text: [0; PIECE],
+            bytes: [0; BYTES],
+            left: Left {
+                held: 0,
+                read: 0,
+                form: true,
+                sent: true,
+                last: false,
+            },
+        }
     }
-    pieces::write_all(errors, &out[..n])
-}
 
-fn complain<E: io::Write>(errors: &mut E, line: u64) -> bool
-    ensures { AppendsFront (E.contents errors.old) (E.contents errors.new) (complaint line) }
-{
-    let mut out = [0u8; 64];
-    let b = output::put_all(
-        &mut out,
-        Cursor {
-            at: 0,
-            short: false,
-        },
-        b"line ",
-    );
-    let c = output::put_decimal(&mut out, b, line);
-    let e = output::put_all(&mut out, c, b" is not in the form\n");
-    let n = e.at;
-    send_complaint(errors, &out, n, line)
-}
-
-// Writes the bytes of the lines in the form of a text, up to the first one that is not.
-fn send<W: io::Write, E: io::Write>(
-    output: &mut W,
-    errors: &mut E,
-    text: &[u8],
-    out: &[u8],
-    n: usize,
-) -> bool
-    requires { take n out.now ≡ good_bytes text.now }
-    ensures all { result ≡ true → Appends (W.contents output.old) (W.contents output.new) (good_bytes text.now) }
-    ensures front { AppendsFront (W.contents output.old) (W.contents output.new) (good_bytes text.now) }
-{
-    pieces::flush(output, errors, out, n, b"tobytes")
-}
-
-// Reads lines and writes their bytes, where `before` lines are read already.
-fn lines<W: io::Write, E: io::Write>(
-    output: &mut W,
-    errors: &mut E,
-    text: &[u8],
-    out: &mut [u8],
-    before: u64,
-) -> Read
-    requires { 4 * length text.now ≤ length out.old }
-    ensures lined { Lined (bytes_of_text text.now) before result }
-    ensures all { result.sent ≡ true → Appends (W.contents output.old) (W.contents output.new) (good_bytes text.now) }
-    ensures front { AppendsFront (W.contents output.old) (W.contents output.new) (good_bytes text.now) }
-{
-    let r = parsing::read_text(text, out);
-    let sent = send(output, errors, text, out, r.good);
-    Read {
-        read: before.wrapping_add(r.lines),
-        form: r.ok,
-        sent,
+    // Whether a line is not in the form: one that was read, or one that the buffer can't hold.
+    #[tactic(auto, unfolding(crate::specs::Results::is_bad))]
+    fn is_bad(&self) -> bool
+        ensures { result ≡ is_bad self.now.left (length self.now.text) }
+    {
+        !self.left.form || (self.left.sent && !self.left.last && self.text.len() <= self.left.held)
     }
 }
 
 // Where the lines of a piece end that are read.
+// Kept: whether the input has ended is a value that goes on changing, and two functions chosen by it are no plainer.
 fn line_end(piece: &[u8], last: bool) -> usize
     ensures { (result ≡ line_end last piece.now) × (result ≤ length piece.now) }
 {
     if last {
-        return piece.len();
-    }
-    parsing::whole_lines(piece)
-}
-
-// Reads a piece behind the bytes that are held, and its lines.
-fn piece<R: io::Read, W: io::Write, E: io::Write>(
-    input: &mut R,
-    output: &mut W,
-    errors: &mut E,
-    text: &mut [u8],
-    have: usize,
-    out: &mut [u8],
-    before: u64,
-) -> Left
-    requires { 4 * length text.old ≤ length out.old }
-    ensures { PiecedOver (R.remaining input.old) (R.remaining input.new) (W.contents output.old) (W.contents output.new) text.old text.new have before result }
-{
-    let n = pieces::refill(input, errors, text, have, b"tobytes");
-    let last = n <= have;
-    let end = line_end(&text[..n], last);
-    let l = lines(output, errors, &text[..end], out, before);
-    Left {
-        held: pieces::shift(text, end, n),
-        read: l.read,
-        form: l.form,
-        sent: l.sent,
-        last,
+        piece.len()
+    } else {
+        parsing::whole_lines(piece)
     }
 }
 
-// Whether a piece follows.
-#[tactic(auto, unfolding(crate::specs::Results::goes_on))]
-fn goes_on(s: Left, room: usize) -> bool
-    ensures { result ≡ goes_on s room }
-{
-    if !s.sent {
-        return false;
-    }
-    if !s.form {
-        return false;
-    }
-    if s.last {
-        return false;
-    }
-    s.held < room
-}
+impl Stage for Lines {
+    ghost follows = { λ s. goes_on s.left (length s.text) };
 
-// Whether a line is not in the form: one that was read, or one that the buffer can't hold.
-#[tactic(auto, unfolding(crate::specs::Results::is_bad))]
-fn is_bad(s: Left, room: usize) -> bool
-    ensures { result ≡ is_bad s room }
-{
-    if !s.form {
-        return true;
+    ghost sent = { λ s. s.left.sent };
+
+    ghost Turn = { λ s t new out. Turned (between s.text s.left) (between t.text t.left) new out };
+
+    // Whether a piece follows.
+    #[tactic(auto, unfolding(crate::specs::Results::goes_on))]
+    fn goes_on(&self) -> bool {
+        self.left.sent && self.left.form && !self.left.last && self.left.held < self.text.len()
     }
-    if !s.sent {
-        return false;
+
+    // Reads a piece behind the bytes that are held, and its lines, and writes their bytes.
+    fn turn<R: Read, W: Write, E: Write>(&mut self, streams: &mut Streams<'_, R, W, E>) {
+        let have = self.left.held;
+        let n = streams.refill(&mut self.text, have);
+        let last = n <= have;
+        let end = line_end(&self.text[..n], last);
+        let lines = parsing::read_text(&self.text[..end], &mut self.bytes);
+        let sent = streams.flush(&self.bytes, lines.good).is_ok();
+        self.left = Left {
+            held: pieces::shift(&mut self.text, end, n),
+            read: self.left.read.wrapping_add(lines.lines),
+            form: lines.ok,
+            sent,
+            last,
+        };
     }
-    if s.last {
-        return false;
-    }
-    room <= s.held
+
+    ghost follows_sent = { λ s e. sent_all s.left (length s.text) e };
 }
 
 // Reads piece by piece, as long as lines are in the form.
-fn run<R: io::Read, W: io::Write, E: io::Write>(
-    input: &mut R,
-    output: &mut W,
-    errors: &mut E,
-    text: &mut [u8],
-    out: &mut [u8],
-) -> Left
-    requires { 4 * length text.old ≤ length out.old }
-    ensures { RanOver (R.remaining input.old) (R.remaining input.new) (W.contents output.old) (W.contents output.new) text.old text.new result }
+// Kept: `RanOver` is said of this program's text, and `run` is said of any.
+fn put_lines<R: Read, W: Write, E: Write>(lines: &mut Lines, streams: &mut Streams<'_, R, W, E>)
+    requires { lines.old.left ≡ start }
+    ensures { RanOver (R.remaining streams.old.input) (R.remaining streams.new.input) (W.contents streams.old.output) (W.contents streams.new.output)
+        lines.old.text lines.new.text lines.new.left }
 {
-    let mut s = Left {
-        held: 0,
-        read: 0,
-        form: true,
-        sent: true,
-        last: false,
-    };
-    let mut turns = u64::MAX;
-    while turns > 0 {
-        if !goes_on(s, text.len()) {
-            return s;
-        }
-        s = piece(input, output, errors, text, s.held, out, s.read);
-        turns -= 1;
-    }
-    s
+    pieces::run(lines, streams);
+}
+
+// The message that a line is not in the form. Answers its length.
+fn put_complaint(out: &mut [u8; 64], line: u64) -> usize
+    ensures { (take result out.new ≡ complaint line) × (result ≤ 64) }
+{
+    let mut writer = Writer::new(out, 0);
+    writer.put_all(b"line ");
+    writer.put_decimal(line);
+    writer.put_all(b" is not in the form\n");
+    writer.cursor.at
+}
+
+// Says so.
+// Kept: no heap, so the message is the front of a buffer.
+fn complain<E: Write>(errors: &mut E, line: u64) -> Result<(), Unsent>
+    ensures { AppendsFront (E.contents errors.old) (E.contents errors.new) (complaint line) }
+{
+    let mut out = [0u8; 64];
+    let n = put_complaint(&mut out, line);
+    pieces::write_all(errors, &out[..n])
 }
 
 fn main(rt: HostRuntime) {
-    let mut input = rt.stdin();
-    let mut output = rt.stdout();
-    let mut errors = rt.stderr();
-    let mut text = [0u8; PIECE];
-    let mut out = [0u8; BYTES];
-    let s = run::<io::Stdin, io::Stdout, io::Stderr>(
-        &mut input,
-        &mut output,
-        &mut errors,
-        &mut text,
-        &mut out,
-    );
-    if is_bad(s, text.len()) {
-        complain::<io::Stderr>(&mut errors, s.read.wrapping_add(1));
+    let mut streams: Streams<'_, Stdin, Stdout, Stderr> = Streams {
+        input: rt.stdin(),
+        output: rt.stdout(),
+        errors: rt.stderr(),
+        name: b"tobytes",
+    };
+    let mut lines = Lines::new();
+    put_lines(&mut lines, &mut streams);
+    if lines.is_bad() {
+        let _ = complain(&mut streams.errors, lines.left.read.wrapping_add(1));
     }
 }

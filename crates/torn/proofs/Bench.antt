@@ -26,7 +26,8 @@ use Rattle.rules.specs.Image.{image, image_call, saved}
 use Rattle.rules.specs.Record.{records_of}
 use Rattle.rules.specs.Recovery.{PowerCut, Recovering, Restore, called_by, is_finished, restore}
 use Rattle.rules.specs.Refusal.{is_set_up}
-use Rattle.rules.specs.Tables.{Board, Lent, Memory}
+use Rattle.rules.specs.Tables.{Lent, Memory}
+use Rattle.rules.specs.declared.Board.{Board}
 use Rattle.torn.proofs.Torn.{cut_place, torn_act_stands, torn_acts_stand, torn_recovery, torn_stands}
 use Rattle.torn.specs.Bench.{TornBenchHolds, TornBenchRecovers, torn_call, torn_calls}
 use Rattle.torn.specs.Torn.{Between, Inside, TornAct, TornHolds, Whole, torn_act, torn_acts, torn_image, torn_recovering}

@@ -28,7 +28,8 @@ use Rattle.rules.specs.Reader.{Reads, read_image}
 use Rattle.rules.specs.Recovery.{Recovering, line_start, recovery_call, restore, restore_by}
 use Rattle.rules.specs.Refusal.{in_flight, refusal, tests_of}
 use Rattle.rules.specs.Step.{apply, settled_board}
-use Rattle.rules.specs.Tables.{Board, line_of}
+use Rattle.rules.specs.Tables.{line_of}
+use Rattle.rules.specs.declared.Board.{Board}
 use Rattle.rules.specs.Walk.{walk_entries}
 use Rattle.rules.specs.declared.Event.TheVariants.{Cut, DataAck}
 use Rattle.laws.proofs.Reserves.{says}

@@ -16,7 +16,8 @@ use Rattle.rules.specs.Bytes.{line_at}
 use Rattle.rules.specs.Image.{Persistent, encode, entry_record, head_record, line_record, region_record}
 use Rattle.rules.specs.Lists.{all, flat}
 use Rattle.rules.specs.Recovery.{line_start}
-use Rattle.rules.specs.Tables.{Board, line_of}
+use Rattle.rules.specs.Tables.{line_of}
+use Rattle.rules.specs.declared.Board.{Board}
 use Rattle.undo.proofs.Laws.{and_true, test}
 use Rattle.torn.specs.Torn.{is_torn, mixed, torn_from}
 

@@ -41,7 +41,8 @@ use Rattle.rules.specs.Image.{Logged, Persistent, encode, image, saved, with_med
 use Rattle.rules.specs.Reader.{Reads, Refuses, Verdict, read_image}
 use Rattle.rules.specs.Recovery.{Recovering, act, line_start, restore}
 use Rattle.rules.specs.Refusal.{is_set_up}
-use Rattle.rules.specs.Tables.{Board, Memory, line_of, no_region, place_of, start_lines}
+use Rattle.rules.specs.Tables.{Memory, line_of, no_region, place_of, start_lines}
+use Rattle.rules.specs.declared.Board.{Board}
 use Rattle.rules.specs.Walk.{walk, walk_entries}
 use Rattle.torn.proofs.Mixed.{image_line, mixed_line, torn_length, torn_line, torn_lines}
 use Rattle.torn.specs.Torn.{Between, Inside, TornAct, TornHolds, TornRecovery, Whole, is_cut, is_torn, part_of, torn_act, torn_acts, torn_by, torn_from, torn_image, torn_read, torn_recovering, torn_state}

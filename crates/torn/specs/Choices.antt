@@ -9,7 +9,8 @@ use Rattle.rules.specs.Reader.{Reads, Refuses, read_image}
 use Rattle.rules.specs.Recovery.{Recovering, restore}
 use Rattle.rules.specs.Refusal.{in_flight, refusal}
 use Rattle.rules.specs.Step.{apply}
-use Rattle.rules.specs.Tables.{Board, line_of}
+use Rattle.rules.specs.Tables.{line_of}
+use Rattle.rules.specs.declared.Board.{Board}
 use Rattle.rules.specs.declared.Event.TheVariants.{Cut, DataAck}
 use Rattle.torn.specs.Bench.{torn_call}
 use Rattle.torn.specs.Torn.{Inside, torn_act, torn_image, torn_state}

@@ -9,7 +9,8 @@ use Rattle.rules.specs.Lists.{all}
 use Rattle.rules.specs.Reader.{Reads, Refuses, Verdict, read_image}
 use Rattle.rules.specs.Recovery.{PowerCut, Recovering, Restore, act, is_finished, line_start, put_back, restore}
 use Rattle.rules.specs.Refusal.{in_flight}
-use Rattle.rules.specs.Tables.{Board, Memory, line_of}
+use Rattle.rules.specs.Tables.{Memory, line_of}
+use Rattle.rules.specs.declared.Board.{Board}
 use Rattle.rules.specs.Walk.{walk_entries}
 
 -- the words xs, from word i of their line on; where the choice p says so, those of the line ys

@@ -8,6 +8,7 @@ use Rattle.printing.specs.Text.{line_text, number_text, text_of, whole_text}
 use Rattle.rules.specs.Kinds.{bytes_word, is_kind, longest_record}
 use Rattle.rules.specs.Lists.{flat}
 use Rattle.totext.specs.declared.Left.{Left}
+use Rattle.undo.proofs.Laws.{and_true}
 
 -- a whole record may still come: more was read than was held, and what is left of it begins with a kind, or is empty
 unfoldable pub may_come : Bool → List ℕ → Bool
@@ -22,14 +23,14 @@ pub record Pieced (d d' : List ℕ) (have : ℕ) (r : Left) : Type 0 where
   pub more : r.more ≡ may_come (ltb have (length piece)) (drop (whole_length piece) piece)
   pub ends : r.last ≡ leb (length piece) have
 
--- the same from a reader to a writer: what came with the piece was read, and the text of its whole records went out
-pub record PiecedOver (i i' o o' : Option (List ℕ)) (d d' : List ℕ) (have : ℕ) (r : Left) : Type 0 where
-  pub pieced : Pieced d d' have r
-  pub streamed : Streamed i i' o o' (drop have pieced.piece) (whole_text pieced.piece) r.sent
-
 -- a piece follows
 unfoldable pub goes_on : Left → Bool
 goes_on s = s.sent && s.more
+
+-- only where all lines so far went out
+pub sent_all : (s : Left) → goes_on s ≡ true → s.sent ≡ true
+unfolding goes_on
+sent_all s e = (and_true s.sent s.more e).0
 
 -- what stands between two pieces: the buffer of the file, and what is left
 pub record Between : Type 0 where
@@ -81,18 +82,17 @@ pub record Parted (a b : Rest) (new out : List ℕ) : Type 0 where
   pub comes : new ≡ take b.count b.buffer
   pub goes : out ≡ take a.count a.buffer
 
+-- the same, handed over as numbers
+abbrev pub Numbered : Rest → Rest → List ℕ → List ℕ → Type 0
+Numbered a b new out = (bytes : List ℕ) × (Parted a b new bytes × (out ≡ flat number_text bytes))
+
 -- all parts: until nothing more is read. The bytes that were there and those that came are the ones that were handed over, and then those that still count
 pub record Rested (d d' : List ℕ) (held : ℕ) : Type 0 where
   pub left : ℕ
   pub run : Chained is_left Parted (rest d held) (rest d' left)
   pub right : take held d ++ run.came ≡ run.sent ++ take left d'
 
--- the same from a reader to a writer: what came was read, and the bytes that were handed over went out as numbers
-pub record NumberedOver (i i' o o' : Option (List ℕ)) (d d' : List ℕ) (held : ℕ) : Type 0 where
-  pub rested : Rested d d' held
-  pub streamed : Streamed i i' o o' rested.run.came (flat number_text rested.run.sent) true
-
--- and as a line of bytes
+-- the same from a reader to a writer: what came was read, and the bytes that were handed over went out as numbers in a line of bytes
 pub record RestedOver (i i' o o' : Option (List ℕ)) (d d' : List ℕ) (held : ℕ) : Type 0 where
   pub rested : Rested d d' held
   pub streamed : Streamed i i' o o' rested.run.came (line_text bytes_word rested.run.sent) true

@@ -1,23 +1,19 @@
 -- The text that is handed over piece by piece is that of the file.
-use Prim.Native.Nat.{◌-◌, ◌<◌, ℕ}
+use Rattle.std.specs.Prelude.{Option}
+use Prim.Native.Nat.{ℕ}
 use mathlib.Core.Bool.{true}
 use mathlib.Core.List.{List, [], ◌++◌, append_assoc}
 use mathlib.Core.Path.{◌∙◌, ◌≡◌, refl}
 use lib.Dec.{leb}
-use lib.ListN.{drop, drop_of_length-le, length, replicate, take, take-append-drop}
+use lib.ListN.{drop, drop_of_length-le, length, take, take-append-drop}
 use borrow.Author.Tests.{le-leb}
-use Rattle.pieces.proofs.Chain.{Going, one_more}
-use Rattle.pieces.specs.Chain.{Chain, Chained, stop, turn}
-use Rattle.rows.specs.declared.Head.{Head}
-use Rattle.rules.specs.Measures.{most_lines}
+use Rattle.pieces.specs.Chain.{Chain, ChainedOver, stop, turn}
 use Rattle.rules.specs.Record.{records_of}
-use Rattle.rules.specs.Tables.{Board, Zero, fresh, fresh_tables, no_line, start_lines}
-use Rattle.starting.proofs.Start.{started}
-use Rattle.starting.specs.Zeros.{zero_board, zero_tables}
+use Rattle.rules.specs.declared.Board.{Board}
 use Rattle.tracing.proofs.Pieces.{goes_on}
 use Rattle.tracing.specs.Pieces.{due_in, fitting}
 use Rattle.tracing.specs.Text.{trace_text}
-use Rattle.trace.specs.Results.{Between, Printed, Traces, Turned, between, follows, start}
+use Rattle.trace.specs.Results.{Between, Printed, TracesOver, Turned, between, follows, start}
 use Rattle.trace.specs.declared.State.{State}
 
 -- where the input has ended nothing comes with a piece
@@ -36,19 +32,8 @@ turns_right (turn {came = came} {new = new} {t = b} {r = c} r m q) z f h =
     let joined : take b.held b.buffer ++ (new ++ f) ≡ p ++ f = rw (q.comes, ← t.begins, ← append_assoc, take-append-drop) in
     rw (append_assoc came new f, ih, joined, goes_on last b.board p f k (λ e. h (t.ends ∙ e)), ← t.ran.stands, ← t.ran.leaves, ← t.left, q.goes, append_assoc)
 
--- ---- the board before the first piece
+-- ---- the whole run
 
-pub begun : (h : Head) → zero_tables h ≡ fresh_tables true 0 → zero_board h (replicate most_lines no_line) (replicate most_lines no_line) ≡ fresh Zero
-unfolding start_lines
-begun h e = started Zero h (replicate most_lines no_line) (replicate most_lines no_line) e refl refl
-
--- ---- a run that goes on, with `left` turns left to count
-
-abbrev pub Running : List ℕ → List ℕ → Between → ℕ → Type 0
-Running d o c left = Going follows Printed (start d o) c left
-
-abbrev pub turned_on : (d o : List ℕ) (b c : Between) (left : ℕ) → Running d o b left → 0 < left → b.more ≡ true → Turned b c → Running d o c (left - 1)
-turned_on d o b c left g h m t = one_more g h m (record { turned = t; comes = refl; goes = refl })
-
-abbrev pub traced : (d d' o o' : List ℕ) (b : Board) (r : State) → Chained follows Printed (start d o) (between b d' o' r) → Traces d d' o o' r
-traced d d' o o' b r c = record { board = b; run = c; right = turns_right c.run refl }
+pub traced : (d d' o o' : List ℕ) (b : Board) (r : State) (i i' w w' : Option (List ℕ)) → ChainedOver follows Printed (start d o) (between b d' o' r) i i' w w' r.sent
+    → TracesOver i i' w w' d d' o o' r
+traced d d' o o' b r i i' w w' c = record { traces = record { board = b; run = c.run; right = turns_right c.run.run refl }; streamed = c.streamed }

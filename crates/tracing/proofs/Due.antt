@@ -1,7 +1,7 @@
 -- The records of a piece, run one after the other into a buffer.
 use Prim.Native.Nat.{◌+◌, ◌<◌, ◌≤◌, suc, zero, ℕ}
 use mathlib.Core.Path.{◌∙◌, ◌≡◌, ap, refl, sym}
-use mathlib.Core.Bool.{Bool, cond, false, not, true}
+use mathlib.Core.Bool.{Bool, cond, false, true}
 use mathlib.Core.List.{List, [], ◌∷◌}
 use lib.Dec.{leb, ltb}
 use lib.ListN.{drop, drop_of_length-le, length, length-append, take}
@@ -13,28 +13,19 @@ use Rattle.lines.proofs.Paste.{sets_join}
 use Rattle.rules.specs.Record.{body_length, records_from, records_of}
 use Rattle.rules.specs.Run.{run}
 use Rattle.rules.specs.Step.{step}
-use Rattle.rules.specs.Tables.{Board}
+use Rattle.rules.specs.declared.Board.{Board}
 use Rattle.events.proofs.Records.{fits_more, length_empty, length_more, length_off, not_whole, pos, records_skip, stands}
 use Rattle.events.specs.Whole.{record_length, whole_length}
 use Rattle.tracing.specs.Pieces.{RanPiece, due_in, fitting, left_of, rest_at}
-use Rattle.tracing.specs.Results.{TracedEvent}
+use Rattle.tracing.specs.Results.{NoRoom, TracedEvent}
 use Rattle.tracing.specs.Text.{event_text, longest_text, trace_text}
 use Rattle.tracing.specs.declared.Traced.{Traced}
-use Rattle.tracing.specs.declared.TracedPiece.{TracedPiece}
 use Rattle.undo.proofs.Laws.{test}
 
 -- ---- the record that is due
 
 abbrev pub is_due : Bool → List ℕ → Bool
 is_due last x = cond last (ltb 0 (length x)) (ltb 0 (record_length x))
-
-pub is_false : (x : Bool) → not x ≡ true → x ≡ false
-is_false true e = sym e
-is_false false e = refl
-
-pub is_true : (x : Bool) → not x ≡ false → x ≡ true
-is_true true e = refl
-is_true false e = sym e
 
 none : (x : List ℕ) → length x ≤ 0 → x ≡ []
 none [] h = refl
@@ -157,15 +148,15 @@ module _ (last : Bool) (piece : List ℕ) (b₀ : Board) (d₀ : List ℕ) (at�
   K = fitting (length d₀) at₀ b₀ (due_in last piece)
 
   -- where the run has stopped, what the function answers
-  answers : (b : Board) (d : List ℕ) (p : ℕ) (rs : List (List ℕ)) (r : TracedPiece) → run_into b₀ d₀ at₀ (due_in last piece) ≡ stop b d p rs → r.at ≡ p → r.passed ≤ length piece
-      → drop r.passed piece ≡ rest_at (end_of last piece) rs → r.full ≡ is_full rs → RanPiece last b₀ b piece d₀ d at₀ K r
+  answers : (b : Board) (d : List ℕ) (p n : ℕ) (full : Bool) (rs : List (List ℕ)) → run_into b₀ d₀ at₀ (due_in last piece) ≡ stop b d p rs → n ≤ length piece
+      → drop n piece ≡ rest_at (end_of last piece) rs → full ≡ is_full rs → RanPiece last b₀ b piece d₀ d at₀ K (record { at = p; passed = n; full = full })
   unfolding stop left_of
-  answers b d p rs r e a l f t =
+  answers b d p n full rs e l f t =
       let w = sym e ∙ ran b₀ d₀ at₀ (due_in last piece) K refl in
       let q : rs ≡ drop K (due_in last piece) = ap (λ (s : Stop). s.left) w in
       record {
         stands = ap (λ (s : Stop). s.board) w;
-        written = (ap (λ (s : Stop). s.buffer) w, a ∙ ap (λ (s : Stop). s.at) w);
+        written = (ap (λ (s : Stop). s.buffer) w, ap (λ (s : Stop). s.at) w);
         inside = l;
         leaves = f ∙ ap (rest_at (end_of last piece)) q;
         told = t ∙ ap is_full q ∙ full_told K (due_in last piece);
@@ -173,12 +164,12 @@ module _ (last : Bool) (piece : List ℕ) (b₀ : Board) (d₀ : List ℕ) (at�
 
   module _ (b : Board) (d : List ℕ) (p i : ℕ) (v : Runs last piece b₀ d₀ at₀ b d p i) where
     -- nothing is due
-    pub at_end : (r : TracedPiece) → is_due last (drop i piece) ≡ false → r.at ≡ p → r.passed ≡ i → r.full ≡ false → RanPiece last b₀ b piece d₀ d at₀ K r
+    pub at_end : is_due last (drop i piece) ≡ false → RanPiece last b₀ b piece d₀ d at₀ K (record { at = p; passed = i; full = false })
     unfolding is_full
-    at_end r e a l t =
+    at_end e =
         let x = drop i piece in
         let s = sym v.same ∙ (ap (run_into b d p) (due_none last x e) ∙ into_none b d p) in
-        answers b d p [] r s a (omega (arith, v.inside)) (rw l (left_end last e)) t
+        answers b d p i false [] s v.inside (left_end last e) refl
       where
         left_end : (z : Bool) → is_due z (drop i piece) ≡ false → drop i piece ≡ end_of z piece
         left_end true e = none (drop i piece) (ltb-false 0 (length (drop i piece)) e)
@@ -187,70 +178,42 @@ module _ (last : Bool) (piece : List ℕ) (b₀ : Board) (d₀ : List ℕ) (at�
             let w : whole_length piece ≡ i = omega (arith, v.behind, length_off (drop i piece) o) in
             rw w
 
+    -- it found no room
+    pub at_full : (b' : Board) (d' : List ℕ) → NoRoom b b' d d' p → is_due last (drop i piece) ≡ true
+        → RanPiece last b₀ b' piece d₀ d' at₀ K (record { at = p; passed = i; full = true })
+    unfolding is_full
+    at_full b' d' n u =
+        let o = due_some last (drop i piece) u in
+        let s = sym v.same ∙ (ap (run_into b d p) o.1 ∙ into_full b d p (drop i piece) o.0 n.full) in
+        rw (n.stands, n.written) (answers b d p i true (drop i piece ∷ o.0) s v.inside refl refl)
+
     -- ---- behind one event more
 
-    module _ (b' : Board) (d' : List ℕ) (t : Traced) (e : TracedEvent (leb (p + longest_text) (length d)) b b' (drop i piece) d d' p t) where
-      -- it found no room
-      at_full : (r : TracedPiece) → is_due last (drop i piece) ≡ true → t.room ≡ false → r.at ≡ t.at → r.passed ≡ i → r.full ≡ true → RanPiece last b₀ b' piece d₀ d' at₀ K r
+    module _ (b' : Board) (d' : List ℕ) (t : Traced) (e : TracedEvent b b' (drop i piece) d d' p t) where
+      moved : (rs : List (List ℕ)) → due_in last (drop i piece) ≡ drop i piece ∷ rs → run_into b' d' t.at rs ≡ run_into b₀ d₀ at₀ (due_in last piece)
+      moved rs o =
+          rw (e.stands, e.written.0, e.written.1) (sym (into_on b d p (drop i piece) rs e.room) ∙ (ap (run_into b d p) (sym o) ∙ v.same))
+
+      -- it ended the file
+      pub at_last : is_due last (drop i piece) ≡ true → t.passed ≡ 0 → RanPiece last b₀ b' piece d₀ d' at₀ K (record { at = t.at; passed = length piece; full = false })
       unfolding is_full
-      at_full r u f a l z =
-          let q : leb (p + longest_text) (length d) ≡ false = sym e.told ∙ f in
-          let x : b' ≡ b = rw q at e.stands in
-          let y : d' ≡ d = rw q at e.written.0 in
-          let w : t.at ≡ p + 0 = rw q at e.written.1 in
-          let o = due_some last (drop i piece) u in
-          let s = sym v.same ∙ (ap (run_into b d p) o.1 ∙ into_full b d p (drop i piece) o.0 q) in
-          rw (x, y) (answers b d p (drop i piece ∷ o.0) r s (omega arith) (omega (arith, v.inside)) (rw l) z)
+      at_last u g =
+          let n : record_length (drop i piece) ≡ 0 = sym e.passes ∙ g in
+          let o = due_end last (drop i piece) u n in
+          let s = sym (moved [] o) ∙ into_none b' d' t.at in
+          let k : last ≡ true = due_last last (drop i piece) u n in
+          answers b' d' t.at (length piece) false [] s (omega arith) (rw k (drop-length piece)) refl
 
-      module _ (f : t.room ≡ true) where
-        roomy : leb (p + longest_text) (length d) ≡ true
-        roomy = sym e.told ∙ f
-
-        -- the length of its record
-        passes : t.passed ≡ record_length (drop i piece)
-        passes = rw roomy at e.passes
-
-        moved : (rs : List (List ℕ)) → due_in last (drop i piece) ≡ drop i piece ∷ rs → run_into b' d' t.at rs ≡ run_into b₀ d₀ at₀ (due_in last piece)
-        moved rs o =
-            let x : b' ≡ (step b (drop i piece)).board = rw roomy at e.stands in
-            let y : d' ≡ sets d p (event_text b (drop i piece)) = rw roomy at e.written.0 in
-            let w : t.at ≡ p + length (event_text b (drop i piece)) = rw roomy at e.written.1 in
-            rw (x, y, w) (sym (into_on b d p (drop i piece) rs roomy) ∙ (ap (run_into b d p) (sym o) ∙ v.same))
-
-        -- it ended the file
-        at_last : (r : TracedPiece) → is_due last (drop i piece) ≡ true → t.passed ≡ 0 → r.at ≡ t.at → r.passed ≡ length piece → r.full ≡ false → RanPiece last b₀ b' piece d₀ d' at₀ K r
-        unfolding is_full
-        at_last r u g a l z =
-            let n : record_length (drop i piece) ≡ 0 = sym passes ∙ g in
-            let o = due_end last (drop i piece) u n in
-            let s = sym (moved [] o) ∙ into_none b' d' t.at in
-            let k : last ≡ true = due_last last (drop i piece) u n in
-            answers b' d' t.at [] r s a (omega arith) (rw (l, k) (drop-length piece)) z
-
-        -- it was whole, and the next one follows
-        goes : (t.passed ≡ 0 → ⊥) → Runs last piece b₀ d₀ at₀ b' d' t.at (i + t.passed)
-        goes g =
-            let n = t.passed in
-            let h : 0 < n = pos n g in
-            let w : 0 < record_length (drop i piece) = omega (arith, passes) in
-            let o : due_in last (drop i piece) ≡ drop i piece ∷ due_in last (drop (i + n) piece) = due_whole last (drop i piece) w ∙ rw (← passes, drop-drop n i piece) in
-            let y : d' ≡ sets d p (event_text b (drop i piece)) = rw roomy at e.written.0 in
-            record {
-              inside = fits_more piece i n passes h;
-              sized = ap length y ∙ (length-sets d p (event_text b (drop i piece)) ∙ v.sized);
-              same = moved (due_in last (drop (i + n) piece)) o;
-              behind = sym (length_more piece i n passes h) ∙ v.behind;
-            }
-
-      -- a record that did not pass
-      pub at_stop : (r : TracedPiece) → is_due last (drop i piece) ≡ true → t.passed ≡ 0 → r.at ≡ t.at → r.passed ≡ cond t.room (length piece) i
-          → r.full ≡ not t.room → RanPiece last b₀ b' piece d₀ d' at₀ K r
-      at_stop r u g a l z = test t.room (λ f. at_last f r u g a (rw f at l) (rw f at z)) (λ f. at_full r u f a (rw f at l) (rw f at z))
-
-      -- one that did found room
-      passed_room : (t.passed ≡ 0 → ⊥) → t.room ≡ true
-      passed_room g =
-          test t.room (λ f. f) (λ f. let q : leb (p + longest_text) (length d) ≡ false = sym e.told ∙ f in absurd (g (rw q at e.passes)))
-
+      -- it was whole, and the next one follows
       pub goes_on : (t.passed ≡ 0 → ⊥) → Runs last piece b₀ d₀ at₀ b' d' t.at (i + t.passed)
-      goes_on g = goes (passed_room g) g
+      goes_on g =
+          let n = t.passed in
+          let h : 0 < n = pos n g in
+          let w : 0 < record_length (drop i piece) = omega (arith, e.passes) in
+          let o : due_in last (drop i piece) ≡ drop i piece ∷ due_in last (drop (i + n) piece) = due_whole last (drop i piece) w ∙ rw (← e.passes, drop-drop n i piece) in
+          record {
+            inside = fits_more piece i n e.passes h;
+            sized = ap length e.written.0 ∙ (length-sets d p (event_text b (drop i piece)) ∙ v.sized);
+            same = moved (due_in last (drop (i + n) piece)) o;
+            behind = sym (length_more piece i n e.passes h) ∙ v.behind;
+          }

@@ -9,7 +9,7 @@ use lib.Seq.{drop-nil}
 use Rattle.rules.specs.Record.{body_length, is_whole, read_record, records_from, records_of}
 use Rattle.rules.specs.Run.{run}
 use Rattle.rules.specs.Step.{step}
-use Rattle.rules.specs.Tables.{Board}
+use Rattle.rules.specs.declared.Board.{Board}
 use Rattle.events.proofs.Records.{kind_front, onto, read_front, records_split, stands, whole_pos, wholes}
 use Rattle.events.specs.Whole.{whole_from, whole_length}
 use Rattle.tracing.specs.Pieces.{GoesOn, due_in, left_of, rest_at}

@@ -10,12 +10,12 @@ use native.Mathlib.Omega.{arith}
 use borrow.Author.Tests.{eq-eqb, eqb-true, leb-true, ne_eqb}
 use Rattle.rules.specs.Refusal.{is_set_up}
 use Rattle.rules.specs.Run.{Wrote, wrote_into}
-use Rattle.rules.specs.Tables.{Board}
+use Rattle.rules.specs.declared.Board.{Board}
 use Rattle.rules.specs.declared.Answer.{Answer}
-use Rattle.saving.proofs.Whole.{set_up_lines}
+use Rattle.rules.proofs.Codec.Turns.{size_lines}
 use Rattle.wording.proofs.Texts.{memory_short}
 use Rattle.wording.specs.Text.{cut_text, image_buffer, memory_text, recovered, recovered_text}
-use Rattle.undo.proofs.Laws.{test}
+use Rattle.undo.proofs.Laws.{and_true, test}
 
 into_fits : (bs d : List ℕ) → (wrote_into bs (length bs) d).answer.refusal ≡ 0 → (wrote_into bs (length bs) d).answer.value ≤ length d
 unfolding wrote_into
@@ -36,7 +36,7 @@ few_lines : (b : Board) (d : List ℕ) → (save b d).answer.refusal ≡ 0 → b
 unfolding save
 few_lines b d h =
     test (is_set_up b.tables && b.tables.cut)
-    (λ q. set_up_lines b.tables q)
+    (λ q. (size_lines b.tables.size.threads b.tables.size.lines (and_true (is_set_up b.tables) b.tables.cut q).0).1)
     (λ q. let z : ◌≡◌ {A = ℕ} 6 0 = rw q at h in absurd (omega arith))
 
 module _ (b : Board) (d d' : List ℕ) (r : Answer) (e : ◌≡◌ {A = Wrote} (record { answer = r; buffer = d' }) (save b d)) where
@@ -69,11 +69,6 @@ saved_short b d =
 pub cut_short : (b : Board) → length (cut_text b) ≤ 133120
 unfolding cut_text
 cut_short b = saved_short b image_buffer
-
--- what is written for any buffer is written for the cut's
-pub cut_said : (b : Board) (d : List ℕ) → d ≡ image_buffer → recovered_text b.tables.size.lines (save b d) ≡ cut_text b
-unfolding cut_text
-cut_said b d e = ap (λ (x : List ℕ). recovered_text b.tables.size.lines (save b x)) e
 
 pub taken : (n : ℕ) (l : List ℕ) → n ≤ length l → n ≡ length (take n l)
 taken n l h = simp length-take (omega arith)

@@ -1,13 +1,10 @@
 -- An event file that comes in pieces: what is run of a piece, and what is left of it.
 use Rattle.std.specs.Prelude.{◌+◌, ◌≤◌, suc, ℕ, ◌≡◌, Bool, cond, true, List, [], ◌++◌, ◌∷◌, leb, ltb, drop, length, take}
-use Rattle.rows.specs.declared.Head.{Head}
 use Rattle.rules.specs.Record.{is_whole, read_record, records_of}
 use Rattle.rules.specs.Run.{run}
 use Rattle.rules.specs.Step.{step}
-use Rattle.rules.specs.Tables.{Board}
+use Rattle.rules.specs.declared.Board.{Board}
 use Rattle.events.specs.Whole.{whole_length}
-use Rattle.measures.specs.Loan.{Loan, Rows, left, was}
-use Rattle.rows.specs.Whole.{board_left, board_was}
 use Rattle.tracing.specs.Results.{Put}
 use Rattle.tracing.specs.Text.{event_text, longest_text, trace_text}
 use Rattle.tracing.specs.declared.TracedPiece.{TracedPiece}
@@ -43,13 +40,6 @@ pub record RanPiece (last : Bool) (b b' : Board) (piece d d' : List ℕ) (at k :
 
 abbrev pub Ran : Bool → Board → Board → List ℕ → List ℕ → List ℕ → ℕ → TracedPiece → Type 0
 Ran last b b' piece d d' at r = RanPiece last b b' piece d d' at (fitting (length d) at b (due_in last piece)) r
-
--- the same of what is lent
-abbrev pub TracesPiece : Head → Loan Rows → Loan Rows → Loan (List ℕ) → Loan (List Bool) → Loan Rows → Loan Rows → Loan Rows → Loan Rows
-    → Loan (List ℕ) → Bool → Loan (List ℕ) → ℕ → TracedPiece → Type 0
-TracesPiece h threads regions owner lock cur med old car piece last dst at r =
-    Ran last (board_was h threads regions owner lock cur med old car) (board_left r.head threads regions owner lock cur med old car)
-    (was piece) (was dst) (left dst) at r
 
 -- "reads an event file": whatever comes behind a piece, f, what is to be printed from it on is the text of those records, and then what is to be printed
 -- from what is left on

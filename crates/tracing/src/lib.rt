@@ -1,247 +1,158 @@
 #![tactic(auto)]
 
 // The text that a trace prints: a line for each answer, and behind an accepted cut a line for each word of the recovered memory that is not zero.
-ghost use Rattle.std.specs.Prelude.{◌+◌, ◌≡◌, cond, leb, ltb, get_or, length};
+ghost use Rattle.std.specs.Prelude.{◌≡◌, cond, false, leb, ltb, get_or, length};
 ghost use Rattle.events.specs.Whole.{record_length};
-ghost use Rattle.wording.specs.Text.{image_buffer};
-ghost use Rattle.measures.specs.Loan.{lent, shown};
-ghost use Rattle.tracing.specs.Text.{longest_text};
-ghost use Rattle.tracing.specs.Results.{BehindWords, CutWords, SavedWords, Traces};
-ghost use Rattle.tracing.specs.Pieces.{GoesOn, TracesPiece};
+ghost use Rattle.rules.specs.Image.{save};
+ghost use Rattle.output.specs.Room.{puts, room};
+ghost use Rattle.output.specs.Writer.{Puts};
+ghost use Rattle.wording.specs.Text.{cut_text, recovered_text};
+ghost use Rattle.tracing.specs.Text.{behind_text, told_text};
+ghost use Rattle.tracing.specs.Results.{Traces};
+ghost use Rattle.tracing.specs.Pieces.{GoesOn, Ran};
 
-use measures::{Lines, Locks, OldLines, Owners, Regions, Threads};
-use output::Cursor;
-use rows::Head;
-use rules::Answer;
+use output::{Cursor, Writer};
+use rules::{Answer, Board};
+
+// The bytes of the longest image.
+const LONGEST_IMAGE: usize = 34853;
+
+/// The longest text of an event, in bytes: a line of 63, and behind a cut 256 lines of eight words, 65 bytes each.
+pub const LONGEST_TEXT: usize = 133183;
+
+// The kind of a cut.
+const CUT: u8 = 8;
 
 // The recovered words of the image that is saved into a lent buffer; none where the save is refused.
-fn saved_words(
-    dst: &mut [u8],
-    c: Cursor,
-    h: Head,
-    threads: &Threads,
-    regions: &Regions,
-    med: &Lines,
-    old: &OldLines,
-    image: &mut [u8],
-) -> Cursor
-    ensures { SavedWords (lent dst) c result h (shown threads) (shown regions) (shown med) (shown old) (lent image) }
+// Kept: a save answers as the C call does.
+#[tactic(auto, using(crate::proofs::Saved::some_saved))]
+fn saved_words(out: &mut Writer<'_>, board: &Board, image: &mut [u8])
+    ensures { Puts out.old (recovered_text board.now.tables.size.lines (save board.now image.old)) out.new }
 {
-    let saved = saving::save(h, threads, regions, med, old, image);
-    if saved.refusal != 0 {
-        return c;
+    let saved = saving::save(board, image);
+    if saved.refusal == 0 {
+        let size = saved.value as usize;
+        wording::image_words(out, &mut image[..size], board.tables.size.lines);
     }
-    let n = saved.value as usize;
-    let size = h.size;
-    wording::image_words(dst, c, &mut image[..n], size.lines)
-}
-
-// A buffer for the longest image.
-fn image_buffer() -> [u8; 34853]
-    ensures { result ≡ image_buffer }
-{
-    [0; 34853]
 }
 
 // The same of the image that a cut leaves.
-fn cut_words(
-    dst: &mut [u8],
-    c: Cursor,
-    h: Head,
-    threads: &Threads,
-    regions: &Regions,
-    med: &Lines,
-    old: &OldLines,
-) -> Cursor
-    ensures { CutWords (lent dst) c result h (shown threads) (shown regions) (shown med) (shown old) }
+#[tactic(auto, unfolding(wording::specs::Text::cut_text, wording::specs::Text::image_buffer))]
+fn cut_words(out: &mut Writer<'_>, board: &Board)
+    ensures { Puts out.old (cut_text board.now) out.new }
 {
-    let mut image = image_buffer();
-    saved_words(dst, c, h, threads, regions, med, old, &mut image)
+    let mut image = [0; LONGEST_IMAGE];
+    saved_words(out, board, &mut image);
 }
 
 // What stands behind the line of an answer: the recovered words if a cut is accepted.
-fn behind_words(
-    dst: &mut [u8],
-    c: Cursor,
-    kind: u8,
-    a: Answer,
-    h: Head,
-    threads: &Threads,
-    regions: &Regions,
-    med: &Lines,
-    old: &OldLines,
-) -> Cursor
-    ensures { BehindWords kind a (lent dst) c result h (shown threads) (shown regions) (shown med) (shown old) }
+// Kept: an event answers as the C call does, and a kind is asked of bytes that may be no record.
+#[tactic(auto, using(output::proofs::Rooms::puts_none), unfolding(crate::specs::Text::behind_text))]
+fn behind_words(out: &mut Writer<'_>, kind: u8, answer: Answer, board: &Board)
+    ensures { Puts out.old (behind_text kind (record { board = board.now; answer = answer })) out.new }
 {
-    if kind != 8 {
-        return c;
+    if kind == CUT && answer.refusal == 0 {
+        cut_words(out, board);
     }
-    if a.refusal != 0 {
-        return c;
-    }
-    cut_words(dst, c, h, threads, regions, med, old)
+}
+
+// The text of an event that has left a board and an answer, from `at` on.
+#[tactic(auto, using(output::proofs::Rooms::puts_join))]
+fn put_text(dst: &mut [u8], at: usize, kind: u8, answer: Answer, board: &Board) -> Cursor
+    ensures { room dst.new result ≡ puts (room dst.old (record { at = at; short = false })) (told_text kind (record { board = board.now; answer = answer })) }
+{
+    let mut out = Writer::new(dst, at);
+    wording::answer_line(&mut out, kind, answer);
+    behind_words(&mut out, kind, answer, board);
+    out.cursor
 }
 
 // The first byte of a record, its kind; 0 where there is none.
-fn first(bytes: &[u8]) -> u8
+fn kind_of(bytes: &[u8]) -> u8
     ensures { result ≡ get_or bytes.now 0 0 }
 {
-    if bytes.len() == 0 {
-        return 0;
-    }
-    bytes[0]
+    bytes.first().copied().unwrap_or(0)
 }
 
-// The longest text of an event: a line of 63 bytes, and behind a cut 256 lines of eight words, 65 bytes each.
-pub const LONGEST_TEXT: usize = 133183;
-
-// Whether a buffer of n bytes has room from `at` on for the longest text of an event.
-fn has_room(n: usize, at: usize) -> bool
-    ensures { result ≡ leb (at + longest_text) n }
-{
-    if n < LONGEST_TEXT {
-        return false;
-    }
-    at <= n - LONGEST_TEXT
-}
-
-// What an event leaves: the numbers beside the rows, the place behind its text, the bytes of its record, 0 for one that ends its file, and whether there was
-// room for its text.
+// What an event leaves: the place behind its text, and the bytes of its record, 0 for one that ends its file.
 #[derive(Clone, Copy)]
 pub struct Traced {
-    pub head: Head,
     pub at: usize,
     pub passed: usize,
-    pub room: bool,
 }
 
-// One event of a file: its step, and its text from `at` on. Without room nothing is done.
-fn trace_event(
-    h: Head,
-    threads: &mut Threads,
-    regions: &mut Regions,
-    owner: &mut Owners,
-    lock: &mut Locks,
-    cur: &mut Lines,
-    med: &mut Lines,
-    old: &mut OldLines,
-    car: &mut Lines,
-    bytes: &[u8],
-    dst: &mut [u8],
-    at: usize,
-) -> Traced
-    ensures { Traces h (lent threads) (lent regions) (lent owner) (lent lock) (lent cur) (lent med) (lent old) (lent car) (shown bytes) (lent dst) at result }
+// One event of a file: its step, and its text from `at` on. Without room for the longest text nothing is done.
+fn trace_event(board: &mut Board, bytes: &[u8], dst: &mut [u8], at: usize) -> Option<Traced>
+    ensures { Traces board.old board.new bytes.now dst.old dst.new at result }
 {
-    if !has_room(dst.len(), at) {
-        return Traced {
-            head: h,
-            at,
-            passed: 0,
-            room: false,
-        };
+    if !lines::has_room(dst.len(), at, LONGEST_TEXT) {
+        return None;
     }
-    let kind = first(bytes);
-    let o = engine::event(h, threads, regions, owner, lock, cur, med, old, car, bytes);
-    let g = o.head;
-    let a = o.answer;
-    let p = wording::answer_line(dst, Cursor { at, short: false }, kind, a);
-    let q = behind_words(dst, p, kind, a, g, threads, regions, med, old);
-    Traced {
-        head: g,
-        at: q.at,
+    let kind = kind_of(bytes);
+    let answer = engine::event(board, bytes);
+    let text = put_text(dst, at, kind, answer, board);
+    Some(Traced {
+        at: text.at,
         passed: events::record_length(bytes),
-        room: true,
-    }
+    })
 }
 
 // Whether a record is due at the front of a piece: a whole one, or in the last piece any.
+// Kept: whether the input has ended is a value that goes on changing, and two functions chosen by it are no plainer.
 fn is_due(rest: &[u8], last: bool) -> bool
     ensures { result ≡ cond last (ltb 0 (length rest.now)) (ltb 0 (record_length rest.now)) }
 {
     if last {
-        return 0 < rest.len();
+        !rest.is_empty()
+    } else {
+        events::record_length(rest) > 0
     }
-    0 < events::record_length(rest)
 }
 
-// The bytes of a piece that are run behind a record that did not pass: all n where it ended the file, those before it where it found no room.
-fn run_at(room: bool, i: usize, n: usize) -> usize
-    ensures { result ≡ cond room n i }
-{
-    if room {
-        return n;
-    }
-    i
-}
-
-// What a piece leaves: the numbers beside the rows, the place behind its text, the bytes that are run, and whether the next record found no room.
+/// What a piece leaves: the place behind its text, the bytes that are run, and whether the next record found no room.
+// Kept: `full` tells why the piece ended; what stands beside it holds either way.
 #[derive(Clone, Copy)]
 pub struct TracedPiece {
-    pub head: Head,
     pub at: usize,
     pub passed: usize,
     pub full: bool,
 }
 
-// The records of a piece of a file, one after the other, as long as there is room for their text. More bytes may come behind it, unless it is the last one.
+/// The records of a piece of a file, one after the other, as long as there is room for their text, which stands in `dst` from `at` on. More bytes may come behind
+/// a piece, unless it is the last one.
 pub fn trace_piece(
-    h: Head,
-    threads: &mut Threads,
-    regions: &mut Regions,
-    owner: &mut Owners,
-    lock: &mut Locks,
-    cur: &mut Lines,
-    med: &mut Lines,
-    old: &mut OldLines,
-    car: &mut Lines,
+    board: &mut Board,
     piece: &[u8],
     last: bool,
     dst: &mut [u8],
-    at: usize,
+    mut at: usize,
 ) -> TracedPiece
-    ensures { TracesPiece h (lent threads) (lent regions) (lent owner) (lent lock) (lent cur) (lent med) (lent old) (lent car) (shown piece) last (lent dst) at result }
+    ensures { Ran last board.old board.new piece.now dst.old dst.new at result }
 {
-    let mut next = h;
-    let mut p = at;
-    let mut i: usize = 0;
-    loop {
-        if !is_due(&piece[i..], last) {
+    let mut passed = 0;
+    while is_due(&piece[passed..], last) {
+        let Some(traced) = trace_event(board, &piece[passed..], dst, at) else {
             return TracedPiece {
-                head: next,
-                at: p,
-                passed: i,
-                full: false,
+                at,
+                passed,
+                full: true,
             };
+        };
+        at = traced.at;
+        if traced.passed == 0 {
+            passed = piece.len();
+            break;
         }
-        let r = trace_event(
-            next,
-            threads,
-            regions,
-            owner,
-            lock,
-            cur,
-            med,
-            old,
-            car,
-            &piece[i..],
-            dst,
-            p,
-        );
-        next = r.head;
-        p = r.at;
-        if r.passed == 0 {
-            return TracedPiece {
-                head: next,
-                at: p,
-                passed: run_at(r.room, i, piece.len()),
-                full: !r.room,
-            };
-        }
-        i += r.passed;
+        passed += traced.passed;
+    }
+    TracedPiece {
+        at,
+        passed,
+        full: false,
     }
 }
 
-// In whatever pieces a file comes, what is printed is the text of its records.
+/// In whatever pieces a file comes, what is printed is the text of its records.
 pub fn pieces_are_right()
     ensures { GoesOn }
 {}

@@ -1,6 +1,7 @@
 -- Searches in lists, and tables as functions.
 -- Assumes nothing.
-use Rattle.std.specs.Prelude.{ℕ, Bool, false, ◌||◌, cond, List, [], ◌∷◌, eqb}
+use Rattle.std.specs.Prelude.{ℕ, Bool, cond, List, [], ◌∷◌, eqb}
+use Rattle.std.specs.List.{list_any}
 
 module _ {A : Type 0} where
   -- the elements that pass a test, and whether one passes
@@ -9,8 +10,7 @@ module _ {A : Type 0} where
   keep p (x ∷ xs) = cond (p x) (x ∷ keep p xs) (keep p xs)
 
   abbrev pub any : (A → Bool) → List A → Bool
-  any p [] = false
-  any p (x ∷ xs) = p x || any p xs
+  any p xs = list_any p xs
 
   -- table f with x at place l
   abbrev pub put : ℕ → A → (ℕ → A) → ℕ → A

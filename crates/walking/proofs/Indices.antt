@@ -1,8 +1,12 @@
 -- The log entry at a place of the walk.
+use Rattle.std.specs.Prelude.{None, Some}
 use Prim.Native.Nat.{◌+◌, ◌-◌, ◌<◌, ◌≤◌, suc, zero, ℕ}
-use mathlib.Core.Path.{◌∙◌, ◌≡◌, ap, refl}
-use mathlib.Core.Bool.{false, true}
-use mathlib.Core.List.{List, [], ◌++◌, ◌∷◌}
+use mathlib.Core.Path.{◌∙◌, ◌≡◌, ap, refl, sym}
+use mathlib.Core.Bool.{cond, false, true}
+use mathlib.Core.List.{List, [], ◌++◌, ◌∷◌, map}
+use Rattle.std.specs.List.{count_by}
+use Rattle.std.proofs.lemmas.List.Recursion.{is_count_by}
+use Rattle.rules.specs.declared.Mark.{Mark}
 use lib.Dec.{eqb}
 use lib.ListN.{drop, drop_of_length-le, get_or, length, take}
 use lib.Seq.{drop-cons, take-length, take-suc}
@@ -10,7 +14,6 @@ use native.Mathlib.Numerals.{add-one}
 use native.Mathlib.Omega.{arith}
 use Rattle.rules.proofs.Codec.Valid.{count_append}
 use Rattle.rules.specs.Lists.{count}
-use Rattle.rules.specs.declared.Found.TheVariants.{At, Full}
 use Rattle.undo.proofs.Laws.{test}
 use Rattle.walking.specs.Indices.{indices_of, last_first, nth, walk_indices}
 
@@ -21,7 +24,7 @@ module _ (k : ℕ) (ks : List ℕ) (i j : ℕ) (e : i ≡ suc j) where
   unfolding last_first
   nth_skip n f = rw (e, f)
 
-  pub nth_here : eqb (get_or ks j 0) k ≡ true → nth (last_first k i ks) 0 ≡ At j
+  pub nth_here : eqb (get_or ks j 0) k ≡ true → nth (last_first k i ks) 0 ≡ Some j
   unfolding last_first nth
   nth_here f = rw (e, f)
 
@@ -56,21 +59,36 @@ last_count k ks (suc n) h =
 pub indices_count : (k : ℕ) (ks : List ℕ) → length (indices_of ks k) ≡ count (λ x. eqb x k) ks
 indices_count k ks = last_count k ks (length ks) (omega arith) ∙ ap (count (λ x. eqb x k)) (take-length ks)
 
+-- the same by the entries themselves
+module _ (k : ℕ) where
+  none_counted : count (λ x. eqb x k) (map (λ (m : Mark). m.key) []) ≡ 0
+  unfolding count
+  none_counted = refl
+
+  one_counted : (m : Mark) (ms : List Mark)
+      → count (λ x. eqb x k) (map (λ m. m.key) (m ∷ ms)) ≡ cond (eqb m.key k) (1 + count (λ x. eqb x k) (map (λ m. m.key) ms)) (count (λ x. eqb x k) (map (λ m. m.key) ms))
+  unfolding count
+  one_counted m ms = ap (λ n. cond (eqb m.key k) n (count (λ x. eqb x k) (map (λ m. m.key) ms))) (omega arith)
+
+  pub entries_count : (ms : List Mark) → count_by (λ m. eqb m.key k) ms ≡ length (indices_of (map (λ m. m.key) ms) k)
+  entries_count ms =
+      sym (is_count_by (λ (es : List Mark). count (λ x. eqb x k) (map (λ m. m.key) es)) (λ m. eqb m.key k) none_counted one_counted ms) ∙ sym (indices_count k (map (λ m. m.key) ms))
+
 -- one turn and the end of the loop over the regions
 module _ (rs ks : List ℕ) (j left : ℕ) where
-  module _ (h : j < length rs) (c : ℕ) (e : c ≡ count (λ x. eqb x (get_or rs j 0)) ks) where
+  module _ (h : j < length rs) (c : ℕ) (e : c ≡ length (indices_of ks (get_or rs j 0))) where
     pub walk_hit : left < c → nth (indices_of ks (get_or rs j 0)) left ≡ nth (walk_indices (drop j rs) ks) left
     unfolding walk_indices
     walk_hit l =
-        let s : left < length (indices_of ks (get_or rs j 0)) = rw (indices_count (get_or rs j 0) ks, ← e) l in
+        let s : left < length (indices_of ks (get_or rs j 0)) = rw (← e) l in
         rw (drop-cons rs j 0 h, nth_front (indices_of ks (get_or rs j 0)) (walk_indices (drop (suc j) rs) ks) left s)
 
     pub walk_on : c ≤ left → nth (walk_indices (drop (j + 1) rs) ks) (left - c) ≡ nth (walk_indices (drop j rs) ks) left
     unfolding walk_indices
     walk_on l =
-        let s : length (indices_of ks (get_or rs j 0)) ≤ left = rw (indices_count (get_or rs j 0) ks, ← e) l in
-        rw (add-one j, drop-cons rs j 0 h, nth_behind (indices_of ks (get_or rs j 0)) (walk_indices (drop (suc j) rs) ks) left s, indices_count (get_or rs j 0) ks, e)
+        let s : length (indices_of ks (get_or rs j 0)) ≤ left = rw (← e) l in
+        rw (add-one j, drop-cons rs j 0 h, nth_behind (indices_of ks (get_or rs j 0)) (walk_indices (drop (suc j) rs) ks) left s, e)
 
-  pub walk_end : length rs ≤ j → Full ≡ nth (walk_indices (drop j rs) ks) left
+  pub walk_end : length rs ≤ j → None ≡ nth (walk_indices (drop j rs) ks) left
   unfolding walk_indices nth
   walk_end h = rw (drop_of_length-le rs h)

@@ -1,4 +1,5 @@
 -- The entries of the walk are those at the indices of the walk.
+use Rattle.std.specs.Prelude.{None, Some}
 use Prim.Native.Nat.{◌-◌, ◌<◌, ◌≤◌, suc, zero, ℕ}
 use mathlib.Core.Path.{◌∙◌, ◌≡◌, ap, ap₂, refl, sym}
 use mathlib.Core.Bool.{Bool, cond}
@@ -10,7 +11,6 @@ use native.Mathlib.Omega.{arith}
 use borrow.Author.Tests.{ltb-false, ltb-true}
 use Rattle.rules.specs.Image.{Logged, Persistent, no_logged}
 use Rattle.rules.specs.Walk.{entries_from, entries_of, walk, walk_entries}
-use Rattle.rules.specs.declared.Found.TheVariants.{At, Full}
 use Rattle.undo.proofs.Laws.{test}
 use Rattle.undo.specs.Table.{keep}
 use Rattle.walking.proofs.Indices.{nth_behind, nth_front}
@@ -64,20 +64,20 @@ walk_entries_lem p = sym (all_entries p.log (walk p))
 
 -- ---- what a step restores: the entry found, and whether entries remain after it
 
-nth_drop : (xs : List ℕ) (n i : ℕ) → nth xs n ≡ At i → drop n xs ≡ i ∷ drop (suc n) xs
+nth_drop : (xs : List ℕ) (n i : ℕ) → nth xs n ≡ Some i → drop n xs ≡ i ∷ drop (suc n) xs
 unfolding nth
 nth_drop [] n i e = let z : ◌≡◌ {A = ℕ} 0 1 = cc in absurd (omega arith)
 nth_drop (x ∷ xs) zero i e = let z : x ≡ i = cc in rw z
 nth_drop (x ∷ xs) (suc n) i e = nth_drop xs n i e
 
-nth_none : (xs : List ℕ) (n : ℕ) → nth xs n ≡ Full → drop n xs ≡ []
+nth_none : (xs : List ℕ) (n : ℕ) → nth xs n ≡ None → drop n xs ≡ []
 unfolding nth
 nth_none [] n e = drop-nil n
 nth_none (x ∷ xs) zero e = let z : ◌≡◌ {A = ℕ} 0 1 = cc in absurd (omega arith)
 nth_none (x ∷ xs) (suc n) e = nth_none xs n e
 
 module _ (p : Persistent) (n : ℕ) where
-  pub entry_found : (i : ℕ) → nth (indices_in p) n ≡ At i → drop n (walk_entries p) ≡ get_or p.log i no_logged ∷ drop (suc n) (walk_entries p)
+  pub entry_found : (i : ℕ) → nth (indices_in p) n ≡ Some i → drop n (walk_entries p) ≡ get_or p.log i no_logged ∷ drop (suc n) (walk_entries p)
   entry_found i e =
       rw (
         walk_entries_lem p,
@@ -86,23 +86,23 @@ module _ (p : Persistent) (n : ℕ) where
         nth_drop (indices_in p) n i e,
       )
 
-  pub entry_none : nth (indices_in p) n ≡ Full → drop n (walk_entries p) ≡ []
+  pub entry_none : nth (indices_in p) n ≡ None → drop n (walk_entries p) ≡ []
   entry_none e = rw (walk_entries_lem p, map_drop (λ j. get_or p.log j no_logged) n (indices_in p), nth_none (indices_in p) n e)
 
 -- ---- an entry found is one of the log
 
-last_below : (k n : ℕ) (ks : List ℕ) (m i : ℕ) → nth (last_first k n ks) m ≡ At i → i < n
+last_below : (k n : ℕ) (ks : List ℕ) (m i : ℕ) → nth (last_first k n ks) m ≡ Some i → i < n
 unfolding last_first nth
 last_below k zero ks m i e = let z : ◌≡◌ {A = ℕ} 0 1 = cc in absurd (omega arith)
 last_below k (suc n) ks m i e =
     test (eqb (get_or ks n 0) k) (λ t. go m (rw t at e) (λ q f. last_below k n ks q i f))
     (λ t. let h : i < n = last_below k n ks m i (rw t at e) in omega arith)
   where
-    go : (m : ℕ) → nth (n ∷ last_first k n ks) m ≡ At i → ((q : ℕ) → nth (last_first k n ks) q ≡ At i → i < n) → i < suc n
+    go : (m : ℕ) → nth (n ∷ last_first k n ks) m ≡ Some i → ((q : ℕ) → nth (last_first k n ks) q ≡ Some i → i < n) → i < suc n
     go zero f ih = let z : n ≡ i = cc in omega arith
     go (suc q) f ih = let z : i < n = ih q f in omega arith
 
-pub found_below : (rs ks : List ℕ) (n i : ℕ) → nth (walk_indices rs ks) n ≡ At i → i < length ks
+pub found_below : (rs ks : List ℕ) (n i : ℕ) → nth (walk_indices rs ks) n ≡ Some i → i < length ks
 unfolding walk_indices nth
 found_below [] ks n i e = let z : ◌≡◌ {A = ℕ} 0 1 = cc in absurd (omega arith)
 found_below (k ∷ rs) ks n i e =

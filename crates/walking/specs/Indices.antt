@@ -1,8 +1,6 @@
 -- The log entries in the order in which they are restored, by their indices in the log.
-use Rattle.std.specs.Prelude.{◌-◌, suc, zero, ℕ, cond, List, [], ◌++◌, ◌∷◌, map, eqb, get_or, length, replicate, take}
+use Rattle.std.specs.Prelude.{◌-◌, suc, zero, ℕ, cond, List, [], ◌++◌, ◌∷◌, map, eqb, get_or, length, replicate, take, None, Option, Some}
 use Rattle.rules.specs.Measures.{most_regions}
-use Rattle.rules.specs.declared.Found.TheVariants.{At, Full}
-use Rattle.rules.specs.declared.Found.{Found}
 use Rattle.rules.specs.declared.Mark.{Mark}
 use Rattle.walking.specs.declared.Order.{Order}
 
@@ -28,11 +26,11 @@ walk_indices [] ks = []
 walk_indices (k ∷ rs) ks = indices_of ks k ++ walk_indices rs ks
 
 -- number n of a list
-unfoldable pub nth : List ℕ → ℕ → Found
-nth [] n = Full
-nth (i ∷ is) zero = At i
+unfoldable pub nth : List ℕ → ℕ → Option ℕ
+nth [] n = None
+nth (i ∷ is) zero = Some i
 nth (i ∷ is) (suc n) = nth is n
 
 -- log entry number n of the walk
-abbrev pub entry_at : List ℕ → List Mark → ℕ → Found
+abbrev pub entry_at : List ℕ → List Mark → ℕ → Option ℕ
 entry_at rs ms n = nth (walk_indices rs (map (λ m. m.key) ms)) n

@@ -1,193 +1,130 @@
 #![tactic(auto)]
 
-// The recovery walk: the order of the regions, and the log entry at a place of the walk. The first `held` regions and the first `logged` marks count.
-ghost use Rattle.std.specs.Prelude.{◌<◌, ◌≤◌, ◌≡◌, not, map, eqb, length, take};
-ghost use Rattle.undo.specs.Table.{any};
-ghost use Rattle.rules.specs.Lists.{count, place};
-ghost use Rattle.rules.specs.Walk.{walk_from};
-ghost use Rattle.walking.specs.Indices.{entry_at, held_order, indices_of, nth, order_of, walk_indices};
-ghost use Rattle.walking.specs.Rest.{Removed};
+// The recovery walk: the order of the regions, and the log entry at a place of the walk.
+ghost use Rattle.std.specs.Prelude.{◌<◌, ◌≤◌, ◌≡◌, ◌-◌, eqb, length, map, not, position, take};
+ghost use Rattle.std.specs.List.{count_by};
+ghost use Rattle.rules.specs.Measures.{most_regions};
+ghost use Rattle.rules.specs.Walk.{is_needed, walk_from, without};
+ghost use Rattle.walking.specs.Indices.{entry_at, held_order, indices_of, nth, order_of};
 
-use faults::depends;
-use judging::{keys_of, least};
-use measures::{MOST_DEPS, MOST_LOGGED, MOST_REGIONS};
-use rules::{Found, Listed, Mark};
+use measures::{MOST_DEPS, MOST_REGIONS};
+use rules::{Listed, Mark};
 
-// The keys of the regions in the order of the walk: the first `count` of them.
+/// The keys of the regions in the order of the walk: the first `count` of them. Kept: fixed memory.
 #[derive(Clone, Copy)]
 pub struct Order {
     pub count: usize,
     pub keys: [u32; MOST_REGIONS],
 }
 
+// A place without a region.
+const NO_REGION: Listed = Listed {
+    key: 0,
+    state: 0,
+    deps: [0; MOST_DEPS],
+};
+
+impl Order {
+    /// The keys, first to last.
+    pub fn keys(&self) -> &[u32]
+        ensures { result.now ≡ order_of self.now }
+    {
+        &self.keys[..self.count.min(MOST_REGIONS)]
+    }
+}
+
 // ---- the order of the regions
 
-// The dependences of the first n regions.
-fn deps_of(n: usize, regions: [Listed; MOST_REGIONS]) -> [[u32; MOST_DEPS]; MOST_REGIONS]
-    requires { n ≤ 32 }
-    ensures { take n result ≡ map (λ x. x.deps) (take n regions) }
-{
-    let mut deps = [[0u32; MOST_DEPS]; MOST_REGIONS];
-    let mut i: usize = 0;
-    while i < n {
-        let x = regions[i];
-        let d = x.deps;
-        deps[i] = d;
-        i += 1;
-    }
-    deps
-}
-
 // Whether some region depends on region `key`.
-fn is_needed(deps: &[[u32; MOST_DEPS]], key: u32) -> bool
-    ensures { result ≡ any (any (eqb key)) deps.now }
+fn is_needed(regions: &[Listed], key: u32) -> bool
+    ensures { result ≡ is_needed regions.now key }
 {
-    let mut i: usize = 0;
-    while i < deps.len() {
-        let d = deps[i];
-        if depends(d, key) {
-            return true;
-        }
-        i += 1;
-    }
-    false
+    regions
+        .iter()
+        .any(|region| faults::depends(&region.deps, key))
 }
 
-// The place of the first region on which none depends; the number of regions where there is none.
-fn next_place(keys: &[u32], deps: &[[u32; MOST_DEPS]]) -> usize
-    ensures { result ≡ place (λ k. not (any (any (eqb k)) deps.now)) keys.now }
+// The place of the first region on which none depends.
+fn next_place(regions: &[Listed]) -> Option<usize>
+    ensures { result ≡ position (λ r. not (is_needed regions.now r.key)) regions.now }
 {
-    let mut first: usize = 0;
-    let at = loop {
-        if keys.len() <= first {
-            break first;
-        }
-        let key = keys[first];
-        if !is_needed(deps, key) {
-            break first;
-        }
-        first += 1;
-    };
-    at
+    regions
+        .iter()
+        .position(|region| !is_needed(regions, region.key))
 }
 
-// The region at `at` taken out of the first n: those behind it move up.
-fn remove(
-    keys: &mut [u32; MOST_REGIONS],
-    deps: &mut [[u32; MOST_DEPS]; MOST_REGIONS],
-    n: usize,
-    at: usize,
-)
-    requires { (at < n) × ((n ≤ 32) × ((length keys.old ≡ 32) × (length deps.old ≡ 32))) }
-    ensures { Removed n at keys.old keys.new × Removed n at deps.old deps.new }
+// The region at a place taken out: those behind it move up, and the last place is free.
+fn remove(regions: &mut [Listed], place: usize)
+    requires { place < length regions.old }
+    ensures { take (length regions.old - 1) regions.new ≡ without place regions.old }
 {
-    let mut i = at;
-    while i + 1 < n {
-        let k = keys[i + 1];
-        keys[i] = k;
-        let d = deps[i + 1];
-        deps[i] = d;
-        i += 1;
-    }
+    let end = regions.len();
+    regions.copy_within(place + 1..end, place);
 }
 
-// The regions in the order of the walk: always the first on which no remaining region depends.
-pub fn walk_order(held: usize, regions: [Listed; MOST_REGIONS]) -> Order
-    ensures { result ≡ held_order (walk_from (length (take held regions)) (take held regions)) }
+/// The regions in the order of the walk: always the first on which no remaining region depends. The first 32 regions count; no image that is read has more.
+// Kept: no heap, so what remains is the front of an array, whose length falls.
+pub fn walk_order(regions: &[Listed]) -> Order
+    ensures { result ≡ held_order (walk_from (length (take most_regions regions.now)) (take most_regions regions.now)) }
 {
-    let mut left = least(held, MOST_REGIONS);
-    let mut keys = keys_of(regions);
-    let mut deps = deps_of(left, regions);
-    let mut order = [0u32; MOST_REGIONS];
-    let mut count: usize = 0;
-    while 0 < left {
-        let at = next_place(&keys[..left], &deps[..left]);
-        if left <= at {
-            return Order { count, keys: order };
-        }
-        order[count] = keys[at];
-        remove(&mut keys, &mut deps, left, at);
-        left -= 1;
+    let mut left = regions.len().min(MOST_REGIONS);
+    let mut remaining = [NO_REGION; MOST_REGIONS];
+    remaining[..left].copy_from_slice(&regions[..left]);
+    let mut count = 0;
+    let mut keys = [0u32; MOST_REGIONS];
+    while let Some(place) = next_place(&remaining[..left]) {
+        keys[count] = remaining[place].key;
         count += 1;
+        remove(&mut remaining[..left], place);
+        left -= 1;
     }
-    Order { count, keys: order }
+    Order { count, keys }
 }
 
 // ---- the log entry at a place of the walk
 
-// The keys of the first n log entries.
-fn log_keys(n: usize, log: [Mark; MOST_LOGGED]) -> [u32; MOST_LOGGED]
-    requires { n ≤ 256 }
-    ensures { take n result ≡ map (λ m. m.key) (take n log) }
-{
-    let mut keys = [0u32; MOST_LOGGED];
-    let mut i: usize = 0;
-    while i < n {
-        let m = log[i];
-        keys[i] = m.key;
-        i += 1;
-    }
-    keys
-}
-
 // How many log entries region `key` has.
-fn count_of(log: &[u32], key: u32) -> usize
-    ensures { result ≡ count (λ k. eqb k key) log.now }
+// Kept: a chain of `filter` and `count` runs mark by mark and makes a recovery step half as slow again: it misses the speed of the step that docs/SPEED.md has.
+fn count_of(log: &[Mark], key: u32) -> usize
+    ensures { result ≡ count_by (λ m. eqb m.key key) log.now }
 {
-    let mut c: usize = 0;
-    let mut i: usize = 0;
-    while i < log.len() {
-        if log[i] == key {
-            c += 1;
+    let mut entries = 0;
+    for mark in log {
+        if mark.key == key {
+            entries += 1;
         }
-        i += 1;
     }
-    c
+    entries
 }
 
 // The index of number n of the entries of region `key`, last entry first.
-fn entry_in(log: &[u32], key: u32, n: usize) -> Found
-    ensures { result ≡ nth (indices_of log.now key) n }
+// Kept: the place in the order of writing is what is left to count down to.
+fn entry_in(log: &[Mark], key: u32, n: usize) -> Option<usize>
+    ensures { result ≡ nth (indices_of (map (λ m. m.key) log.now) key) n }
 {
     let mut left = n;
-    let mut i = log.len();
-    while 0 < i {
-        i -= 1;
-        if log[i] == key {
+    for i in (0..log.len()).rev() {
+        if log[i].key == key {
             if left == 0 {
-                return Found::At(i);
+                return Some(i);
             }
             left -= 1;
         }
     }
-    Found::Full
+    None
 }
 
-// The same over all entries, region by region in the order given.
-fn entry_among(order: &[u32], log: &[u32], n: usize) -> Found
-    ensures { result ≡ nth (walk_indices order.now log.now) n }
+/// The index of log entry number `place` of the walk: region by region in its order, of each the last entry first.
+pub fn entry_at(order: &Order, log: &[Mark], place: usize) -> Option<usize>
+    ensures { result ≡ entry_at (order_of order.now) log.now place }
 {
-    let mut left = n;
-    let mut j: usize = 0;
-    while j < order.len() {
-        let key = order[j];
-        let c = count_of(log, key);
-        if left < c {
+    let mut left = place;
+    for &key in order.keys() {
+        let entries = count_of(log, key);
+        if left < entries {
             return entry_in(log, key, left);
         }
-        left -= c;
-        j += 1;
+        left -= entries;
     }
-    Found::Full
-}
-
-// The index of log entry number `place` of the walk.
-pub fn entry_at(order: Order, logged: usize, log: [Mark; MOST_LOGGED], place: usize) -> Found
-    ensures { result ≡ entry_at (order_of order) (take logged log) place }
-{
-    let n = least(order.count, MOST_REGIONS);
-    let m = least(logged, MOST_LOGGED);
-    let regions = order.keys;
-    let entries = log_keys(m, log);
-    entry_among(&regions[..n], &entries[..m], place)
+    None
 }

@@ -33,7 +33,8 @@ use Rattle.rules.specs.Lists.{all, flat}
 use Rattle.rules.specs.Recovery.{Recovering, line_start, restore}
 use Rattle.rules.specs.Refusal.{is_set_up}
 use Rattle.rules.specs.Run.{wrote_into}
-use Rattle.rules.specs.Tables.{Board, Memory, line_of}
+use Rattle.rules.specs.Tables.{Memory, line_of}
+use Rattle.rules.specs.declared.Board.{Board}
 use Rattle.wording.proofs.Words.{expected_found, image_log}
 use Rattle.wording.specs.Claim.{WordsExpected}
 use Rattle.wording.specs.Text.{cut_text, finish, flat_to, image_buffer, image_line, line_text, memory_text, recovered, recovered_text}

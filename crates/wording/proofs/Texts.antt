@@ -1,79 +1,37 @@
 -- The lines of a trace: how they are put, how long they are, and what a loop over numbers has still to put.
-use Prim.Native.Nat.{◌*◌, ◌+◌, ◌-◌, ◌<◌, ◌≤◌, suc, zero, ℕ}
-use mathlib.Core.Path.{◌≡◌, refl, sym}
-use mathlib.Core.List.{List, [], ◌++◌, ◌∷◌}
+use Prim.Native.Nat.{◌*◌, ◌+◌, ◌≤◌, suc, zero, ℕ}
+use mathlib.Core.Path.{◌≡◌, refl}
+use mathlib.Core.List.{List, [], ◌++◌, ◌∷◌, append_assoc, append-nil}
 use lib.Dec.{eqb}
 use lib.ListN.{get_or, length, length-append}
 use native.Mathlib.Omega.{arith}
 use native.Mathlib.Numerals.{add-one}
-use borrow.Author.Tests.{eq-eqb, ne_eqb}
-use native.Mathlib.Nat.{mul-suc}
+use native.Mathlib.Nat.{add-suc, add-zero, mul-suc, suc-add, zero-add}
 use Rattle.output.proofs.Digits.{decimal_short, either_short}
-use Rattle.output.proofs.Rooms.{puts_join, puts_none}
+use Rattle.output.proofs.Rooms.{puts_join}
 use Rattle.output.specs.Decimal.{decimal}
 use Rattle.output.specs.Room.{Room, puts}
 use Rattle.rules.specs.declared.Answer.{Answer}
 use Rattle.wording.specs.Text.{answer_text, flat_to, image_line, line_text, memory_text, number_text, word_text}
 
--- ---- each line by its parts
+-- ---- how the parts are put
 
-module _ (r : Room) where
-  pub number_puts : (n e : ℕ) → puts (puts r (decimal n)) (e ∷ []) ≡ puts r (number_text n e)
-  unfolding number_text
-  number_puts n e = sym (puts_join r (decimal n) (e ∷ []))
+-- behind "M "
+pub mark_puts : (r : Room) (xs : List ℕ) → puts r (77 ∷ (32 ∷ xs)) ≡ puts (puts r (77 ∷ (32 ∷ []))) xs
+mark_puts r xs = puts_join r (77 ∷ (32 ∷ [])) xs
 
-  pub answer_puts : (k : ℕ) (a : Answer) → puts (puts (puts r (number_text k 32)) (number_text a.refusal 32)) (number_text a.value 10) ≡ puts r (answer_text k a)
-  unfolding answer_text
-  answer_puts k a =
-      rw (
-        puts_join r (number_text k 32) (number_text a.refusal 32 ++ number_text a.value 10),
-        puts_join (puts r (number_text k 32)) (number_text a.refusal 32) (number_text a.value 10),
-      )
+flat_last : (f : ℕ → List ℕ) (i n : ℕ) → flat_to f i (suc n) ≡ flat_to f i n ++ f (i + n)
+unfolding flat_to
+flat_last f i zero = rw (append-nil, add-zero)
+flat_last f i (suc n) = rw (flat_last f (suc i) n, append_assoc, add-suc i n, suc-add i n)
 
-  pub word_none : (l w v : ℕ) → v ≡ 0 → r ≡ puts r (word_text l w v)
-  unfolding word_text
-  word_none l w v e = rw (eq-eqb v 0 e) (sym (puts_none r))
+-- one number more
+pub flat_more : (f : ℕ → List ℕ) (n : ℕ) → flat_to f 0 (n + 1) ≡ flat_to f 0 n ++ f n
+flat_more f n = rw (add-one n, flat_last f 0 n, zero-add)
 
-  pub word_puts : (l w v : ℕ) → (v ≡ 0 → ⊥)
-      → puts (puts (puts (puts (puts r (77 ∷ [])) (32 ∷ [])) (number_text l 32)) (number_text w 32)) (number_text v 10) ≡ puts r (word_text l w v)
-  unfolding word_text
-  word_puts l w v e =
-      let x = number_text l 32 in
-      let y = number_text w 32 in
-      let z = number_text v 10 in
-      rw (
-        ne_eqb v 0 e,
-        puts_join r (77 ∷ []) (32 ∷ (x ++ (y ++ z))),
-        puts_join (puts r (77 ∷ [])) (32 ∷ []) (x ++ (y ++ z)),
-        puts_join (puts (puts r (77 ∷ [])) (32 ∷ [])) x (y ++ z),
-        puts_join (puts (puts (puts r (77 ∷ [])) (32 ∷ [])) x) y z,
-      )
-
--- ---- a loop over numbers
-
-module _ (f : ℕ → List ℕ) (n : ℕ) where
-  -- what is still to put from i on
-  abbrev pub left : ℕ → List ℕ
-  left i = flat_to f i (n - i)
-
-  pub left_all : flat_to f 0 n ≡ left 0
-  left_all = let e : n - 0 ≡ n = omega arith in rw e
-
-  pub left_more : (r : Room) (i : ℕ) → i < n → puts (puts r (f i)) (left (i + 1)) ≡ puts r (left i)
-  unfolding flat_to
-  left_more r i h = let e : n - i ≡ suc (n - suc i) = omega arith in rw (add-one i, e) (sym (puts_join r (f i) (flat_to f (suc i) (n - suc i))))
-
-  pub left_none : (r : Room) (i : ℕ) → n ≤ i → r ≡ puts r (left i)
-  unfolding flat_to
-  left_none r i h = let e : n - i ≡ 0 = omega arith in rw e (sym (puts_none r))
-
-pub line_said : (l : ℕ) (ws : List ℕ) → line_text l ws ≡ left (λ w. word_text l w (get_or ws w 0)) 8 0
-unfolding line_text
-line_said l ws = refl
-
-pub memory_said : (n : ℕ) (bs : List ℕ) → memory_text n bs ≡ left (λ l. line_text l (image_line bs l)) n 0
-unfolding memory_text
-memory_said n bs = left_all (λ l. line_text l (image_line bs l)) n
+pub flat_none : (f : ℕ → List ℕ) → flat_to f 0 0 ≡ []
+unfolding flat_to
+flat_none f = refl
 
 -- ---- lengths
 

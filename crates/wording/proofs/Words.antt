@@ -21,7 +21,8 @@ use Rattle.rules.specs.Lists.{all, rising}
 use Rattle.rules.specs.Reader.{Reads, Refuses, Verdict, read_image}
 use Rattle.rules.specs.Recovery.{Act, PowerCut, Recovering, Restore, act, acts, restore, restore_by, restore_read}
 use Rattle.rules.specs.Walk.{walk_entries}
-use Rattle.rules.specs.Tables.{Board, Memory, thread_at}
+use Rattle.rules.specs.Tables.{Memory, thread_at}
+use Rattle.rules.specs.declared.Board.{Board}
 use Rattle.wording.specs.Text.{finish, recovered}
 use Rattle.undo.proofs.Laws.{and_true, test}
 
@@ -50,7 +51,7 @@ unfolding saved_thread
 thread_log b t h =
     let log = (thread_at t b.tables).log in
     let xs = map order_of log in
-    omega (arith, h, length-map log order_of, rising_length 0 (length xs) xs, length-map (rising xs) (saved_entry t log b.old))
+    omega (arith, h, length-map log order_of, rising_length 0 (length xs) xs, length-map (rising xs) (saved_entry t log b.log_lines))
 
 all_logs : (b : Board) → ((t : ℕ) → length (thread_at t b.tables).log ≡ 32) → (n t : ℕ) → length (saved_log t n b) ≤ 32 * n
 unfolding saved_log

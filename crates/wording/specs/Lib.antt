@@ -1,3 +1,2 @@
 pub mod Text
-pub mod Results
 pub mod Claim

@@ -7,7 +7,8 @@ use Rattle.rules.specs.Image.{save}
 use Rattle.rules.specs.Measures.{line_words, most_logged}
 use Rattle.rules.specs.Recovery.{Recovering, line_start, restore}
 use Rattle.rules.specs.Run.{Wrote}
-use Rattle.rules.specs.Tables.{Board, no_line}
+use Rattle.rules.specs.Tables.{no_line}
+use Rattle.rules.specs.declared.Board.{Board}
 use Rattle.rules.specs.declared.Answer.{Answer}
 
 -- a number and the byte that ends it

@@ -1,109 +1,105 @@
 #![tactic(auto)]
 
 // The lines of a trace: that of an answer, and those of the words that recovery leaves in an image.
-// Every writer puts its bytes behind the cursor. Bytes that find no room are dropped, and the cursor says so.
+// Every function puts its bytes behind a writer's cursor. Bytes that find no room are dropped, and the cursor says so.
 ghost use Rattle.std.specs.Prelude.{◌≡◌};
-ghost use Rattle.wording.specs.Results.{Adds, WordsAdded};
+ghost use Rattle.output.specs.Writer.{Puts};
 ghost use Rattle.wording.specs.Text.{answer_text, image_line, line_text, memory_text, number_text, recovered, word_text};
 ghost use Rattle.wording.specs.Claim.{WordsExpected};
 
-use measures::{LINE_WORDS, Line, MOST_LOGGED};
-use output::Cursor;
+use measures::{Line, MOST_LOGGED};
+use output::Writer;
 use rules::Answer;
 
 // A number and the byte that ends it.
-fn put_number(out: &mut [u8], c: Cursor, n: u64, end: u8) -> Cursor
-    ensures { Adds out.old c out.new result (number_text n end) }
+#[tactic(auto, using(output::proofs::Rooms::puts_join), unfolding(crate::specs::Text::number_text))]
+fn put_number(out: &mut Writer<'_>, number: u64, end: u8)
+    ensures { Puts out.old (number_text number end) out.new }
 {
-    let q = output::put_decimal(out, c, n);
-    output::put_byte(out, q, end)
+    out.put_decimal(number);
+    out.put_byte(end);
 }
 
-// The line of an answer: kind, refusal, value.
-pub fn answer_line(out: &mut [u8], c: Cursor, kind: u8, a: Answer) -> Cursor
-    ensures { Adds out.old c out.new result (answer_text kind a) }
+/// The line of an answer: kind, refusal, value.
+#[tactic(auto, using(output::proofs::Rooms::puts_join), unfolding(crate::specs::Text::answer_text))]
+pub fn answer_line(out: &mut Writer<'_>, kind: u8, answer: Answer)
+    ensures { Puts out.old (answer_text kind answer) out.new }
 {
-    let p = put_number(out, c, kind as u64, 32);
-    let q = put_number(out, p, a.refusal as u64, 32);
-    put_number(out, q, a.value, 10)
+    put_number(out, u64::from(kind), b' ');
+    put_number(out, u64::from(answer.refusal), b' ');
+    put_number(out, answer.value, b'\n');
 }
 
 // The line of a recovered word; none for zero.
-fn word_line(out: &mut [u8], c: Cursor, l: u16, w: usize, v: u64) -> Cursor
-    ensures { Adds out.old c out.new result (word_text l w v) }
+#[tactic(auto, using(output::proofs::Rooms::puts_join, output::proofs::Rooms::puts_none, crate::proofs::Texts::mark_puts), unfolding(crate::specs::Text::word_text))]
+fn word_line(out: &mut Writer<'_>, line: u16, word: usize, value: u64)
+    ensures { Puts out.old (word_text line word value) out.new }
 {
-    if v == 0 {
-        return c;
+    if value != 0 {
+        out.put_all(b"M ");
+        put_number(out, u64::from(line), b' ');
+        put_number(out, word as u64, b' ');
+        put_number(out, value, b'\n');
     }
-    let m = output::put_byte(out, c, 77);
-    let s = output::put_byte(out, m, 32);
-    let p = put_number(out, s, l as u64, 32);
-    let q = put_number(out, p, w as u64, 32);
-    put_number(out, q, v, 10)
 }
 
-// The lines of the words of line l.
-fn line_words(out: &mut [u8], c: Cursor, l: u16, line: Line) -> Cursor
-    ensures { Adds out.old c out.new result (line_text l line) }
+// The lines of the words of a line.
+#[tactic(auto, using(output::proofs::Rooms::puts_join, output::proofs::Rooms::puts_none, crate::proofs::Texts::flat_more, crate::proofs::Texts::flat_none), unfolding(crate::specs::Text::line_text))]
+fn line_words(out: &mut Writer<'_>, line: u16, words: &Line)
+    ensures { Puts out.old (line_text line words.now) out.new }
 {
-    let mut q = c;
-    let mut w: usize = 0;
-    while w < LINE_WORDS {
-        q = word_line(out, q, l, w, line[w]);
-        w += 1;
+    for (word, &value) in words.iter().enumerate() {
+        word_line(out, line, word, value);
     }
-    q
 }
 
-// Line l of an image, out of its record; zero where the image does not hold it.
-fn image_line(image: &[u8], l: u16) -> Line
-    ensures { result ≡ image_line image.now l }
+// A line of an image, out of its record; zero where the image does not hold it.
+#[tactic(auto, unfolding(lines::specs::Room::line_in))]
+fn image_line(image: &[u8], line: u16) -> Line
+    ensures { result ≡ image_line image.now line }
 {
-    lines::take_line(image, 4 + (65 * (l as usize) + 1))
+    lines::take_line(image, 4 + (65 * usize::from(line) + 1))
 }
 
-// The lines of the words of an image's first n lines.
-fn memory_words(out: &mut [u8], c: Cursor, image: &[u8], n: u16) -> Cursor
-    ensures { Adds out.old c out.new result (memory_text n image.now) }
+// The lines of the words of an image's first lines.
+#[tactic(auto, using(output::proofs::Rooms::puts_join, output::proofs::Rooms::puts_none, crate::proofs::Texts::flat_more, crate::proofs::Texts::flat_none), unfolding(crate::specs::Text::memory_text))]
+fn memory_words(out: &mut Writer<'_>, image: &[u8], lines: u16)
+    ensures { Puts out.old (memory_text lines image.now) out.new }
 {
-    let mut q = c;
-    let mut l: u16 = 0;
-    while l < n {
-        q = line_words(out, q, l, image_line(image, l));
-        l += 1;
+    for line in 0..lines {
+        line_words(out, line, &image_line(image, line));
     }
-    q
 }
+
+// One step more than an image can hold log entries.
+const MOST_STEPS: usize = MOST_LOGGED + 1;
 
 // Recovery steps over an image until one does not answer 'more'.
+// Kept: a step answers as the C call does, 1 for more.
+#[tactic(auto, using(crate::proofs::Finish::finish_none))]
 fn recover(image: &mut [u8])
     ensures { image.new ≡ recovered image.old }
 {
-    let mut at: u64 = 0;
-    let mut n: usize = MOST_LOGGED;
-    loop {
-        let s = recovery::step_at(image, at, false);
-        let a = s.answer;
-        if a.value != 1 {
+    let mut at = 0;
+    for _ in 0..MOST_STEPS {
+        let step = recovery::step_at(image, at, false);
+        if step.answer.value != 1 {
             break;
         }
-        if n == 0 {
-            break;
-        }
-        at = s.at;
-        n -= 1;
+        at = step.at;
     }
 }
 
-// Recovers an image. The lines of the words of its first n lines.
-pub fn image_words(out: &mut [u8], c: Cursor, image: &mut [u8], n: u16) -> Cursor
-    ensures { WordsAdded out.old c image.old n out.new result image.new }
+/// Recovers an image. The lines of the words of its first lines.
+pub fn image_words(out: &mut Writer<'_>, image: &mut [u8], lines: u16)
+    ensures recovers { image.new ≡ recovered image.old }
+    ensures puts { Puts out.old (memory_text lines (recovered image.old)) out.new }
 {
     recover(image);
-    memory_words(out, c, image, n)
+    memory_words(out, image, lines);
 }
 
-// The words behind an accepted cut are those of the expected memory.
+/// The words behind an accepted cut are those of the expected memory.
 pub fn words_are_right()
     ensures { WordsExpected }
 {}

@@ -1,12 +1,12 @@
--- What a writer leaves: the buffer d' and the place p', where the buffer was d and the bytes x go from p on.
-use Rattle.std.specs.Prelude.{◌+◌, ℕ, ◌≡◌, cond, List, leb, length}
-use Rattle.std.proofs.lemmas.List.Edits.{sets}
+-- What a writer of records leaves.
+use Rattle.std.specs.Prelude.{◌+◌, ◌≤◌, cond, ℕ, List, [], leb, length}
+use Rattle.output.specs.Writer.{Puts}
+use Rattle.output.specs.declared.Writer.{Writer}
 
--- where there is room: the bytes, and the place behind them
-abbrev pub Put : List ℕ → List ℕ → ℕ → ℕ → List ℕ → Type 0
-Put d d' p p' x = (d' ≡ sets d p x) × (p' ≡ p + length x)
+-- there is room for the bytes bs behind the cursor
+abbrev pub Fits : Writer → List ℕ → Type 0
+Fits w bs = w.cursor.at + length bs ≤ length w.out.now
 
--- for every place: without room buffer and place stay
-abbrev pub Puts : List ℕ → List ℕ → ℕ → ℕ → List ℕ → Type 0
-Puts d d' p p' x =
-    (d' ≡ cond (leb (p + length x) (length d)) (sets d p x) d) × (p' ≡ cond (leb (p + length x) (length d)) (p + length x) p)
+-- w' is the writer w with the bytes bs put behind its cursor where there is room for them, and the same where there is none
+abbrev pub PutsWhole : Writer → List ℕ → Writer → Type 0
+PutsWhole w bs w' = Puts w (cond (leb (w.cursor.at + length bs) (length w.out.now)) bs []) w'

@@ -1,199 +1,155 @@
 #![tactic(auto)]
 
-// The records of an image into a lent buffer. Every writer has one contract shape, `Puts`: where there is room for its bytes from `at` on, the buffer has
-// them there and nothing else changed, and the answer is the place behind them; where there is none, buffer and place stay.
-ghost use Rattle.std.specs.Prelude.{◌+◌, ◌/◌, ◌%◌, ◌≤◌, ◌≡◌, [], ◌∷◌, length};
-ghost use Rattle.rules.specs.Bytes.{bytes_of, line_bytes};
+// The records of an image, put behind a writer's cursor. Every function has one contract shape, `PutsWhole`: where there is room for its bytes, they stand
+// behind the cursor and nothing else changed; where there is none, buffer and cursor stay.
+ghost use Rattle.std.specs.Prelude.{◌≡◌, [], ◌∷◌};
+ghost use Rattle.rules.specs.Bytes.{line_bytes};
 ghost use Rattle.rules.specs.Image.{entry_record, head_record, key_bytes, line_record, region_record};
-ghost use Rattle.rules.specs.Lists.{flat};
-ghost use Rattle.writing.specs.Put.{Put, Puts};
+ghost use Rattle.writing.specs.Put.{PutsWhole};
 
-use measures::{Line, MOST_DEPS};
+use measures::{LINE_BYTES, Line, MOST_DEPS};
+use output::Writer;
 
-// ---- bytes and numbers
+// The kinds of the records.
+// Kept: bytes of the format. An enum would be turned back into its byte at each place.
+const HEAD: u8 = 32;
 
-fn put_byte(dst: &mut [u8], at: usize, x: u8) -> usize
-    requires { at + length (x ∷ []) ≤ length dst.old }
-    ensures { Put dst.old dst.new at result (x ∷ []) }
+const LINE: u8 = 33;
+
+const REGION: u8 = 34;
+
+const ENTRY: u8 = 35;
+
+// Bytes, where there is room for all of them.
+#[tactic(auto, unfolding(output::specs::Room::puts))]
+fn put(out: &mut Writer<'_>, bytes: &[u8])
+    ensures { PutsWhole out.old bytes.now out.new }
 {
-    dst[at] = x;
-    at + 1
-}
-
-fn low(x: u16) -> u8
-    ensures { result ≡ x % 256 }
-{
-    (x % 256) as u8
-}
-
-fn high(x: u16) -> u8
-    ensures { result ≡ x / 256 % 256 }
-{
-    (x / 256) as u8
-}
-
-// A number in two bytes.
-fn put_two(dst: &mut [u8], at: usize, x: u16) -> usize
-    requires { at + length (bytes_of 2 x) ≤ length dst.old }
-    ensures { Put dst.old dst.new at result (bytes_of 2 x) }
-{
-    let a = put_byte(dst, at, low(x));
-    put_byte(dst, a, high(x))
-}
-
-fn thread_byte(key: u64) -> u8
-    ensures { result ≡ key / 65536 % 256 }
-{
-    (key / 65536 % 256) as u8
-}
-
-fn number_of(key: u64) -> u16
-    ensures { result ≡ key % 65536 }
-{
-    (key % 65536) as u16
-}
-
-fn put_key(dst: &mut [u8], at: usize, key: u64) -> usize
-    requires { at + length (key_bytes key) ≤ length dst.old }
-    ensures { Put dst.old dst.new at result (key_bytes key) }
-{
-    let a = put_byte(dst, at, thread_byte(key));
-    put_two(dst, a, number_of(key))
-}
-
-fn put_deps(dst: &mut [u8], at: usize, deps: [u64; MOST_DEPS]) -> usize
-    requires { at + length (flat key_bytes deps) ≤ length dst.old }
-    ensures { Put dst.old dst.new at result (flat key_bytes deps) }
-{
-    let mut p = at;
-    let mut i: usize = 0;
-    while i < MOST_DEPS {
-        p = put_key(dst, p, deps[i]);
-        i += 1;
+    if !lines::has_room(out.out.len(), out.cursor.at, bytes.len()) {
+        return;
     }
-    p
+    out.put_all(bytes);
 }
 
-fn put_line(dst: &mut [u8], at: usize, line: Line) -> usize
-    requires { at + length (line_bytes line) ≤ length dst.old }
-    ensures { Put dst.old dst.new at result (line_bytes line) }
+// ---- records and their parts as bytes
+
+// A region's key: its thread, then its number.
+// Kept: the thread's byte is taken modulo 256, as `key_bytes` of specs/ has it.
+fn key_bytes(key: u64) -> [u8; 3]
+    ensures { result ≡ key_bytes key }
 {
-    lines::put_line_at(dst, at, line);
-    at + 64
+    let [low, high, thread, ..] = key.to_le_bytes();
+    [thread, low, high]
 }
-
-// ---- records, where there is room
 
 // The kind of a record that is about a region, and the region's key.
-fn set_header(dst: &mut [u8], at: usize, kind: u8, key: u32) -> usize
-    requires { at + length (kind ∷ key_bytes key) ≤ length dst.old }
-    ensures { Put dst.old dst.new at result (kind ∷ key_bytes key) }
+fn header(kind: u8, key: u32) -> [u8; 4]
+    ensures { result ≡ kind ∷ key_bytes key }
 {
-    let a = put_byte(dst, at, kind);
-    put_key(dst, a, key as u64)
+    let [thread, low, high] = key_bytes(key as u64);
+    [kind, thread, low, high]
 }
 
-fn set_head(dst: &mut [u8], at: usize, threads: u8, lines: u16) -> usize
-    requires { at + length (head_record threads lines) ≤ length dst.old }
-    ensures { Put dst.old dst.new at result (head_record threads lines) }
+fn head_record(threads: u8, lines: u16) -> [u8; 4]
+    ensures { result ≡ head_record threads lines }
 {
-    let a = put_byte(dst, at, 32);
-    let b = put_byte(dst, a, threads);
-    put_two(dst, b, lines)
+    let [low, high] = lines.to_le_bytes();
+    [HEAD, threads, low, high]
 }
 
-fn set_line(dst: &mut [u8], at: usize, line: Line) -> usize
-    requires { at + length (line_record line) ≤ length dst.old }
-    ensures { Put dst.old dst.new at result (line_record line) }
+fn line_bytes(line: Line) -> [u8; LINE_BYTES]
+    ensures { result ≡ line_bytes line }
 {
-    let a = put_byte(dst, at, 33);
-    put_line(dst, a, line)
+    let mut bytes = [0; LINE_BYTES];
+    lines::put_line_at(&mut bytes, 0, line);
+    bytes
 }
 
-fn set_region(dst: &mut [u8], at: usize, key: u32, state: u8, deps: [u64; MOST_DEPS]) -> usize
-    requires { at + length (region_record (record { key = key; state = state; deps = deps })) ≤ length dst.old }
-    ensures { Put dst.old dst.new at result (region_record (record { key = key; state = state; deps = deps })) }
+fn line_record(line: Line) -> [u8; 1 + LINE_BYTES]
+    ensures { result ≡ line_record line }
 {
-    let a = set_header(dst, at, 34, key);
-    let b = put_byte(dst, a, state);
-    put_deps(dst, b, deps)
+    let mut record = [0; 1 + LINE_BYTES];
+    record[0] = LINE;
+    lines::put_line_at(&mut record, 1, line);
+    record
 }
 
-fn set_entry(dst: &mut [u8], at: usize, key: u32, line: u8, old: Line) -> usize
-    requires { at + length (entry_record (record { key = key; line = line; old = old })) ≤ length dst.old }
-    ensures { Put dst.old dst.new at result (entry_record (record { key = key; line = line; old = old })) }
+// Kept: four dependences have four places. A loop over them would have to say at each turn where a key's bytes stand.
+fn region_record(key: u32, state: u8, deps: [u64; MOST_DEPS]) -> [u8; 17]
+    ensures { result ≡ region_record (record { key = key; state = state; deps = deps }) }
 {
-    let a = set_header(dst, at, 35, key);
-    let b = put_byte(dst, a, line);
-    put_line(dst, b, old)
+    let [kind, thread, low, high] = header(REGION, key);
+    let first = key_bytes(deps[0]);
+    let second = key_bytes(deps[1]);
+    let third = key_bytes(deps[2]);
+    let fourth = key_bytes(deps[3]);
+    [
+        kind, thread, low, high, state, first[0], first[1], first[2], second[0], second[1],
+        second[2], third[0], third[1], third[2], fourth[0], fourth[1], fourth[2],
+    ]
+}
+
+// Kept: the struct of these three, `SavedEntry`, is of crate saving.
+fn entry_record(key: u32, line: u8, old: Line) -> [u8; 5 + LINE_BYTES]
+    ensures { result ≡ entry_record (record { key = key; line = line; old = old }) }
+{
+    let [kind, thread, low, high] = header(ENTRY, key);
+    let mut record = [0; 5 + LINE_BYTES];
+    record[..5].copy_from_slice(&[kind, thread, low, high, line]);
+    lines::put_line_at(&mut record, 5, old);
+    record
 }
 
 // ---- records
 
-pub fn put_head(dst: &mut [u8], at: usize, threads: u8, lines: u16) -> usize
-    ensures { Puts dst.old dst.new at result (head_record threads lines) }
+/// The front of an image: T and L.
+pub fn put_head(out: &mut Writer<'_>, threads: u8, lines: u16)
+    ensures { PutsWhole out.old (head_record threads lines) out.new }
 {
-    if !lines::has_room(dst.len(), at, 4) {
-        return at;
-    }
-    set_head(dst, at, threads, lines)
+    put(out, &head_record(threads, lines));
 }
 
-pub fn put_line_record(dst: &mut [u8], at: usize, line: Line) -> usize
-    ensures { Puts dst.old dst.new at result (line_record line) }
+/// A line of the medium.
+pub fn put_line_record(out: &mut Writer<'_>, line: Line)
+    ensures { PutsWhole out.old (line_record line) out.new }
 {
-    if !lines::has_room(dst.len(), at, 65) {
-        return at;
-    }
-    set_line(dst, at, line)
+    put(out, &line_record(line));
 }
 
-// A region with its four dependences as they are.
-pub fn put_region(dst: &mut [u8], at: usize, key: u32, state: u8, deps: [u64; MOST_DEPS]) -> usize
-    ensures { Puts dst.old dst.new at result (region_record (record { key = key; state = state; deps = deps })) }
+/// A region with its four dependences as they are.
+pub fn put_region(out: &mut Writer<'_>, key: u32, state: u8, deps: [u64; MOST_DEPS])
+    ensures { PutsWhole out.old (region_record (record { key = key; state = state; deps = deps })) out.new }
 {
-    if !lines::has_room(dst.len(), at, 17) {
-        return at;
-    }
-    set_region(dst, at, key, state, deps)
+    put(out, &region_record(key, state, deps));
 }
 
-pub fn put_entry(dst: &mut [u8], at: usize, key: u32, line: u8, old: Line) -> usize
-    ensures { Puts dst.old dst.new at result (entry_record (record { key = key; line = line; old = old })) }
+/// A log entry.
+// Kept: the struct of these three, `SavedEntry`, is of crate saving.
+pub fn put_entry(out: &mut Writer<'_>, key: u32, line: u8, old: Line)
+    ensures { PutsWhole out.old (entry_record (record { key = key; line = line; old = old })) out.new }
 {
-    if !lines::has_room(dst.len(), at, 69) {
-        return at;
-    }
-    set_entry(dst, at, key, line, old)
+    put(out, &entry_record(key, line, old));
 }
 
 // ---- parts of records
 
-// The kind and the key of a record of several log entries.
-pub fn put_header(dst: &mut [u8], at: usize, kind: u8, key: u32) -> usize
-    ensures { Puts dst.old dst.new at result (kind ∷ key_bytes key) }
+/// The kind and the key of a record of several log entries.
+pub fn put_header(out: &mut Writer<'_>, kind: u8, key: u32)
+    ensures { PutsWhole out.old (kind ∷ key_bytes key) out.new }
 {
-    if !lines::has_room(dst.len(), at, 4) {
-        return at;
-    }
-    set_header(dst, at, kind, key)
+    put(out, &header(kind, key));
 }
 
-// One byte: a line number, or the record that ends an image, which is its kind alone.
-pub fn put_one(dst: &mut [u8], at: usize, x: u8) -> usize
-    ensures { Puts dst.old dst.new at result (x ∷ []) }
+/// One byte: a line number, or the record that ends an image, which is its kind alone.
+pub fn put_one(out: &mut Writer<'_>, byte: u8)
+    ensures { PutsWhole out.old (byte ∷ []) out.new }
 {
-    if !lines::has_room(dst.len(), at, 1) {
-        return at;
-    }
-    put_byte(dst, at, x)
+    put(out, &[byte]);
 }
 
-pub fn put_old_line(dst: &mut [u8], at: usize, old: Line) -> usize
-    ensures { Puts dst.old dst.new at result (line_bytes old) }
+/// The 64 bytes of an old line.
+pub fn put_old_line(out: &mut Writer<'_>, old: Line)
+    ensures { PutsWhole out.old (line_bytes old) out.new }
 {
-    if !lines::has_room(dst.len(), at, 64) {
-        return at;
-    }
-    put_line(dst, at, old)
+    put(out, &line_bytes(old));
 }

@@ -1,14 +1,6 @@
-use Prim.Native.Nat.{◌-◌, ◌≤◌}
-use mathlib.Core.List.{map}
-use mathlib.Core.Path.{◌≡◌}
-use lib.ListN.{length}
+use Rattle.std.proofs.Common.{◌≡◌, ◌++◌, map, take, drop}
 use Rattle.rules.specs.Commit.{done_region}
-use Rattle.lookup.proofs.Map.{mapped}
-use Rattle.rows.specs.Row.{regions_of}
 use Rattle.commits.proofs.done_all.Given as goal
 
-abbrev pub invariant-loop-i : goal.invariant-loop-i
-invariant-loop-i l = (l.i ≤ 32) × ((length l.regions ≡ 32) × (mapped done_region l.i (regions_of l.regions) ≡ map done_region (regions_of l.initial.regions)))
-
-abbrev pub decreases-loop-i : goal.decreases-loop-i
-decreases-loop-i l = 32 - l.i
+abbrev pub invariant-loop-region : goal.invariant-loop-region
+invariant-loop-region l = l.region-items ≡ map (done_region) (take l.region-index l.initial.region-items) ++ drop l.region-index l.initial.region-items

@@ -1,20 +1,15 @@
--- `drill::act_all` meets its contract: what the acts still to come give is what all of them give.
-use mathlib.Core.Path.{◌∙◌, refl, sym}
+use mathlib.Core.Path.{◌∙◌, ap, sym}
+use native.Mathlib.Omega.{arith}
 use Rattle.drill.proofs.Laws.{acts_more, acts_none}
-use borrow.Author.Rules.{rules}
+use Rattle.rules.specs.Recovery.{Recovering}
+use Rattle.torn.specs.Torn.{torn_act}
 use Rattle.drill.proofs.act_all.Goals as goal
 
-pub loop-i-init : goal.loop-i-init
-loop-i-init c = (search rules, (refl, refl))
-
-pub loop-i-preserved : goal.loop-i-preserved
-loop-i-preserved c =
-    let L = c.loop-i in
-    let as' = c.args.acts.now in
-    (search rules, (search rules, acts_more (record { bytes = L.image; at = L.at }) as' L.i c.loop-i-test.true _ c.acted-at.ensures ∙ L.invariant.1.1))
+pub loop-byte-preserved : goal.loop-byte-preserved
+loop-byte-preserved c =
+    let l = c.loop-byte in
+    let r : Recovering = record { bytes = l.image; at = l.at } in
+    acts_more r c.args.acts.now l.byte-index (omega arith) _ (c.acted-at.ensures ∙ ap (torn_act r) c.from.ensures) ∙ l.invariant
 
 pub returns : goal.returns
-returns c =
-    let L = c.loop-i in
-    let as' = c.args.acts.now in
-    sym (acts_none (record { bytes = L.image; at = L.at }) as' L.i c.loop-i-test.false) ∙ L.invariant.1.1
+returns c = let l = c.loop-byte in sym (acts_none (record { bytes = l.image; at = l.at }) c.args.acts.now l.byte-index (omega arith)) ∙ l.invariant

@@ -1,4 +1,4 @@
--- `drill::drill` meets its contract: what the save and the last step return is what demand 3 speaks about.
+-- What the save and the last step return is what demand 3 speaks about.
 use mathlib.Core.Path.{◌≡◌}
 use lib.ListN.{length, take}
 use Rattle.recovery.proofs.Places.{all_bytes}
@@ -14,17 +14,19 @@ returns-then-saved-ne0 c =
 pub slice_bounds-recover-end : goal.slice_bounds-recover-end
 slice_bounds-recover-end c =
     let a = c.args in
-    rw c.image_size-n.ensures (size_fits a.file.now a.memory.now a.acts.now a.image.now _ c.run_image-saved.result c.run_image-saved.ensures c.if-saved-ne0.false)
+    size_fits a.file.now a.memory.now a.acts.now a.image.now _ c.run_image-saved.result c.run_image-saved.ensures c.if-saved-ne0.false
 
 pub slice_bounds-recover-end-2 : goal.slice_bounds-recover-end-2
 slice_bounds-recover-end-2 c =
     let a = c.args in
-    part_long c.image_size-n.result c.run_image-saved.new.image
-    (rw c.image_size-n.ensures (size_fits a.file.now a.memory.now a.acts.now a.image.now _ c.run_image-saved.result c.run_image-saved.ensures c.if-saved-ne0.false))
+    part_long _ c.run_image-saved.new.image
+    (size_fits a.file.now a.memory.now a.acts.now a.image.now _ c.run_image-saved.result c.run_image-saved.ensures c.if-saved-ne0.false)
 
 pub returns : goal.returns
 returns c =
     let a = c.args in
-    let e = c.run_image-saved.new.image in
-    let l : length c.recover-last.new.image ≡ length (take c.image_size-n.result e) = search rules in
-    rw c.image_size-n.ensures (drill_accepted a.file.now a.memory.now a.acts.now a.image.now e c.run_image-saved.result c.run_image-saved.ensures c.if-saved-ne0.false (all_bytes a.file.now (λ i. (c.shared_slice_known-1.given i).fits)) (all_bytes a.memory.now (λ i. (c.shared_slice_known-2-1.given i).fits)) c.recover-last.result c.recover-last.new.image (rw c.image_size-n.ensures at l) (rw c.image_size-n.ensures at c.recover-last.ensures.steps))
+    let s = c.run_image-saved in
+    let e = s.new.image in
+    let l : length c.recover-last.new.image ≡ length (take s.result.value e) = search rules in
+    drill_accepted a.file.now a.memory.now a.acts.now a.image.now e s.result s.ensures c.if-saved-ne0.false
+    (all_bytes a.file.now (λ i. search rules)) (all_bytes a.memory.now (λ i. search rules)) c.recover-last.result c.recover-last.new.image l c.recover-last.ensures.steps

@@ -8,7 +8,8 @@ use native.Mathlib.Numerals.{add-one}
 use native.Mathlib.Omega.{arith}
 use borrow.Author.Rules.{rules}
 use borrow.Author.Tests.{leb-false, leb-true}
-use Rattle.judging.proofs.Search.{take_replicate}
+use Rattle.std.specs.Cmp.Lexicographic.{same_text}
+use Rattle.std.proofs.lemmas.List.{take-replicate}
 use Rattle.judging.specs.Reach.{round_of, rounds_of}
 use Rattle.undo.proofs.Laws.{test}
 use Rattle.judging.proofs.rounds.Goals as goal
@@ -26,22 +27,23 @@ its_round : (ls : List (List ℕ)) (rows wider : List ℕ) → length ls ≤ len
     → take (length (take (length ls) rows)) wider ≡ round_of ls (take (length ls) rows) → take (length ls) wider ≡ round_of ls (take (length ls) rows)
 its_round ls rows wider h e = rw (length-take-le (length ls) rows h) at e
 
-pub loop-k-init : goal.loop-k-init
+pub loop-depth-init : goal.loop-depth-init
 unfolding rounds_of
-loop-k-init c = (search rules, (search rules, take_replicate (length c.args.links.now) 32 0 (search rules)))
+loop-depth-init c = (search rules, take-replicate (length c.args.links.now) 32 0 (search rules))
 
-pub returns-then-is_same : goal.returns-then-is_same
-returns-then-is_same c =
+pub returns-then-eq : goal.returns-then-eq
+returns-then-eq c =
     let ls = c.args.links.now in
-    let k = c.loop-k.k in
-    let i = c.loop-k.invariant.1.1 in
-    let w = its_round ls c.loop-k.rows c.round-wider.result (search rules) c.round-wider.ensures in
-    let e : round_of ls (rounds_of k ls) ≡ rounds_of k ls = ap (round_of ls) (sym i) ∙ (sym w ∙ (c.is_same.ensures c.if-is_same.true ∙ i)) in
-    i ∙ sym (still ls k e (length ls) c.loop-k.invariant.0)
+    let k = c.loop-depth._depth in
+    let i = c.loop-depth.invariant.1 in
+    let w = its_round ls c.loop-depth.rows c.round-wider.result (search rules) c.round-wider.ensures in
+    let same = same_text _ _ (sym c.if-eq.true ∙ c.eq.ensures) in
+    let e : round_of ls (rounds_of k ls) ≡ rounds_of k ls = ap (round_of ls) (sym i) ∙ (sym w ∙ (same ∙ i)) in
+    i ∙ sym (still ls k e (length ls) (search rules))
 
-pub loop-k-preserved : goal.loop-k-preserved
+pub loop-depth-preserved : goal.loop-depth-preserved
 unfolding rounds_of
-loop-k-preserved c =
+loop-depth-preserved c =
     let ls = c.args.links.now in
-    let w = its_round ls c.loop-k.rows c.round-wider.result (search rules) c.round-wider.ensures in
-    (search rules, (c.round-wider.type_inv.1.0.1, w ∙ (ap (round_of ls) c.loop-k.invariant.1.1 ∙ rw (add-one c.loop-k.k))))
+    let w = its_round ls c.loop-depth.rows c.round-wider.result (search rules) c.round-wider.ensures in
+    (search rules, w ∙ (ap (round_of ls) c.loop-depth.invariant.1 ∙ rw (add-one c.loop-depth._depth)))

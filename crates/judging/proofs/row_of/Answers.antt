@@ -1,10 +1,11 @@
-use borrow.Author.Rules.{rules}
-use Rattle.judging.proofs.Bits.{row_four}
-use Rattle.judging.specs.Reach.{row_of}
+use Rattle.std.proofs.Common.{◌≡◌, ◌∙◌, bit_or, reverse, rules}
+use Rattle.std.specs.List.{fold}
+use Rattle.judging.proofs.Bits.{row_folded}
+use Rattle.judging.specs.Reach.{step_to}
 use Rattle.judging.proofs.row_of.Goals as goal
 
 pub returns : goal.returns
-unfolding row_of
 returns c =
     let a = c.args in
-    rw (c.step_to-r0.ensures, c.step_to-r1.ensures, c.step_to-r2.ensures, c.step_to-r3.ensures) (row_four a.rows.now a.at (search rules))
+    let folded : c.fold.result ≡ fold (λ row q. bit_or (step_to a.rows.now q) row) 0 (reverse a.links.now) = search rules in
+    folded ∙ row_folded a.rows.now a.links.now

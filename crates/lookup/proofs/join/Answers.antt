@@ -1,17 +1,19 @@
-use mathlib.Core.Path.{sym}
-use borrow.Author.Rules.{rules}
-use lib.Seq.{set_out}
+use Rattle.std.proofs.Common.{sym, ◌∙◌, eqb}
+use Rattle.std.proofs.lemmas.List.{set_past}
 use Rattle.rules.specs.Access.{joined}
+use Rattle.rules.specs.Lists.{place}
 use Rattle.lookup.proofs.join.Goals as goal
 
 pub returns-then-is_had : goal.returns-then-is_had
 unfolding joined
-returns-then-is_had c = rw (← c.is_had.ensures, c.if-is_had.true)
+returns-then-is_had c = let e = sym c.is_had.ensures ∙ c.if-is_had.true in rw e
 
-pub returns-then-i-ge-MOST_DEPS : goal.returns-then-i-ge-MOST_DEPS
+pub returns-in-Some : goal.returns-in-Some
 unfolding joined
-returns-then-i-ge-MOST_DEPS c = rw (← c.is_had.ensures, c.if-is_had.false, ← c.dep_place-i.ensures) (sym (set_out _ _ _ (search rules)))
+returns-in-Some c = let e = sym c.is_had.ensures ∙ c.if-is_had.false in rw (e, c.in-Some.ensures.0)
 
-pub returns : goal.returns
+pub returns-in_default : goal.returns-in_default
 unfolding joined
-returns c = rw (← c.is_had.ensures, c.if-is_had.false, ← c.dep_place-i.ensures)
+returns-in_default c =
+    let e = sym c.is_had.ensures ∙ c.if-is_had.false in
+    rw (e, set_past c.args.deps.now (place (eqb 0) c.args.deps.now) c.args.dep c.in_default.ensures)

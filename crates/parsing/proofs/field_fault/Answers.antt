@@ -1,25 +1,35 @@
-use Prim.Native.Nat.{◌-◌, ◌<◌}
-use mathlib.Core.Path.{◌∙◌, ◌≡◌, sym}
+use mathlib.Core.Path.{◌∙◌, refl, sym}
+use Prim.Native.Nat.{◌<◌}
 use native.Mathlib.Omega.{arith}
-use lib.ListN.{drop, take}
-use Rattle.parsing.specs.Fault.{word_fault}
-use Rattle.parsing.specs.Read.{width_at}
-use Rattle.parsing.proofs.Faults.{ahead_all, ends_early, ends_well, right_word, wrong_word}
+use Rattle.parsing.proofs.Faults.{ends_early, ends_well, never_none, right_word, wrong_word}
 use Rattle.parsing.proofs.Words.{next}
-use borrow.Author.Rules.{rules}
+use Rattle.parsing.specs.Numbers.{fault_number, line_number}
 use Rattle.parsing.proofs.field_fault.Goals as goal
 
-pub loop-fault-init : goal.loop-fault-init
-loop-fault-init c = (search rules, (search rules, ahead_all _ _ _))
-
 pub returns-then-is_complete : goal.returns-then-is_complete
-returns-then-is_complete c = let at = c.loop-fault in let q = c in ends_well q.args.kind q.args.line.now q.args.«from» at.at at.f at.invariant.1.1 c.next_word-word.result c.next_word-word.ensures c.if-start-end.true (sym c.is_complete.ensures ∙ c.if-is_complete.true)
+returns-then-is_complete c =
+    let at = c.loop-kind in
+    ends_well (line_number c.args.kind) c.args.line.now c.args.«from» at.at at.field at.invariant.2 c.next_word-word.result c.next_word-word.ensures c.if-word.true (sym c.is_complete.ensures ∙ c.if-is_complete.true)
 
-pub returns-else-is_complete : goal.returns-else-is_complete
-returns-else-is_complete c = let at = c.loop-fault in let q = c in ends_early q.args.kind q.args.line.now q.args.«from» at.at at.f at.invariant.1.1 c.next_word-word.result c.next_word-word.ensures c.if-start-end.true (sym c.is_complete.ensures ∙ c.if-is_complete.false)
+pub returns-then-word : goal.returns-then-word
+returns-then-word c =
+    let at = c.loop-kind in
+    ends_early (line_number c.args.kind) c.args.line.now c.args.«from» at.at at.field at.invariant.2 c.next_word-word.result c.next_word-word.ensures c.if-word.true (sym c.is_complete.ensures ∙ c.if-is_complete.false)
 
-pub returns-then-fault-ne0 : goal.returns-then-fault-ne0
-returns-then-fault-ne0 c = let at = c.loop-fault in let q = c in let w = c.next_word-word.result in let nw = c.next_word-word.ensures in let h : w.start < w.end = next w.start w.end nw.before (λ z. c.if-start-end.false (sym z)) in let e : c.word_fault-fault.result ≡ word_fault (width_at q.args.kind at.f) (take (w.end - w.start) (drop w.start q.args.line.now)) = rw c.width_at-w.ensures at c.word_fault-fault.ensures in wrong_word q.args.kind q.args.line.now q.args.«from» at.at at.f at.invariant.1.1 w nw c.word_fault-fault.result h e c.if-fault-ne0.true
+pub returns-in-Some : goal.returns-in-Some
+returns-in-Some c =
+    let at = c.loop-kind in
+    let q = c.args in
+    let w = c.next_word-word.result in
+    let nw = c.next_word-word.ensures in
+    let h : w.start < w.end = next w.start w.end nw.before (λ z. c.if-word.false (sym z)) in
+    wrong_word (line_number q.kind) q.line.now q.«from» at.at at.field at.invariant.2 w nw (fault_number c.in-Some.fault) h (rw c.width_at.ensures at c.in-Some.ensures) (never_none c.in-Some.fault)
 
-pub loop-fault-preserved : goal.loop-fault-preserved
-loop-fault-preserved c = let at = c.loop-fault in let q = c in let w = c.next_word-word.result in let nw = c.next_word-word.ensures in let h : w.start < w.end = next w.start w.end nw.before (λ z. c.if-start-end.false (sym z)) in let e : c.word_fault-fault.result ≡ word_fault (width_at q.args.kind at.f) (take (w.end - w.start) (drop w.start q.args.line.now)) = rw c.width_at-w.ensures at c.word_fault-fault.ensures in (nw.inside, (omega (arith, nw.behind), right_word q.args.kind q.args.line.now q.args.«from» at.at at.f at.invariant.1.1 w nw c.word_fault-fault.result h e c.if-fault-ne0.false))
+pub loop-kind-preserved : goal.loop-kind-preserved
+loop-kind-preserved c =
+    let at = c.loop-kind in
+    let q = c.args in
+    let w = c.next_word-word.result in
+    let nw = c.next_word-word.ensures in
+    let h : w.start < w.end = next w.start w.end nw.before (λ z. c.if-word.false (sym z)) in
+    (nw.inside, omega (arith, nw.behind), right_word (line_number q.kind) q.line.now q.«from» at.at at.field at.invariant.2 w nw 0 h (rw c.width_at.ensures at c.in_default.ensures) refl)

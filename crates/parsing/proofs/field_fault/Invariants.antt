@@ -1,10 +1,10 @@
-use Prim.Native.Nat.{◌-◌, ◌≤◌}
-use lib.ListN.{length}
+use Rattle.std.specs.Prelude.{◌-◌, ◌≤◌, length}
+use Rattle.parsing.specs.Numbers.{line_number}
 use Rattle.parsing.proofs.Faults.{Ahead}
 use Rattle.parsing.proofs.field_fault.Given as goal
 
-abbrev pub invariant-loop-fault : goal.invariant-loop-fault
-invariant-loop-fault l = (l.at ≤ length l.line) × ((l.f ≤ l.at) × Ahead l.kind l.line l.«from» l.at l.f)
+abbrev pub invariant-loop-kind : goal.invariant-loop-kind
+invariant-loop-kind l = (l.at ≤ length l.line) × (l.field ≤ l.at) × Ahead (line_number l.kind) l.line l.«from» l.at l.field
 
-abbrev pub decreases-loop-fault : goal.decreases-loop-fault
-decreases-loop-fault l = length l.line - l.at
+abbrev pub decreases-loop-kind : goal.decreases-loop-kind
+decreases-loop-kind l = length l.line - l.at

@@ -1,12 +1,7 @@
-use Prim.Native.Nat.{◌+◌, ◌-◌, ◌≤◌}
-use mathlib.Core.Path.{◌≡◌}
-use lib.ListN.{drop, length}
-use Rattle.rules.specs.Lists.{place}
+use Rattle.std.specs.Prelude.{◌+◌, ◌≡◌, drop}
 use Rattle.parsing.specs.Read.{stops}
+use Rattle.rules.specs.Lists.{place}
 use Rattle.parsing.proofs.find.Given as goal
 
-abbrev pub invariant-loop-i : goal.invariant-loop-i
-invariant-loop-i l = (l.i ≤ length l.s) × ((l.«from» ≤ l.i) × (l.i + place (stops l.what) (drop l.i l.s) ≡ l.«from» + place (stops l.what) (drop l.«from» l.s)))
-
-abbrev pub decreases-loop-i : goal.decreases-loop-i
-decreases-loop-i l = length l.s - l.i
+abbrev pub invariant-loop-at : goal.invariant-loop-at
+invariant-loop-at l = l.at + place (stops l.stop) (drop l.at l.bytes) ≡ l.«from» + place (stops l.stop) (drop l.«from» l.bytes)

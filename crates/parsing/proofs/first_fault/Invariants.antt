@@ -1,6 +1,4 @@
-use Prim.Native.Nat.{◌+◌, ◌-◌, ◌≤◌}
-use mathlib.Core.Path.{◌≡◌}
-use lib.ListN.{drop, length}
+use Rattle.std.specs.Prelude.{◌+◌, ◌-◌, ◌≡◌, ◌≤◌, drop, length}
 use Rattle.parsing.specs.Fault.{further, lines_fault}
 use Rattle.parsing.specs.Read.{lines_of}
 use Rattle.parsing.proofs.first_fault.Given as goal

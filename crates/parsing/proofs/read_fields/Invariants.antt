@@ -1,13 +1,16 @@
+use Rattle.std.specs.Prelude.{◌-◌, ◌≡◌, ◌≤◌, drop, length}
+use Rattle.output.specs.Writer.{room_of}
+use Rattle.parsing.specs.Numbers.{line_number}
 use Rattle.parsing.proofs.Reading.{Left}
 use Rattle.parsing.specs.Read.{fields_from, words_in}
-use lib.ListN.{drop, length}
-use Prim.Native.Nat.{◌-◌, ◌≤◌}
-use mathlib.Core.Path.{◌≡◌}
-use Rattle.output.specs.Room.{room}
 use Rattle.parsing.proofs.read_fields.Given as goal
 
-abbrev pub invariant-loop-q : goal.invariant-loop-q
-invariant-loop-q l = (l.at ≤ length l.line) × ((l.f ≤ l.at) × ((length l.out ≡ length l.initial.out) × Left (fields_from l.kind l.f (words_in (drop l.at l.line))) (fields_from l.kind 0 (words_in (drop l.«from» l.line))) (room l.out l.q) (room l.initial.out l.initial.q)))
+abbrev pub invariant-loop-word : goal.invariant-loop-word
+invariant-loop-word l =
+    (l.at ≤ length l.line)
+    × (l.field ≤ l.at)
+    × (l.out.out.ghost_name ≡ l.initial.out.out.ghost_name)
+    × Left (fields_from (line_number l.kind) l.field (words_in (drop l.at l.line))) (fields_from (line_number l.kind) 0 (words_in (drop l.«from» l.line))) (room_of l.out) (room_of l.initial.out)
 
-abbrev pub decreases-loop-q : goal.decreases-loop-q
-decreases-loop-q l = length l.line - l.at
+abbrev pub decreases-loop-word : goal.decreases-loop-word
+decreases-loop-word l = length l.line - l.at

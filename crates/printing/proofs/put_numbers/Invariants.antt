@@ -1,13 +1,11 @@
-use Rattle.output.specs.Room.{puts, room}
+use Rattle.std.specs.Prelude.{◌≡◌, drop}
+use Rattle.output.specs.Room.{puts}
+use Rattle.output.specs.Writer.{room_of}
 use Rattle.printing.specs.Text.{number_text}
 use Rattle.rules.specs.Lists.{flat}
-use mathlib.Core.Path.{◌≡◌}
-use Prim.Native.Nat.{◌-◌, ◌≤◌}
-use lib.ListN.{drop, length}
 use Rattle.printing.proofs.put_numbers.Given as goal
 
-abbrev pub invariant-loop-i : goal.invariant-loop-i
-invariant-loop-i l = (l.i ≤ length l.src) × ((length l.out ≡ length l.initial.out) × (puts (room l.out l.q) (flat number_text (drop l.i l.src)) ≡ puts (room l.initial.out l.initial.q) (flat number_text l.src)))
-
-abbrev pub decreases-loop-i : goal.decreases-loop-i
-decreases-loop-i l = length l.src - l.i
+abbrev pub invariant-loop-byte : goal.invariant-loop-byte
+invariant-loop-byte l =
+    (l.out.out.ghost_name ≡ l.initial.out.out.ghost_name)
+    × (puts (room_of l.out) (flat number_text (drop l.byte-index l.bytes)) ≡ puts (room_of l.initial.out) (flat number_text l.bytes))

@@ -1,13 +1,16 @@
+use Rattle.std.specs.Prelude.{◌≡◌, ◌≤◌, ◌+◌, ◌-◌, length}
 use Rattle.events.specs.Whole.{whole_length}
-use Prim.Native.Nat.{◌+◌, ◌-◌, ◌≤◌}
-use mathlib.Core.Path.{◌≡◌}
-use lib.ListN.{drop, length}
-use Rattle.output.specs.Room.{puts, room}
+use Rattle.output.specs.Room.{puts}
+use Rattle.output.specs.Writer.{room_of}
 use Rattle.printing.specs.Text.{whole_text}
 use Rattle.printing.proofs.put_whole.Given as goal
 
-abbrev pub invariant-loop-n : goal.invariant-loop-n
-invariant-loop-n l = (l.at ≤ length l.file) × ((length l.out ≡ length l.initial.out) × ((puts (room l.out l.q) (whole_text (drop l.at l.file)) ≡ puts (room l.initial.out l.initial.q) (whole_text l.file)) × (l.at + whole_length (drop l.at l.file) ≡ whole_length l.file)))
+abbrev pub invariant-loop-rest : goal.invariant-loop-rest
+invariant-loop-rest l =
+    (l.out.out.ghost_name ≡ l.initial.out.out.ghost_name)
+    × (length l.rest ≤ length l.file)
+    × (puts (room_of l.out) (whole_text l.rest) ≡ puts (room_of l.initial.out) (whole_text l.file))
+    × (length l.file - length l.rest + whole_length l.rest ≡ whole_length l.file)
 
-abbrev pub decreases-loop-n : goal.decreases-loop-n
-decreases-loop-n l = length l.file - l.at
+abbrev pub decreases-loop-rest : goal.decreases-loop-rest
+decreases-loop-rest l = length l.rest

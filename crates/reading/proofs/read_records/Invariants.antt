@@ -3,8 +3,8 @@ use lib.ListN.{length}
 use Rattle.reading.proofs.Walk.{Reached}
 use Rattle.reading.proofs.read_records.Given as goal
 
-abbrev pub invariant-loop-n : goal.invariant-loop-n
-invariant-loop-n l = Reached l.headed l.src l.s l.regions l.at
+abbrev pub invariant-loop-item : goal.invariant-loop-item
+invariant-loop-item l = Reached l.headed l.src l.tally l.regions l.at
 
-abbrev pub decreases-loop-n : goal.decreases-loop-n
-decreases-loop-n l = length l.src - l.at
+abbrev pub decreases-loop-item : goal.decreases-loop-item
+decreases-loop-item l = length l.src - l.at

@@ -11,10 +11,14 @@ use Rattle.lines.proofs.Room.{put_room, word_room}
 use Rattle.rules.proofs.Codec.Bytes.{length_bytes}
 use Rattle.recovery.proofs.recovery_call.Goals as goal
 
-pub returns-then-place-eq8 : goal.returns-then-place-eq8
+pub returns-then-place-ne8 : goal.returns-then-place-ne8
 unfolding recovery_call_as
-returns-then-place-eq8 c = let h : length c.args.place.now ≡ 8 = c.if-place-eq8.true in let g = c.step_at-s.ensures in let n : c.take_word-at.result ≡ num_of c.args.place.now = c.take_word-at.ensures ∙ word_room c.args.place.now 0 (omega arith) ∙ ap num_of (take_all 8 c.args.place.now (omega arith)) in let w = c.put_word.ensures ∙ put_room 8 c.args.place.now 0 _ (omega arith) ∙ sets_whole c.args.place.now _ (length_bytes 8 _ ∙ sym h) in rw (eq-eqb _ _ h, ← n, w) (ap called_by g)
+returns-then-place-ne8 c = rw (ne_eqb _ _ c.if-place-ne8.true, c.from.ensures)
 
 pub returns : goal.returns
 unfolding recovery_call_as
-returns c = rw (ne_eqb _ _ c.if-place-eq8.false)
+returns c =
+    let h : length c.args.place.now ≡ 8 = c.if-place-ne8.false in
+    let n : c.take_word.result ≡ num_of c.args.place.now = c.take_word.ensures ∙ word_room c.args.place.now 0 (omega arith) ∙ ap num_of (take_all 8 c.args.place.now (omega arith)) in
+    let w = c.put_word.ensures ∙ put_room 8 c.args.place.now 0 _ (omega arith) ∙ sets_whole c.args.place.now _ (length_bytes 8 _ ∙ sym h) in
+    rw (eq-eqb _ _ h, ← n, w) (ap called_by c.step-answer.ensures)

@@ -16,7 +16,8 @@ use borrow.Author.Tests.{eqb-false, eqb-true, leb-true, lt-ltb, ltb-false, ltb-t
 use Rattle.rules.proofs.Recover.Saved.{deps_at, padded_in}
 use Rattle.rules.proofs.Sim.State.{Sim}
 use Rattle.rules.specs.History.{Account, Closes, Cuts, Nothing, Opens, Sets, Stores, Use, Uses, depth_in, draws_on, opened_in, region_in, uses_in}
-use Rattle.rules.specs.Tables.{Board, key_of, listed, no_thread, number_of, place_of, region_at, thread_at, thread_of}
+use Rattle.rules.specs.Tables.{key_of, listed, no_thread, number_of, place_of, region_at, thread_at, thread_of}
+use Rattle.rules.specs.declared.Board.{Board}
 use Rattle.undo.proofs.Laws.{and_true, is_same, never, or_right, test}
 use Rattle.undo.proofs.Main.{closes, structured}
 use Rattle.undo.proofs.Steps.{reached}

@@ -27,7 +27,8 @@ use Rattle.rules.specs.Image.{order_of, saved_entry, saved_log, saved_thread}
 use Rattle.rules.specs.Lists.{count, place}
 use Rattle.rules.specs.Reader.{is_logged_by}
 use Rattle.rules.specs.Refusal.{is_set_up}
-use Rattle.rules.specs.Tables.{Board, line_of, listed, no_entry, thread_at, thread_of}
+use Rattle.rules.specs.Tables.{line_of, listed, no_entry, thread_at, thread_of}
+use Rattle.rules.specs.declared.Board.{Board}
 use Rattle.rules.specs.declared.Entry.{Entry}
 use Rattle.undo.proofs.Laws.{and_true, is_same, never, or_right, test}
 use Rattle.undo.specs.Table.{any, is_in}
@@ -92,7 +93,7 @@ module _ {start : ℕ → List ℕ} {b : Board} {es : List Account} {s : u.State
   unfolding saved_entry
   entry_line t o = refl
 
-  entry_old : (t o : ℕ) → (entry_of b t o).old ≡ line_of (32 * t + spot b t o) b.old
+  entry_old : (t o : ℕ) → (entry_of b t o).old ≡ line_of (32 * t + spot b t o) b.log_lines
   unfolding saved_entry
   entry_old t o = refl
 
@@ -108,7 +109,7 @@ module _ {start : ℕ → List ℕ} {b : Board} {es : List Account} {s : u.State
       let g = x.good in
       let ix = x.index in
       let lg : claim.logged (entry_at t (spot b t o) b.tables).key (s.chain (entry_at t (spot b t o) b.tables).line) ≡ true
-      = olds_logged (entry_at t (spot b t o) b.tables).key (s.chain (entry_at t (spot b t o) b.tables).line) (line_of (32 * t + spot b t o) b.old) g.old in
+      = olds_logged (entry_at t (spot b t o) b.tables).key (s.chain (entry_at t (spot b t o) b.tables).line) (line_of (32 * t + spot b t o) b.log_lines) g.old in
       let lv = (whole rc i).of_live (entry_at t (spot b t o) b.tables).line (entry_at t (spot b t o) b.tables).key lg in
       record {
         known = live_listed rc i (entry_at t (spot b t o) b.tables).key lv.0 lv.1;
@@ -163,9 +164,9 @@ module _ {start : ℕ → List ℕ} {b : Board} {es : List Account} {s : u.State
       let within : is_in o (orders_of b t) ≡ true
       = rising_is (map order_of log) o ∙ rw (ne_eqb o 0 on) (any_map (eqb o) (λ y. eqb o (order_of y)) order_of log (λ y. refl) ∙ any_at (λ y. eqb o (order_of y)) log j no_entry lt (is_same o)) in
       let g = i.logs.entry t j kn in
-      let gold : olds (eqb r) (s.chain l) ≡ line_of (32 * t + j) b.old ∷ [] = rw (k.0, k.1) at g.old in
+      let gold : olds (eqb r) (s.chain l) ≡ line_of (32 * t + j) b.log_lines ∷ [] = rw (k.0, k.1) at g.old in
       let fl : (s.lock l && u.owns r (s.chain l)) ≡ false = not-true (s.lock l && u.owns r (s.chain l)) (rw (k.0, k.1, p) at (sym g.flight)) in
-      let out : (entry_of b t o).old ≡ line_of (32 * t + j) b.old = entry_old t o ∙ ap (λ q. line_of (32 * t + q) b.old) sp in
+      let out : (entry_of b t o).old ≡ line_of (32 * t + j) b.log_lines = entry_old t o ∙ ap (λ q. line_of (32 * t + q) b.log_lines) sp in
       chosen_one r l (entry_of b t) o (rising_rises 0 (length (map order_of log)) (map order_of log)) within
       (λ o' e'. eq_both (is_chosen r l (entry_of b t o')) (eqb o' o)
       (λ a. let z = chosen_spot r l o' a in
@@ -201,7 +202,7 @@ module _ {start : ℕ → List ℕ} {b : Board} {es : List Account} {s : u.State
       let np : (entry_at t j b.tables).persistent ≡ false
       = test (entry_at t j b.tables).persistent (λ p. absurd (not_kept j f p)) (λ p. p) in
       let fl : (s.lock l && u.owns r (s.chain l)) ≡ true = not-false (s.lock l && u.owns r (s.chain l)) (rw (k.0, k.1, np) at (sym g.flight)) in
-      older_gone r (s.lock l) (s.chain l) (line_of (32 * t + j) b.old) fl (rw (k.0, k.1) at g.old))
+      older_gone r (s.lock l) (s.chain l) (line_of (32 * t + j) b.log_lines) fl (rw (k.0, k.1) at g.old))
       (λ a. older_none r (s.lock l) (s.chain l) (olds_none r (s.chain l) a)))
 
   chosen_thread : (r l : ℕ) → r ≢ 0 → chosen r l (saved_thread (thread_of r) b) ≡ olds (eqb r) (persistent s l)

@@ -18,7 +18,8 @@ use Rattle.rules.proofs.Sim.State.{GoodEntry}
 use Rattle.rules.proofs.Views.{entry_at}
 use Rattle.rules.specs.Image.{Logged, order_of, saved_entry}
 use Rattle.rules.specs.Lists.{all, place, rising}
-use Rattle.rules.specs.Tables.{Board, listed, thread_at}
+use Rattle.rules.specs.Tables.{listed, thread_at}
+use Rattle.rules.specs.declared.Board.{Board}
 use Rattle.rules.specs.declared.Entry.{Entry}
 use Rattle.undo.proofs.Laws.{and_true, cons_nil, flip, is_same, or_false, or_right, test}
 use Rattle.undo.specs.Table.{any, is_in, keep}
@@ -133,7 +134,7 @@ abbrev pub spot : Board → ℕ → ℕ → ℕ
 spot b t o = place (λ e. eqb (order_of e) o) (thread_at t b.tables).log
 
 abbrev pub entry_of : Board → ℕ → ℕ → Logged
-entry_of b t o = saved_entry t (thread_at t b.tables).log b.old o
+entry_of b t o = saved_entry t (thread_at t b.tables).log b.log_lines o
 
 -- an order is its entry's key and rank
 pub order_parts : (e : Entry) → order_of e ≢ 0 → (e.persistent ≡ true) × (e.key ≢ 0) × (order_of e ≡ 256 * e.key + e.rank)

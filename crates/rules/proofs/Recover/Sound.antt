@@ -26,7 +26,8 @@ use Rattle.rules.specs.Contradiction.{any_broken, any_clash, broken_before, clas
 use Rattle.rules.specs.History.{Account, opened_in}
 use Rattle.rules.specs.Image.{Logged, saved, saved_log}
 use Rattle.rules.specs.Lists.{all, count, place}
-use Rattle.rules.specs.Tables.{Board, is_held, listed, number_of, place_of, region_at, thread_of}
+use Rattle.rules.specs.Tables.{is_held, listed, number_of, place_of, region_at, thread_of}
+use Rattle.rules.specs.declared.Board.{Board}
 use Rattle.rules.specs.declared.Listed.{Listed}
 use Rattle.undo.proofs.Laws.{and_true, cons_nil, is_same, never, or_right, or_true, test}
 use Rattle.undo.proofs.Shape.{rest}

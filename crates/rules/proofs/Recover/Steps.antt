@@ -38,7 +38,8 @@ use Rattle.rules.specs.Image.{Logged, Persistent, encode, image, saved, saved_lo
 use Rattle.rules.specs.Lists.{all, flat}
 use Rattle.rules.specs.Reader.{is_known_thread}
 use Rattle.rules.specs.Refusal.{is_set_up}
-use Rattle.rules.specs.Tables.{Board, line_of}
+use Rattle.rules.specs.Tables.{line_of}
+use Rattle.rules.specs.declared.Board.{Board}
 use Rattle.rules.specs.Walk.{entries_from, entries_of, walk, walk_entries}
 use Rattle.undo.proofs.Laws.{and_true, test}
 use Rattle.undo.specs.Table.{is_in, keep, put}

@@ -24,7 +24,8 @@ use Rattle.rules.specs.Image.{saved}
 use Rattle.rules.specs.Lists.{all}
 use Rattle.rules.specs.Reader.{is_known_thread}
 use Rattle.rules.specs.Refusal.{is_set_up}
-use Rattle.rules.specs.Tables.{Board, listed, region_at, thread_of}
+use Rattle.rules.specs.Tables.{listed, region_at, thread_of}
+use Rattle.rules.specs.declared.Board.{Board}
 use Rattle.undo.proofs.Laws.{test}
 use Rattle.rules.specs.History.{Account}
 use Rattle.rules.proofs.Places.{homes}

@@ -28,7 +28,8 @@ use Rattle.rules.specs.History.{Account, Uses, depth_in, draws_on, ends_in, last
 use Rattle.rules.specs.Lists.{place}
 use Rattle.rules.specs.Refusal.{depth_of, is_foreign_open, is_set_up, no_room_for_dep, tests_of}
 use Rattle.rules.specs.Step.{apply}
-use Rattle.rules.specs.Tables.{Board, current, is_held, is_placed, line_of, listed, no_region, owner_of, place_of, region_at, start_lines, thread_at, thread_of, with_deps, with_reads, with_tables, with_thread}
+use Rattle.rules.specs.Tables.{current, is_held, is_placed, line_of, listed, no_region, owner_of, place_of, region_at, start_lines, thread_at, thread_of, with_deps, with_reads, with_tables, with_thread}
+use Rattle.rules.specs.declared.Board.{Board}
 use Rattle.rules.specs.declared.Event.TheVariants.{Read}
 use Rattle.rules.specs.declared.Region.{Region}
 use Rattle.rules.specs.declared.Tables.{Tables}

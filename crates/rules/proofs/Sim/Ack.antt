@@ -27,7 +27,8 @@ use Rattle.rules.specs.History.{Account, Nothing, depth_in, ends_in, has_read_in
 use Rattle.rules.specs.Lists.{count}
 use Rattle.rules.specs.Refusal.{is_set_up, refusal, tests_of}
 use Rattle.rules.specs.Slots.{is_flight}
-use Rattle.rules.specs.Tables.{Board, Memory, is_key, line_of, listed, no_entry, no_region, no_thread, owner_of, place_of, region_at, start_lines, thread_at, thread_of, with_slots, with_tables}
+use Rattle.rules.specs.Tables.{Memory, is_key, line_of, listed, no_entry, no_region, no_thread, owner_of, place_of, region_at, start_lines, thread_at, thread_of, with_slots, with_tables}
+use Rattle.rules.specs.declared.Board.{Board}
 use Rattle.rules.specs.declared.Entry.{Entry}
 use Rattle.rules.specs.declared.Event.TheVariants.{LogAck}
 use Rattle.rules.specs.declared.Region.{Region}

@@ -1,4 +1,5 @@
 -- Every list of event records: after it some reachable state of the undo log has the board's tables.
+use Rattle.std.specs.Prelude.{Err, Ok}
 use Prim.Native.Nat.{suc, zero, ℕ}
 use mathlib.Core.Path.{◌≡◌, refl}
 use mathlib.Core.Bool.{true}
@@ -21,11 +22,11 @@ use Rattle.rules.specs.Record.{read_record}
 use Rattle.rules.specs.Refusal.{depth_of, refusal, tests_of}
 use Rattle.rules.specs.Run.{run}
 use Rattle.rules.specs.Step.{apply, step, step_by, step_event, step_read}
-use Rattle.rules.specs.Tables.{Board, Memory, fresh}
+use Rattle.rules.specs.Tables.{Memory, fresh}
+use Rattle.rules.specs.declared.Board.{Board}
 use Rattle.rules.specs.declared.Event.{Event}
 use Rattle.rules.specs.declared.Event.TheVariants.{Begin, Cut, DataAck, End, Fence, LogAck, Read, Setup, Write}
-use Rattle.rules.specs.declared.Reading.{Reading}
-use Rattle.rules.specs.declared.Reading.TheVariants.{Refused, Whole}
+use Rattle.rules.specs.Record.{Reading}
 use Rattle.undo.proofs.Laws.{test}
 use Rattle.rules.proofs.Tests.{passed}
 
@@ -56,11 +57,11 @@ keeps Cut = keeps_cut
 pub step_kept : (m : Memory) (b : Board) (es : List Account) (x : Reading) → Kept m b es
     → Kept m (step_read b x).board (noted (step_read b x).answer.refusal x es)
 unfolding step_event step_by
-step_kept m b es (Refused zero) k = k
-step_kept m b es (Refused (suc n)) k = k
-step_kept m b es (Whole e) k = go (refusal b.tables e) refl
+step_kept m b es (Err zero) k = k
+step_kept m b es (Err (suc n)) k = k
+step_kept m b es (Ok e) k = go (refusal b.tables e) refl
   where
-    go : (n : ℕ) → refusal b.tables e ≡ n → Kept m (step_by n b e).board (noted (step_by n b e).answer.refusal (Whole e) es)
+    go : (n : ℕ) → refusal b.tables e ≡ n → Kept m (step_by n b e).board (noted (step_by n b e).answer.refusal (Ok e) es)
     go zero r = keeps e m b es r k
     go (suc n) r = k
 

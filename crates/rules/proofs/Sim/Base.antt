@@ -19,7 +19,8 @@ use Rattle.rules.proofs.Sim.State.{GoodEntry, GoodRegions, GoodThreads, Logs, Lo
 use Rattle.rules.proofs.Views.{entry_at}
 use Rattle.rules.specs.History.{Account, Change, depth_in, ends_in, last_writer, lines_in, opened_in, read_in, uses_in, writes_in}
 use Rattle.rules.specs.Refusal.{is_set_up}
-use Rattle.rules.specs.Tables.{Board, key_of, no_thread, number_of, owner_of, thread_at, thread_of, with_clock, with_cut, with_size, with_tables, with_thread, with_threads}
+use Rattle.rules.specs.Tables.{key_of, no_thread, number_of, owner_of, thread_at, thread_of, with_clock, with_cut, with_size, with_tables, with_thread, with_threads}
+use Rattle.rules.specs.declared.Board.{Board}
 use Rattle.rules.specs.declared.Entry.{Entry}
 use Rattle.rules.specs.declared.Size.{Size}
 use Rattle.rules.specs.declared.Tables.{Tables}
@@ -79,7 +80,7 @@ memories_same ts m =
     }
 
 -- the log is as it was
-pub logs_same : {b b' : Board} {s : u.State (List ℕ)} → ((t : ℕ) → (thread_at t b'.tables).log ≡ (thread_at t b.tables).log) → b'.old ≡ b.old
+pub logs_same : {b b' : Board} {s : u.State (List ℕ)} → ((t : ℕ) → (thread_at t b'.tables).log ≡ (thread_at t b.tables).log) → b'.log_lines ≡ b.log_lines
     → b'.tables.size.lines ≡ b.tables.size.lines → Logs b s → Logs b' s
 logs_same {b} {b'} {s} f o z g =
     record {

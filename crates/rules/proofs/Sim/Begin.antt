@@ -21,7 +21,8 @@ use Rattle.rules.specs.History.{Account, Opens, depth_in, draws_on, ends_in, has
 use Rattle.rules.specs.Lists.{count}
 use Rattle.rules.specs.Refusal.{depth_of, refusal, tests_of}
 use Rattle.rules.specs.Step.{apply}
-use Rattle.rules.specs.Tables.{Board, channel_of, current, free_place, in_channel, is_held, is_key, is_placed, key_of, listed, no_region, no_slot, no_thread, number_of, owner_of, region_at, thread_at, thread_of, with_depth, with_last, with_tables}
+use Rattle.rules.specs.Tables.{channel_of, current, free_place, in_channel, is_held, is_key, is_placed, key_of, listed, no_region, no_slot, no_thread, number_of, owner_of, region_at, thread_at, thread_of, with_depth, with_last, with_tables}
+use Rattle.rules.specs.declared.Board.{Board}
 use Rattle.rules.specs.declared.Event.TheVariants.{Begin}
 use Rattle.rules.specs.declared.Region.{Region}
 use Rattle.rules.specs.declared.SlotState.TheVariants.{Empty, Waiting}

@@ -26,7 +26,8 @@ use Rattle.rules.specs.History.{Account, opened_in}
 use Rattle.rules.specs.Lists.{all, count}
 use Rattle.rules.specs.Slots.{has_slot}
 use Rattle.rules.specs.Step.{settled_board}
-use Rattle.rules.specs.Tables.{Board, Memory, is_held, is_key, listed, no_entry, no_region, no_thread, number_of, owner_of, place_of, region_at, thread_at, thread_of, with_deps, with_regions, with_tables}
+use Rattle.rules.specs.Tables.{Memory, is_held, is_key, listed, no_entry, no_region, no_thread, number_of, owner_of, place_of, region_at, thread_at, thread_of, with_deps, with_regions, with_tables}
+use Rattle.rules.specs.declared.Board.{Board}
 use Rattle.rules.specs.declared.Region.{Region}
 use Rattle.rules.specs.declared.SlotState.TheVariants.{Empty, Waiting}
 use Rattle.undo.proofs.Laws.{and_true, flip, never, or_false, test}

@@ -24,7 +24,8 @@ use Rattle.rules.specs.History.{Account, Nothing, depth_in, ends_in, has_read_in
 use Rattle.rules.specs.Refusal.{in_flight, is_set_up, refusal, tests_of}
 use Rattle.rules.specs.Slots.{carries, is_flight}
 use Rattle.rules.specs.Step.{apply}
-use Rattle.rules.specs.Tables.{Board, Memory, is_placed, line_of, listed, no_region, place_of, region_at, with_slots}
+use Rattle.rules.specs.Tables.{Memory, is_placed, line_of, listed, no_region, place_of, region_at, with_slots}
+use Rattle.rules.specs.declared.Board.{Board}
 use Rattle.rules.specs.declared.Event.TheVariants.{DataAck}
 use Rattle.rules.specs.declared.Region.{Region}
 use Rattle.rules.specs.declared.SlotState.TheVariants.{Empty, Waiting}

@@ -18,7 +18,8 @@ use Rattle.rules.specs.End.{shallower}
 use Rattle.rules.specs.History.{Account, Closes, Cuts, Nothing, Opens, Sets, depth_in, ends_in, has_read_in, lines_in, opened_in, read_in, region_in, uses_in, writes_in}
 use Rattle.rules.specs.Refusal.{depth_of, in_range, is_set_up, tests_of}
 use Rattle.rules.specs.Step.{apply, setup}
-use Rattle.rules.specs.Tables.{Board, Memory, no_entry, no_thread, thread_at, with_cut, with_depth, with_numbers, with_tables, with_thread}
+use Rattle.rules.specs.Tables.{Memory, no_entry, no_thread, thread_at, with_cut, with_depth, with_numbers, with_tables, with_thread}
+use Rattle.rules.specs.declared.Board.{Board}
 use Rattle.rules.specs.declared.Entry.{Entry}
 use Rattle.rules.specs.declared.Event.TheVariants.{Cut, Fence, Setup}
 use Rattle.rules.specs.declared.Shares.{Shares}

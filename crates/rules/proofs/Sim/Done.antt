@@ -25,7 +25,8 @@ use Rattle.rules.specs.Commit.{after_commit, commits, done_region, earlier, earl
 use Rattle.rules.specs.History.{Account}
 use Rattle.rules.specs.Lists.{all}
 use Rattle.rules.specs.Slots.{has_slot}
-use Rattle.rules.specs.Tables.{Board, is_held, listed, no_entry, no_region, owner_of, region_at, with_deps, with_regions, with_tables}
+use Rattle.rules.specs.Tables.{is_held, listed, no_entry, no_region, owner_of, region_at, with_deps, with_regions, with_tables}
+use Rattle.rules.specs.declared.Board.{Board}
 use Rattle.rules.specs.declared.Entry.{Entry}
 use Rattle.rules.specs.declared.Region.{Region}
 use Rattle.undo.proofs.Inv.{held}

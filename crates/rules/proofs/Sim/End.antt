@@ -22,7 +22,8 @@ use Rattle.rules.specs.End.{closed, end_region, ended_region, outside, tick}
 use Rattle.rules.specs.Flight.{flown}
 use Rattle.rules.specs.History.{Account, Closes, depth_in, ends_in, has_read_in, lines_in, opened_in, region_in, uses_in, writes_in}
 use Rattle.rules.specs.Refusal.{depth_of, refusal, tests_of}
-use Rattle.rules.specs.Tables.{Board, Memory, current, is_placed, listed, no_reads, owner_of, place_of, region_at, thread_at, thread_of, with_depth, with_reads, with_tables}
+use Rattle.rules.specs.Tables.{Memory, current, is_placed, listed, no_reads, owner_of, place_of, region_at, thread_at, thread_of, with_depth, with_reads, with_tables}
+use Rattle.rules.specs.declared.Board.{Board}
 use Rattle.rules.specs.declared.Event.TheVariants.{End}
 use Rattle.rules.specs.declared.Region.{Region}
 use Rattle.rules.specs.declared.SlotState.TheVariants.{Waiting}

@@ -19,7 +19,8 @@ use Rattle.rules.proofs.SlotLaws.{distinct_flown, flight_state, flown_none, leng
 use Rattle.rules.proofs.Views.{carry_of, newest, state_of}
 use Rattle.rules.specs.Flight.{flown}
 use Rattle.rules.specs.Slots.{carried, flown_slots, is_flight, is_ripe}
-use Rattle.rules.specs.Tables.{Board, Memory, line_of, listed, place_of, region_at, with_slots}
+use Rattle.rules.specs.Tables.{Memory, line_of, listed, place_of, region_at, with_slots}
+use Rattle.rules.specs.declared.Board.{Board}
 use Rattle.rules.specs.declared.Region.{Region}
 use Rattle.rules.specs.declared.SlotState.{SlotState}
 use Rattle.rules.specs.declared.SlotState.TheVariants.{Empty, InFlight, Waiting}

@@ -22,7 +22,8 @@ use Rattle.rules.specs.Acknowledge.{is_entry}
 use Rattle.rules.specs.History.{Account, opened_in, region_in}
 use Rattle.rules.specs.Lists.{count}
 use Rattle.rules.specs.Refusal.{is_set_up}
-use Rattle.rules.specs.Tables.{Board, line_of, listed, no_entry, no_thread, owner_of, thread_at, thread_of, with_log}
+use Rattle.rules.specs.Tables.{line_of, listed, no_entry, no_thread, owner_of, thread_at, thread_of, with_log}
+use Rattle.rules.specs.declared.Board.{Board}
 use Rattle.rules.specs.declared.Entry.{Entry}
 use Rattle.rules.specs.declared.Tables.{Tables}
 use Rattle.rules.specs.declared.Thread.{Thread}
@@ -38,7 +39,7 @@ logged_threads t k l ts =
     set ts.threads t (with_log (set (thread_at t ts).log (free_entry t ts) (fresh_entry t k l ts)) (thread_at t ts))
 
 abbrev pub logged_old : ℕ → ℕ → Board → List (List ℕ)
-logged_old t l b = set b.old (32 * t + free_entry t b.tables) (line_of l b.cur)
+logged_old t l b = set b.log_lines (32 * t + free_entry t b.tables) (line_of l b.cur)
 
 -- the board with the line logged
 abbrev new_log : ℕ → ℕ → ℕ → Board → Board
@@ -147,11 +148,11 @@ module _ {b : Board} {es : List Account} {s : u.State (List ℕ)} {h : v.History
         thread = key_thread t (opened_in t es) (omega (arith, i.told.numbers t));
         line = in_l;
         rank = count_new t (region_in t es) l b inside_thread room key_nz;
-        old = rw (is_same l, is_same (region_in t es), new, get_or-set_same b.old (32 * t + free_entry t b.tables) (line_of l b.cur) [] place_256) (ap (λ z. z ∷ []) (i.cur l));
+        old = rw (is_same l, is_same (region_in t es), new, get_or-set_same b.log_lines (32 * t + free_entry t b.tables) (line_of l b.cur) [] place_256) (ap (λ z. z ∷ []) (i.cur l));
         flight = rw (is_same l, is_same (region_in t es));
       }
     where
-      place_256 : 32 * t + free_entry t b.tables < length b.old
+      place_256 : 32 * t + free_entry t b.tables < length b.log_lines
       place_256 = omega (arith, i.memories.old, free_32, threads_8 b.tables i.shape)
 
   good_older : (x j : ℕ) → (entry_at x j b.tables).key ≢ 0
@@ -162,7 +163,7 @@ module _ {b : Board} {es : List Account} {s : u.State (List ℕ)} {h : v.History
         thread = g.thread;
         line = g.line;
         rank = omega (arith, g.rank, count_logged t (region_in t es) l b inside_thread room key_nz x (entry_at x j b.tables).key (ne_eqb (entry_at x j b.tables).key 0 n));
-        old = rw (get_or-set_other b.old (32 * t + free_entry t b.tables) (32 * x + j) (line_of l b.cur) [] apart) (old g.old);
+        old = rw (get_or-set_other b.log_lines (32 * t + free_entry t b.tables) (32 * x + j) (line_of l b.cur) [] apart) (old g.old);
         flight = flight g.flight;
       }
     where
@@ -174,12 +175,12 @@ module _ {b : Board} {es : List Account} {s : u.State (List ℕ)} {h : v.History
           let z' : j ≡ free_entry t b.tables = omega arith in
           never (rw (eq-eqb x t z, eq-eqb j (free_entry t b.tables) z')) (not_free x j n)
 
-      old : olds (eqb (entry_at x j b.tables).key) (s.chain (entry_at x j b.tables).line) ≡ line_of (32 * x + j) b.old ∷ []
-          → olds (eqb (entry_at x j b.tables).key) (chain_of (region_in t es) l s (entry_at x j b.tables).line) ≡ line_of (32 * x + j) b.old ∷ []
+      old : olds (eqb (entry_at x j b.tables).key) (s.chain (entry_at x j b.tables).line) ≡ line_of (32 * x + j) b.log_lines ∷ []
+          → olds (eqb (entry_at x j b.tables).key) (chain_of (region_in t es) l s (entry_at x j b.tables).line) ≡ line_of (32 * x + j) b.log_lines ∷ []
       old e =
           test (eqb (entry_at x j b.tables).line l)
           (λ d. let q : (entry_at x j b.tables).line ≡ l = eqb-true (entry_at x j b.tables).line l d in
-          let p : olds (eqb (entry_at x j b.tables).key) (s.chain l) ≡ line_of (32 * x + j) b.old ∷ [] = rw (← q) e in
+          let p : olds (eqb (entry_at x j b.tables).key) (s.chain l) ≡ line_of (32 * x + j) b.log_lines ∷ [] = rw (← q) e in
           rw (d, other_key x j n q) p)
           (λ d. rw d e)
 
@@ -297,8 +298,8 @@ module _ {b : Board} {es : List Account} {s : u.State (List ℕ)} {h : v.History
         depth = λ x. rw (thread_logged t (region_in t es) l b inside_thread room key_nz x) (test (eqb x t) (λ d. rw (d, eqb-true x t d)) (λ d. rw d));
         last = λ x. rw (thread_logged t (region_in t es) l b inside_thread room key_nz x) (test (eqb x t) (λ d. rw (d, eqb-true x t d)) (λ d. rw d));
         reads = λ x. rw (thread_logged t (region_in t es) l b inside_thread room key_nz x) (test (eqb x t) (λ d. rw (d, eqb-true x t d)) (λ d. rw d));
-        old = length-set b.old (32 * t + free_entry t b.tables) (line_of l b.cur) ∙ i.memories.old;
-        old_lines = λ x n. rw (get_or_set b.old (32 * t + free_entry t b.tables) x (line_of l b.cur) [] place_256)
+        old = length-set b.log_lines (32 * t + free_entry t b.tables) (line_of l b.cur) ∙ i.memories.old;
+        old_lines = λ x n. rw (get_or_set b.log_lines (32 * t + free_entry t b.tables) x (line_of l b.cur) [] place_256)
             (test (eqb x (32 * t + free_entry t b.tables)) (λ d. rw d (i.memories.cur_lines l inside_line)) (λ d. rw d (i.memories.old_lines x n)));
         lock = λ x. rw (get_or_set b.tables.lock l x true false (rw i.shape.lock inside_line)) (test (eqb x l) (λ d. rw d) (λ d. rw d (i.lock x)));
         top = λ x. rw (owner_at x) (test (eqb x l) (λ d. rw (d, in')) (λ d. rw d (i.top x)));
@@ -309,7 +310,7 @@ module _ {b : Board} {es : List Account} {s : u.State (List ℕ)} {h : v.History
             (after_waits (chain_of (region_in t es) l s) (lock_of l s) (region_in t es) l change s x q e);
       }
     where
-      place_256 : 32 * t + free_entry t b.tables < length b.old
+      place_256 : 32 * t + free_entry t b.tables < length b.log_lines
       place_256 = omega (arith, i.memories.old, free_32, threads_8 b.tables i.shape)
 
       owner_at : (x : ℕ) → get_or (set b.tables.owner l (region_in t es)) x 0 ≡ cond (eqb x l) (region_in t es) (get_or b.tables.owner x 0)

@@ -24,7 +24,8 @@ use Rattle.rules.proofs.Words.{eight}
 use Rattle.rules.specs.Access.{also_read, has_read, is_set, note_read, word_places}
 use Rattle.rules.specs.History.{Account, Closes, Cuts, Nothing, Opens, Sets, Stores, Uses, depth_in, has_read_in, opened_in, read_in, region_in}
 use Rattle.rules.specs.Refusal.{is_read_elsewhere}
-use Rattle.rules.specs.Tables.{Board, key_of, thread_at, thread_of, with_reads, with_tables}
+use Rattle.rules.specs.Tables.{key_of, thread_at, thread_of, with_reads, with_tables}
+use Rattle.rules.specs.declared.Board.{Board}
 use Rattle.rules.specs.declared.Thread.{Thread}
 use Rattle.serial.proofs.Main.{begun, fair_read, fair_write, reaches}
 use Rattle.serial.specs.Looks.{Look, Neither, Seeing, Writes, access_of, is_fair, look_at, see, then}

@@ -14,7 +14,8 @@ use Rattle.rules.proofs.Places.{Once, listed_stored, region_stored, regions_stor
 use Rattle.rules.proofs.Sim.State.{GoodRegion, Logs, Shape, Sim, Told, conv}
 use Rattle.rules.proofs.Views.{state_of}
 use Rattle.rules.specs.History.{Account, depth_in, draws_on, ends_in, last_writer, lines_in, opened_in, region_in, uses_in, writes_in}
-use Rattle.rules.specs.Tables.{Board, is_placed, listed, owner_of, place_of, region_at, thread_at, thread_of, with_car, with_cur, with_med, with_regions, with_tables}
+use Rattle.rules.specs.Tables.{is_placed, listed, owner_of, place_of, region_at, thread_at, thread_of, with_car, with_cur, with_med, with_regions, with_tables}
+use Rattle.rules.specs.declared.Board.{Board}
 use Rattle.rules.specs.declared.Region.{Region}
 use Rattle.rules.specs.declared.SlotState.TheVariants.{Waiting}
 use Rattle.rules.specs.declared.Tables.{Tables}

@@ -19,7 +19,8 @@ use Rattle.rules.specs.Lists.{count}
 use Rattle.rules.specs.Refusal.{is_set_up, refusal}
 use Rattle.rules.specs.Slots.{has_slot, is_empty}
 use Rattle.rules.specs.Step.{apply}
-use Rattle.rules.specs.Tables.{Board, Memory, in_channel, line_of, listed, no_entry, no_region, no_slot, no_thread, owner_of, place_of, region_at, start_lines, thread_at, thread_of}
+use Rattle.rules.specs.Tables.{Memory, in_channel, line_of, listed, no_entry, no_region, no_slot, no_thread, owner_of, place_of, region_at, start_lines, thread_at, thread_of}
+use Rattle.rules.specs.declared.Board.{Board}
 use Rattle.rules.specs.declared.Entry.{Entry}
 use Rattle.rules.specs.declared.Event.{Event}
 use Rattle.rules.specs.declared.Region.{Region}
@@ -80,11 +81,11 @@ pub record Shape (ts : Tables) : Type 0 where
 pub record Memories (b : Board) : Type 0 where
   pub cur : length b.cur ≡ 256
   pub med : length b.med ≡ 256
-  pub old : length b.old ≡ 256
+  pub old : length b.log_lines ≡ 256
   pub car : length b.car ≡ 256
   pub cur_lines : (l : ℕ) → l < 256 → is_line (line_of l b.cur) ≡ true
   pub med_lines : (l : ℕ) → l < 256 → is_line (line_of l b.med) ≡ true
-  pub old_lines : (l : ℕ) → l < 256 → is_line (line_of l b.old) ≡ true
+  pub old_lines : (l : ℕ) → l < 256 → is_line (line_of l b.log_lines) ≡ true
   pub car_lines : (l : ℕ) → l < 256 → is_line (line_of l b.car) ≡ true
 
 -- ---- the log: each entry is one of the chain of its line
@@ -93,7 +94,7 @@ pub record GoodEntry (b : Board) (s : u.State (List ℕ)) (t i : ℕ) (e : Entry
   pub thread : thread_of e.key ≡ t
   pub line : e.line < b.tables.size.lines
   pub rank : e.rank < count (is_of e.key) (thread_at t b.tables).log
-  pub old : olds (eqb e.key) (s.chain e.line) ≡ line_of (32 * t + i) b.old ∷ []
+  pub old : olds (eqb e.key) (s.chain e.line) ≡ line_of (32 * t + i) b.log_lines ∷ []
   -- in flight exactly if the line is locked by this region
   pub flight : e.persistent ≡ not (s.lock e.line && u.owns e.key (s.chain e.line))
 

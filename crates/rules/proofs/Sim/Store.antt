@@ -22,7 +22,8 @@ use Rattle.rules.proofs.Views.{carry_of, newest, state_of}
 use Rattle.rules.specs.Access.{change_line, stored, stored_in, word_after, wrote_line}
 use Rattle.rules.specs.History.{Account, Stores, depth_in, ends_in, last_writer, lines_in, opened_in, region_in, uses_in, writes_in}
 use Rattle.rules.specs.Slots.{is_full, renewed, slot_for}
-use Rattle.rules.specs.Tables.{Board, is_placed, line_of, listed, owner_of, place_of, region_at, thread_at, with_locks, with_old, with_owners, with_tables, with_threads}
+use Rattle.rules.specs.Tables.{is_placed, line_of, listed, owner_of, place_of, region_at, thread_at, with_locks, with_old, with_owners, with_tables, with_threads}
+use Rattle.rules.specs.declared.Board.{Board}
 use Rattle.rules.specs.declared.Region.{Region}
 use Rattle.rules.specs.declared.Thread.{Thread}
 use Rattle.undo.proofs.Laws.{and_true, never, test}
@@ -167,7 +168,7 @@ after_waits ch lk k l change s x q e =
 
 module _ {b : Board} {es : List Account} {s : u.State (List ℕ)} {h : v.History (List ℕ)} (t l : ℕ) (change : List ℕ → List ℕ) (i : Sim b es s h)
     (own : eqb (get_or b.tables.owner l 0) (region_in t es) ≡ true) (top : newest (s.chain l) ≡ region_in t es) where
-  pub ready_again : Ready b es s t l change b.tables.threads b.tables.owner b.tables.lock b.old s.chain s.lock
+  pub ready_again : Ready b es s t l change b.tables.threads b.tables.owner b.tables.lock b.log_lines s.chain s.lock
   ready_again =
       record {
         shape = i.shape;

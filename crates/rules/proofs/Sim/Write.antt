@@ -32,7 +32,8 @@ use Rattle.rules.specs.History.{Account, Stores, region_in}
 use Rattle.rules.specs.Refusal.{depth_of, is_foreign_open, is_read_elsewhere, is_set_up, tests_of}
 use Rattle.rules.specs.Slots.{flown_slots, is_full, slot_for}
 use Rattle.rules.specs.Step.{apply}
-use Rattle.rules.specs.Tables.{Board, Memory, current, is_placed, line_of, listed, locked, no_region, owner_of, place_of, region_at, start_lines, thread_at, with_deps, with_slots, with_tables}
+use Rattle.rules.specs.Tables.{Memory, current, is_placed, line_of, listed, locked, no_region, owner_of, place_of, region_at, start_lines, thread_at, with_deps, with_slots, with_tables}
+use Rattle.rules.specs.declared.Board.{Board}
 use Rattle.rules.specs.declared.Event.TheVariants.{Write}
 use Rattle.rules.specs.declared.Region.{Region}
 use Rattle.rules.specs.declared.SlotState.{SlotState}
@@ -97,7 +98,7 @@ module _ {m : ℕ → List ℕ} {b : Board} {es : List Account} {s : u.State (Li
       going (act s (u.Again (region_in t es) l change)) (note h (u.Again (region_in t es) l change))
       (watched_write w i t l inside unread change (λ x. refl) (u.Again (region_in t es) l change)
       (u.again op (newest_owns (region_in t es) (s.chain l) (listed_key (region_in t es) b.tables.regions going_in) top)) refl)
-      (store_sim t l change b.tables.threads b.tables.owner b.tables.lock b.old s.chain s.lock i (ready_again t l change i own top) going_in room
+      (store_sim t l change b.tables.threads b.tables.owner b.tables.lock b.log_lines s.chain s.lock i (ready_again t l change i own top) going_in room
       inside kl op)
       (still (u.Again (region_in t es) l change) refl refl)
 
@@ -237,7 +238,7 @@ write_joined : {m : Memory} {b : Board} {es : List Account} {s : u.State (List �
 unfolding logged
 write_joined {m} {b} {es} t l change w i re un op jo su in_t in_l so lo ro fr calm =
     test (eqb (get_or b.tables.owner l 0) (region_in t es))
-    (λ d. rw d (finish b.tables.threads b.tables.owner b.tables.lock b.old (λ x e. e)
+    (λ d. rw d (finish b.tables.threads b.tables.owner b.tables.lock b.log_lines (λ x e. e)
     (go_again t l change w i un op jo su in_t in_l so ro d)))
     (λ d. let unl : get_or b.tables.lock l false ≡ false = rw d at lo in
     let z : any (is_of 0) (thread_at t b.tables).log ≡ true = not-false (any (is_of 0) (thread_at t b.tables).log) (rw d at fr) in

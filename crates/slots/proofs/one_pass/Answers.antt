@@ -1,29 +1,28 @@
-use borrow.Author.Rules.{rules}
-use mathlib.Core.Path.{◌∙◌, refl, sym}
-use lib.ListN.{length-set}
+use Rattle.std.proofs.Common.{arith, sym, ◌∙◌, ◌<◌, length}
 use Rattle.rules.specs.Slots.{counted_slot}
-use Rattle.lookup.proofs.Map.{map_end, map_more}
 use Rattle.slots.proofs.Laws.{found_end, found_more}
+use Rattle.lookup.proofs.Lists.{same_length, turn, turned}
 use Rattle.slots.proofs.one_pass.Goals as goal
 
-pub loop-i-init : goal.loop-i-init
-loop-i-init c = (search rules, (search rules, (refl, refl)))
-
 pub loop-i-preserved : goal.loop-i-preserved
-loop-i-preserved c = (
-  search rules,
-  (
-    simp length-set c.loop-i.invariant.1.0,
-    (
-      rw c.counted_slot.ensures (sym (map_more (counted_slot c.args.ls) c.loop-i.i c.loop-i.q _ (search rules)) ∙ c.loop-i.invariant.1.1.0),
-      rw (c.or_at-free.ensures, c.is_empty.ensures, c.or_at-named.ensures, c.names_line.ensures) (sym (found_more c.args.l c.loop-i.named c.loop-i.free c.loop-i.i c.loop-i.q _ _ (search rules)) ∙ c.loop-i.invariant.1.1.1),
-    ),
-  ),
-)
+loop-i-preserved c =
+    let s = c.args in
+    let l = c.loop-i in
+    let long = same_length (counted_slot s.recent.now) s.slots.now l.slots l.i l.invariant.counts in
+    let h : l.i < length l.slots = omega arith in record {
+      within = omega arith;
+      counts = turn _ _ _ _ _ _ (omega arith) l.invariant.counts c.count_slot.ensures;
+      slot = rw (c.or_at-free.ensures.first, c.is_empty.ensures, c.or_at-named.ensures.first, c.names.ensures) (sym (found_more s.line l.named l.free l.i l.slots _ _ h) ∙ l.invariant.slot);
+      named = c.or_at-named.ensures.within l.invariant.named (omega arith);
+      free = c.or_at-free.ensures.within l.invariant.free (omega arith);
+    }
 
-pub returns : goal.returns
-returns c =
+pub returns-clause-pass : goal.returns-clause-pass
+returns-clause-pass c =
+    let s = c.args in
+    let l = c.loop-i in
+    let long = same_length (counted_slot s.recent.now) s.slots.now l.slots l.i l.invariant.counts in
     record {
-      slot = c.or_else.ensures ∙ sym (found_end c.args.l c.loop-i.named c.loop-i.free c.loop-i.i c.loop-i.q (search rules)) ∙ c.loop-i.invariant.1.1.1;
-      counts = sym (map_end (counted_slot c.args.ls) c.loop-i.i c.loop-i.q (search rules)) ∙ c.loop-i.invariant.1.1.0;
+      slot = c.or_else.ensures.first ∙ sym (found_end s.line l.named l.free l.i l.slots (omega arith)) ∙ l.invariant.slot;
+      counts = turned (counted_slot s.recent.now) s.slots.now _ _ (omega arith) l.invariant.counts;
     }

@@ -7,6 +7,6 @@ pub returns-then-last : goal.returns-then-last
 unfolding line_end
 returns-then-last c = (rw c.if-last.true, omega arith)
 
-pub returns : goal.returns
+pub returns-else-last : goal.returns-else-last
 unfolding line_end
-returns c = (rw c.if-last.false c.whole_lines.ensures, omega (arith, c.whole_lines.ensures, last_in c.args.piece.now))
+returns-else-last c = (rw c.if-last.false c.whole_lines.ensures, omega (arith, c.whole_lines.ensures, last_in c.args.piece.now))

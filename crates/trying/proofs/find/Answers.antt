@@ -1,19 +1,25 @@
-use mathlib.Core.Path.{◌∙◌, sym}
-use native.Mathlib.Omega.{arith}
+use Rattle.std.proofs.Common.{◌≡◌, ◌-◌, List, ℕ, drop, take, length, arith}
 use lib.Dec.{eqb}
-use Rattle.lookup.proofs.Search.{place_end, place_hit, place_on}
-use borrow.Author.Tests.{eq-eqb, ne_eqb}
-use borrow.Author.Rules.{rules}
+use lib.ListN.{length-drop}
+use lib.Seq.{take_all}
+use Rattle.trying.proofs.Turns.{place_behind, place_found, place_missing}
 use Rattle.trying.proofs.find.Goals as goal
 
-pub loop-i-init : goal.loop-i-init
-loop-i-init c = ((λ h. h), (search rules, search rules))
+pub returns-then-line-from : goal.returns-then-line-from
+returns-then-line-from c = record { first = place_behind _ _ _ (omega arith); behind = omega arith; inside = λ h. omega arith }
 
-pub returns-then-s-i : goal.returns-then-s-i
-returns-then-s-i c = let at = c.loop-i in record { first = sym (place_hit (λ x. eqb x c.args.b) at.i c.args.s.now 0 (omega arith) (eq-eqb _ _ c.if-s-i.true)) ∙ at.invariant.1.1; behind = search rules; inside = λ h. search rules }
+-- what is lent from a place on
+rest : (s : List ℕ) (i : ℕ) → take (length s - i) (drop i s) ≡ drop i s
+rest s i = take_all (length s - i) (drop i s) (omega (arith, length-drop {A = ℕ}))
 
-pub loop-i-preserved : goal.loop-i-preserved
-loop-i-preserved c = let at = c.loop-i in ((λ h. omega arith), (search rules, place_on (λ x. eqb x c.args.b) at.i c.args.s.now 0 (omega arith) (ne_eqb _ _ c.if-s-i.false) ∙ at.invariant.1.1))
+pub returns-in-Some : goal.returns-in-Some
+returns-in-Some c =
+    let a = c.args in
+    let f = place_found (λ x. eqb x a.byte) (drop a.from a.line.now) c.in-Some.at (rw (rest a.line.now a.from) at c.in-Some.ensures) in
+    record { first = omega arith; behind = omega arith; inside = λ h. omega (arith, length-drop {A = ℕ}) }
 
-pub returns : goal.returns
-returns c = let at = c.loop-i in record { first = sym (place_end (λ x. eqb x c.args.b) at.i c.args.s.now (omega arith)) ∙ at.invariant.1.1; behind = search rules; inside = λ h. at.invariant.0 h }
+pub returns-in-None : goal.returns-in-None
+returns-in-None c =
+    let a = c.args in
+    let f = place_missing (λ x. eqb x a.byte) (drop a.from a.line.now) (rw (rest a.line.now a.from) at c.in-None.ensures) in
+    record { first = omega (arith, length-drop {A = ℕ}); behind = omega arith; inside = λ h. omega arith }

@@ -1,33 +1,38 @@
-use Prim.Native.Nat.{◌-◌}
-use mathlib.Core.Path.{◌∙◌, ◌≡◌, refl, sym}
-use borrow.Author.Rules.{rules}
+use Rattle.std.proofs.Common.{◌≡◌, ◌∙◌, ◌-◌, arith, get_or, map, sym}
+use lib.ListN.{get_or-map}
 use borrow.Author.Tests.{eq-eqb, ne_eqb}
+use Rattle.rules.specs.Marks.{no_mark}
 use Rattle.walking.proofs.Indices.{nth_here, nth_less, nth_skip}
 use Rattle.walking.specs.Indices.{last_first, nth}
 use Rattle.walking.proofs.entry_in.Goals as goal
 
-pub loop-i-init : goal.loop-i-init
-loop-i-init c = (search rules, refl)
-
 pub returns-then-left-eq0 : goal.returns-then-left-eq0
 returns-then-left-eq0 c =
     let a = c.args in
+    let ks = map (λ m. m.key) a.log.now in
+    let j = c.loop-i.i - 1 in
+    let same = rw (← get_or-map (λ m. m.key) a.log.now j no_mark) at (eq-eqb (get_or a.log.now j no_mark).key a.key c.if-log-i.true) in
     let e : c.loop-i.left ≡ 0 = c.if-left-eq0.true in
-    sym (nth_here a.key a.log.now c.loop-i.i (c.loop-i.i - 1) (search rules) (eq-eqb _ _ c.if-log-i.true)) ∙ rw e at c.loop-i.invariant.1
+    sym (nth_here a.key ks c.loop-i.i j (omega arith) same) ∙ rw e at c.loop-i.invariant
 
 pub loop-i-preserved-then-log-i : goal.loop-i-preserved-then-log-i
 loop-i-preserved-then-log-i c =
     let a = c.args in
-    (search rules, nth_less a.key a.log.now c.loop-i.i (c.loop-i.i - 1) (search rules) c.loop-i.left (c.loop-i.left - 1) (search rules) (eq-eqb _ _ c.if-log-i.true) ∙ c.loop-i.invariant.1)
+    let ks = map (λ m. m.key) a.log.now in
+    let j = c.loop-i.i - 1 in
+    let same = rw (← get_or-map (λ m. m.key) a.log.now j no_mark) at (eq-eqb (get_or a.log.now j no_mark).key a.key c.if-log-i.true) in
+    nth_less a.key ks c.loop-i.i j (omega arith) c.loop-i.left (c.loop-i.left - 1) (omega arith) same ∙ c.loop-i.invariant
 
 pub loop-i-preserved : goal.loop-i-preserved
 loop-i-preserved c =
     let a = c.args in
-    (search rules, nth_skip a.key a.log.now c.loop-i.i (c.loop-i.i - 1) (search rules) c.loop-i.left (ne_eqb _ _ c.if-log-i.false) ∙ c.loop-i.invariant.1)
+    let ks = map (λ m. m.key) a.log.now in
+    let j = c.loop-i.i - 1 in
+    let other = rw (← get_or-map (λ m. m.key) a.log.now j no_mark) at (ne_eqb (get_or a.log.now j no_mark).key a.key c.if-log-i.false) in
+    nth_skip a.key ks c.loop-i.i j (omega arith) c.loop-i.left other ∙ c.loop-i.invariant
 
 pub returns : goal.returns
 unfolding last_first nth
 returns c =
-    let a = c.args in
-    let e : c.loop-i.i ≡ 0 = search rules in
-    rw e at c.loop-i.invariant.1
+    let e : c.loop-i.i ≡ 0 = omega arith in
+    rw e at c.loop-i.invariant

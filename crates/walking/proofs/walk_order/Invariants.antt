@@ -1,14 +1,10 @@
-use Prim.Native.Nat.{◌+◌, ◌-◌, ◌≤◌}
-use mathlib.Core.Path.{◌≡◌}
-use mathlib.Core.List.{List}
-use lib.ListN.{drop, length, replicate}
+use Rattle.std.proofs.Common.{length, take}
 use Rattle.rules.specs.Walk.{walk_from}
-use Rattle.rules.specs.declared.Listed.{Listed}
-use Rattle.walking.proofs.Turns.{Listing, Walks}
+use Rattle.walking.proofs.Turns.{Walks}
 use Rattle.walking.proofs.walk_order.Given as goal
 
-abbrev pub invariant-loop-left : goal.invariant-loop-left
-invariant-loop-left l = (((l.count + l.left ≤ 32) × ((length l.order ≡ 32) × ((length l.keys ≡ 32) × (length l.deps ≡ 32)))) × ((rs : List Listed) → Listing l.initial.left l.initial.keys l.initial.deps rs → Walks (walk_from l.initial.left rs) l.left l.keys l.deps l.order l.count)) × (drop l.count l.order ≡ replicate (32 - l.count) 0)
+abbrev pub invariant-loop-place : goal.invariant-loop-place
+invariant-loop-place l = Walks (walk_from (length (take 32 l.regions)) (take 32 l.regions)) l.left l.remaining l.count l.keys
 
-abbrev pub decreases-loop-left : goal.decreases-loop-left
-decreases-loop-left l = l.left
+abbrev pub decreases-loop-place : goal.decreases-loop-place
+decreases-loop-place l = l.left

@@ -1,17 +1,10 @@
-use Prim.Native.Nat.{◌-◌, ◌≤◌, ℕ}
-use mathlib.Core.Path.{◌≡◌}
-use mathlib.Core.List.{List}
-use lib.ListN.{length}
-use Rattle.output.specs.Room.{puts, room}
-use Rattle.wording.proofs.Texts.{left}
-use Rattle.wording.specs.Text.{image_line, line_text, memory_text}
+use Rattle.std.proofs.Common.{◌≡◌}
+use Rattle.output.specs.Room.{puts}
+use Rattle.output.specs.Writer.{room_of}
+use Rattle.wording.specs.Text.{flat_to, image_line, line_text}
 use Rattle.wording.proofs.memory_words.Given as goal
 
-abbrev pub parts : List ℕ → ℕ → List ℕ
-parts image l = line_text l (image_line image l)
-
-abbrev pub invariant-loop-l : goal.invariant-loop-l
-invariant-loop-l l = (l.l ≤ l.n) × ((length l.out ≡ length l.initial.out) × (puts (room l.out l.q) (left (parts l.image) l.n l.l) ≡ puts (room l.initial.out l.initial.q) (memory_text l.n l.image)))
-
-abbrev pub decreases-loop-l : goal.decreases-loop-l
-decreases-loop-l l = l.n - l.l
+abbrev pub invariant-loop-line : goal.invariant-loop-line
+invariant-loop-line l =
+    (l.out.out.ghost_name ≡ l.initial.out.out.ghost_name)
+    × (room_of l.out ≡ puts (room_of l.initial.out) (flat_to (λ k. line_text k (image_line l.image k)) 0 l.line))

@@ -1,10 +1,7 @@
-use mathlib.Core.Path.{◌≡◌}
-use lib.ListN.{length}
-use Rattle.wording.specs.Text.{finish, recovered}
+use Rattle.std.proofs.Common.{◌≡◌, ◌-◌}
+use Rattle.wording.proofs.Finish.{finish_in}
+use Rattle.wording.specs.Text.{recovered}
 use Rattle.wording.proofs.recover.Given as goal
 
-abbrev pub invariant-loop-s : goal.invariant-loop-s
-invariant-loop-s l = (length l.image ≡ length l.initial.image) × (finish l.n (record { bytes = l.image; at = l.at }) ≡ recovered l.initial.image)
-
-abbrev pub decreases-loop-s : goal.decreases-loop-s
-decreases-loop-s l = l.n
+abbrev pub invariant-loop : goal.invariant-loop
+invariant-loop l = finish_in (257 - l.counter) (record { bytes = l.image; at = l.at }) ≡ recovered l.initial.image
