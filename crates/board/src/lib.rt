@@ -62,6 +62,7 @@ pub extern "C" fn board_image(file: &[u8], memory: &[u8], image: &mut [u8]) -> A
 }
 
 /// The same, and the image is a new one: its log entries stand under headers.
+// Kept: the C interface has a name for each form.
 #[unsafe(no_mangle)]
 pub extern "C" fn board_image_headed(file: &[u8], memory: &[u8], image: &mut [u8]) -> Answer
     ensures { wrote result image.new ≡ image_headed_call file.now memory.now image.old }
@@ -70,7 +71,7 @@ pub extern "C" fn board_image_headed(file: &[u8], memory: &[u8], image: &mut [u8
 }
 
 /// One recovery step inside the image, at the place in eight bytes, little-endian: 'more' is the value 1, 'finished' the value 0.
-// Kept: the C interface has a name for each form.
+// Kept: as `board_image_headed`.
 #[unsafe(no_mangle)]
 pub extern "C" fn board_recovery_step(image: &mut [u8], place: &mut [u8]) -> Answer
     ensures { recovered result image.new place.new ≡ recovery_call image.old place.old }
@@ -79,7 +80,7 @@ pub extern "C" fn board_recovery_step(image: &mut [u8], place: &mut [u8]) -> Ans
 }
 
 /// The same inside an image of either form.
-// Kept: as `board_recovery_step`.
+// Kept: as `board_image_headed`.
 #[unsafe(no_mangle)]
 pub extern "C" fn board_recovery_step_headed(image: &mut [u8], place: &mut [u8]) -> Answer
     ensures { recovered result image.new place.new ≡ recovery_headed_call image.old place.old }
@@ -100,10 +101,7 @@ pub extern "C" fn board_recovery_entry(image: &[u8], place: u64) -> Answer
 pub extern "C" fn board_record(file: &[u8]) -> Answer
     ensures { result ≡ record { refusal = 0; value = size_of file.now } }
 {
-    Answer {
-        refusal: 0,
-        value: files::record_size(file) as u64,
-    }
+    Answer::from(Ok(files::record_size(file) as u64))
 }
 
 /// Runs an event file in the same way and writes the tables after it; the value is the number of their bytes.

@@ -157,7 +157,7 @@ fn put_event(line: &[u8], out: &mut [u8]) -> Option<usize> {
 }
 
 // The numbers of a line from number `first` on up to number `end`, as bytes from `at` on; 0 where there is no number.
-// Kept: numbers of any width, the low byte first.
+// Kept: a number of a line is cut to its low byte (`% 256`); `u8::try_from` would refuse it, which a case's line does not.
 fn put_numbers(out: &mut [u8], at: usize, line: &[u8], first: usize, end: usize) {
     for (byte, i) in out.iter_mut().skip(at).zip(first..end) {
         *byte = (trying::number(line, i) % 256) as u8;
@@ -165,7 +165,7 @@ fn put_numbers(out: &mut [u8], at: usize, line: &[u8], first: usize, end: usize)
 }
 
 // The bytes of an image record of a kind.
-// Kept: the kinds of an image are bytes of its format.
+// Kept: a case may name a kind that is none, for a byte of its own.
 fn record_length(kind: u64) -> usize {
     match kind {
         32 => 4,
@@ -194,7 +194,7 @@ fn image_word(image: &[u8], line: u64, word: u64) -> u64 {
 
 /// A case as it is tried: its board and the file of its events, of which `filled` bytes are written and `whole` says whether these are all; the buffer of its
 /// calls with an image of `image` bytes, and the place; how many answers were judged, and whether all were right.
-// Kept: `whole` and `right` are told of a case and are no conditions of the parts beside them.
+// Kept: `whole` and `right` are told of a case and are no conditions of the parts beside them. No heap, so `filled` and `image` count bytes of buffers.
 #[derive(Drop)]
 struct Case<'m> {
     memory: &'m [u8],
@@ -211,7 +211,7 @@ struct Case<'m> {
 
 // A value that is looked at, as an answer.
 fn seen(value: u64) -> Answer {
-    Answer { refusal: 0, value }
+    Answer::from(Ok(value))
 }
 
 impl Case<'_> {
@@ -279,7 +279,7 @@ impl Case<'_> {
     }
 
     // The answers of the file, or its image of either form, into the first bytes of the buffer. An image that is saved is the case's image then.
-    // Kept: a save answers as the C call does.
+    // Kept: the C interface: `board_image` hands on this `Answer`.
     fn run_file(&mut self, word: Word, length: usize) -> Answer {
         let file = front(&self.file, if self.whole { self.filled } else { 0 });
         let out = front_mut(&mut self.buffer, length);

@@ -1,17 +1,16 @@
 -- The commits of a step, one after the other, n of them made.
-use Prim.Native.Nat.{◌+◌, ◌-◌, ◌/◌, ◌<◌, ◌≤◌, suc, zero, ℕ}
+use Prim.Native.Nat.{◌+◌, ◌-◌, ◌<◌, ◌≤◌, suc, zero, ℕ}
 use mathlib.Core.Bool.{Bool, ◌&&◌, ◌||◌, and-false, cond, false, not, true}
 use mathlib.Core.List.{List, [], ◌∷◌, map}
 use mathlib.Core.Path.{◌∙◌, ◌≡◌, ap, ap₂, refl, sym}
 use lib.ListN.{length}
-use lib.Seq.{set_out}
 use native.Mathlib.Nat.{add-zero, zero-add}
 use native.Mathlib.Omega.{arith}
 use Rattle.undo.proofs.Laws.{or_false}
 use Rattle.undo.specs.Table.{any}
-use Rattle.rules.specs.Commit.{Settled, after_commit, before, commit, commits, done_region, earlier, earliest, earliest_from, freed, settle, settled}
+use Rattle.rules.specs.Commit.{Settled, before, commit, commits, done_region, earlier, earliest, earliest_from, settle, settled}
 use Rattle.rules.specs.Slots.{has_slot}
-use Rattle.rules.specs.Tables.{is_held, no_region, thread_at, thread_of, with_done, with_regions}
+use Rattle.rules.specs.Tables.{is_held, no_region, with_done, with_regions}
 use Rattle.rules.specs.declared.Region.{Region}
 use Rattle.rules.specs.declared.Tables.{Tables}
 use Rattle.rules.proofs.Lists.{or_none}
@@ -57,11 +56,6 @@ unfolding settle
 settle_full n t h =
     let s : 32 - n ≡ 0 = omega arith in
     none_more n t (settle (32 - n) t) (rw s)
-
--- a key of no thread frees no log entries
-pub commit_none : (k : ℕ) (t : Tables) → length t.threads ≤ k / 65536 → with_regions (map (after_commit k) t.regions) t ≡ commit k t
-unfolding commit
-commit_none k t h = rw (set_out t.threads (k / 65536) (freed k (thread_at (thread_of k) t)) h)
 
 done_same : (r : Region) → (r.done || (r.ended && not (has_slot r))) ≡ r.done → done_region r ≡ r
 unfolding done_region

@@ -20,6 +20,7 @@ fn become_done(region: &mut Region)
     }
 }
 
+// Kept: as `drop_slots` of crate slots.
 #[tactic(auto, using(lookup::proofs::Lists::turn))]
 fn done_all(regions: &mut [Region; MOST_REGIONS])
     ensures { regions.new ≡ map done_region regions.old }
@@ -44,6 +45,7 @@ fn without_dep(dep: u32, key: u32) -> u32
     if dep == key { 0 } else { dep }
 }
 
+// Kept: as `drop_slots` of crate slots.
 #[tactic(auto, using(std::proofs::lemmas::List::Edits::map_over_more))]
 fn drop_deps(deps: &mut [u32; MOST_DEPS], key: u32)
     ensures { deps.new ≡ map (without_dep key) deps.old }
@@ -64,6 +66,7 @@ fn after_commit(region: &mut Region, key: u32)
     }
 }
 
+// Kept: as `drop_slots` of crate slots.
 #[tactic(auto, using(lookup::proofs::Lists::turn))]
 fn without_region(regions: &mut [Region; MOST_REGIONS], key: u32)
     ensures { regions.new ≡ map (after_commit key) regions.old }
@@ -81,6 +84,7 @@ fn free_entry(entry: &mut Entry, key: u32)
     }
 }
 
+// Kept: as `drop_slots` of crate slots.
 #[tactic(auto, using(lookup::proofs::Lists::turn))]
 fn free_entries(log: &mut [Entry; MOST_ENTRIES], key: u32)
     ensures { log.new ≡ map (freed_entry key) log.old }

@@ -16,6 +16,7 @@ use Rattle.recovery.specs.declared.Next.{Next}
 use Rattle.rules.specs.Bytes.{line_at, line_bytes, paste}
 use Rattle.rules.specs.Reader.{read_image}
 use Rattle.rules.specs.Recovery.{line_start}
+use Rattle.torn.proofs.Mixed.{mixed_length}
 use Rattle.torn.specs.Torn.{mixed, torn_act, torn_by, torn_read}
 use Rattle.drill.specs.Drilled.{choice_of, cut_inside}
 
@@ -29,14 +30,9 @@ module _ (p : ℕ → Bool) where
   mixed_at i zero (x ∷ xs) ys h = rw add-zero
   mixed_at i (suc n) (x ∷ xs) ys h = rw (add-suc i n, ← suc-add i n, mixed_at (suc i) n xs ys (omega arith))
 
-  mixed_length : (i : ℕ) (xs ys : List ℕ) → length (mixed p i xs ys) ≡ length xs
-  unfolding mixed
-  mixed_length i [] ys = refl
-  mixed_length i (x ∷ xs) ys = rw (mixed_length (suc i) xs ys)
-
   mixed_there : (n : ℕ) (xs ys : List ℕ) → n < length xs → get_or (take n (mixed p 0 xs ys) ++ drop n xs) n 0 ≡ get_or xs n 0
   mixed_there n xs ys h =
-      let l : length (take n (mixed p 0 xs ys)) ≡ n = length-take-le n (mixed p 0 xs ys) (omega (arith, mixed_length 0 xs ys)) in
+      let l : length (take n (mixed p 0 xs ys)) ≡ n = length-take-le n (mixed p 0 xs ys) (omega (arith, mixed_length p 0 xs ys)) in
       grind (arith, common_steps)
 
   -- the words of the line before n are mixed; one word more
@@ -47,7 +43,7 @@ module _ (p : ℕ → Bool) where
       rw (f, g, e, add-one n) (rw zero-add at (mixed_at 0 n xs ys h))
 
   pub mixed_all : (xs ys zs : List ℕ) (n : ℕ) → length xs ≤ n → zs ≡ take n (mixed p 0 xs ys) ++ drop n xs → zs ≡ mixed p 0 xs ys
-  mixed_all xs ys zs n h e = e ∙ rw (drop_of_length-le xs h, append-nil, take_all n (mixed p 0 xs ys) (omega (arith, mixed_length 0 xs ys)))
+  mixed_all xs ys zs n h e = e ∙ rw (drop_of_length-le xs h, append-nil, take_all n (mixed p 0 xs ys) (omega (arith, mixed_length p 0 xs ys)))
 
 -- ---- what a step that is cut inside leaves
 

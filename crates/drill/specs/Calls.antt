@@ -1,4 +1,4 @@
--- Event calls in a chain, each on the tables and memories that the last one returned, and what is promised of them.
+-- Event calls in a chain, each on the board that the last one left, and what is promised of them.
 use Rattle.std.specs.Prelude.{ℕ, ◌≡◌, Bool, true, List, [], ◌∷◌}
 use Rattle.rules.specs.Claim.{Holds, board_after, is_byte, is_byte_memory}
 use Rattle.rules.specs.History.{accepted_in, has_cut}

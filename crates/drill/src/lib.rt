@@ -105,8 +105,8 @@ fn act_all(image: &mut [u8], acts: &[u8]) -> u64
     at
 }
 
-/// The acts on an image of any bytes, a byte each, and one more recovery step; on every image that the words of data flights may have left at a cut, demand 3 of its
-/// answer. 255 is a recovery step, 0 a power cut between two steps, any other byte one inside a step, by which the words of its bits had been restored.
+/// The acts on an image of any bytes, a byte each, and one more recovery step; on every image that the words of data flights may have left at a cut, the answer meets
+/// demand 3. 255 is a recovery step, 0 a power cut between two steps, any other byte one inside a step, by which the words of its bits had been restored.
 pub fn recover(image: &mut [u8], acts: &[u8]) -> Answer
     ensures { Recovered image.old acts.now image.new result }
 {
@@ -115,7 +115,7 @@ pub fn recover(image: &mut [u8], acts: &[u8]) -> Answer
 }
 
 /// An event file over lent memory, the image that its cut left, the acts on that image, and one more recovery step.
-// Kept: `files::run_image` answers as the C call does.
+// Kept: the C interface: `board_image` hands on this `Answer`.
 pub fn drill(file: &[u8], memory: &[u8], acts: &[u8], image: &mut [u8]) -> DrillAnswers
     ensures { Drilled file.now memory.now acts.now image.old image.new result }
 {

@@ -67,6 +67,7 @@ pub fn shallower(tables: &mut Tables, thread: u8)
 
 // ---- acknowledgements
 
+// Kept: as `drop_slots` of crate slots.
 #[tactic(auto, using(lookup::proofs::Lists::turn))]
 fn drop_flights(regions: &mut [Region; MOST_REGIONS], key: u32, line: u8)
     ensures { regions.new ≡ map (dropped key line) regions.old }
@@ -85,6 +86,7 @@ fn keep_entry(entry: &mut Entry, key: u32, line: u8)
     }
 }
 
+// Kept: as `drop_slots` of crate slots.
 #[tactic(auto, using(lookup::proofs::Lists::turn))]
 fn keep_entries(log: &mut [Entry; MOST_ENTRIES], key: u32, line: u8)
     ensures { log.new ≡ map (kept_entry key line) log.old }

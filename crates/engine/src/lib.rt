@@ -140,7 +140,7 @@ fn run_write(
     Ok(0)
 }
 
-// Kept: an acknowledgement each, which differ in their test and in what they do.
+// Kept: two events that differ in their test and in what they do; one function over both would take both as closures, and is no plainer.
 #[tactic(auto, unfolding(rules::specs::Step::apply))]
 fn run_log_ack(board: &mut Board, line: u8) -> Result<u64, Refusal>
     ensures done { IfOk result (λ v. did v board.new ≡ apply board.old (LogAck line)) }
@@ -228,6 +228,7 @@ pub fn event(board: &mut Board, bytes: &[u8]) -> Answer
     ensures { ◌≡◌ {A = Stepped} (record { board = board.new; answer = result }) (step board.old bytes.now) }
 {
     let reading = events::read_record(bytes);
+    // The list of forms by place asks for `let .. else` at the reader's answer.
     let Ok(event) = reading else {
         return Answer::from(reading.map(|_| 0));
     };

@@ -2,10 +2,10 @@
 use Prim.Native.Nat.{◌+◌, ◌<◌, ◌≤◌, suc, zero, ℕ}
 use mathlib.Core.Path.{◌∙◌, ◌≡◌, ap, refl, sym}
 use mathlib.Core.Bool.{Bool, ◌&&◌, false, not, true}
-use mathlib.Core.List.{List, [], ◌∷◌, map}
+use mathlib.Core.List.{List, [], ◌∷◌}
 use lib.Dec.{eqb, leb}
 use mathlib.Core.Logic.{inl, inr, ◌⊎◌}
-use lib.ListN.{drop, get_or, get_or-eq_default, length}
+use lib.ListN.{drop, get_or, get_or-eq_default, get_or-map, length}
 use native.Mathlib.Numerals.{add-one}
 use borrow.Author.Tests.{eqb-true, leb-false, leb-true}
 use lib.Seq.{drop-cons}
@@ -17,12 +17,6 @@ use Rattle.undo.proofs.Laws.{and_true, test}
 use Rattle.rules.proofs.Laws.{known}
 
 -- ---- one law for every table: what a function gives for each entry, and a test that each passes
-
-map_none : {A B : Type 0} (f : A → B) (xs : List A) (k : ℕ) (a : A) → get_or (map f xs) k (f a) ≡ f (get_or xs k a)
-map_none f [] zero a = refl
-map_none f [] (suc k) a = refl
-map_none f (x ∷ xs) zero a = refl
-map_none f (x ∷ xs) (suc k) a = map_none f xs k a
 
 passes : {A : Type 0} (p : A → Bool) (xs : List A) (k : ℕ) (a : A) → all p xs ≡ true → p a ≡ true → p (get_or xs k a) ≡ true
 passes p [] zero a e h = h
@@ -52,7 +46,7 @@ fitting k =
 
 pub body_total : (k : ℕ) → body_length k ≡ total (widths_of k)
 unfolding kind_at
-body_total k = map_none (λ (x : Kind). total x.widths) kinds k no_kind
+body_total k = get_or-map (λ (x : Kind). total x.widths) kinds k no_kind
 
 -- ---- a number that no kind has
 

@@ -145,10 +145,7 @@ pub fn kind_row(number: u8) -> KindRow
 pub fn is_kind(number: u8) -> bool
     ensures { result ≡ is_kind number }
 {
-    match Kind::try_from(number) {
-        Ok(_) => true,
-        Err(_) => false,
-    }
+    Kind::try_from(number).is_ok()
 }
 
 /// The width of a number in a body, 0 if there is none.

@@ -1,6 +1,7 @@
 #![tactic(auto)]
 
 // What is wrong with a region of an image by itself, and with two of a thread, one behind the other. A dependence is a region's key, 0 for an empty one.
+// Kept: the 0, since `in_order` and `is_astray` of specs/ test it.
 ghost use Rattle.std.specs.Prelude.{◌≡◌, position, eqb, get_or};
 ghost use Rattle.undo.specs.Table.{any};
 ghost use Rattle.rules.specs.Lists.{all};
@@ -81,7 +82,7 @@ fn has_astray(regions: &[Listed], deps: &[u32; MOST_DEPS]) -> bool
 }
 
 // A done region without dependences.
-// Kept: the state is an image's byte, of any value.
+// Kept: the state is a byte; `is_unknown_state` of specs/ is asked of any byte of an image, after the reading.
 fn is_left_over(region: &Listed) -> bool
     ensures { result ≡ is_left_over region.now }
 {

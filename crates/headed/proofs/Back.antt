@@ -2,7 +2,7 @@
 use Prim.Native.Nat.{◌+◌, ◌-◌, ◌<◌, ◌≤◌, suc, ℕ}
 use mathlib.Core.Path.{◌∙◌, ◌≡◌, ap, refl, sym}
 use mathlib.Core.Logic.{◌≢◌}
-use mathlib.Core.Bool.{Bool, ◌&&◌, ◌||◌, false, not, true}
+use mathlib.Core.Bool.{Bool, ◌&&◌, ◌||◌, and-false, false, not, true}
 use mathlib.Core.List.{List, [], ◌++◌, ◌∷◌, append_assoc, append-nil}
 use lib.Dec.{eqb, leb, ltb}
 use lib.ListN.{drop, get_or, length, take}
@@ -27,7 +27,6 @@ use Rattle.headed.specs.Image.{also_held, encode_headed, headed_record, log_reco
 use Rattle.headed.specs.Reader.{Progress, fields_in, headed_body, header_turn, is_behind_short, is_header, is_kind_of, is_on_board, is_placed_in, read_as, read_headed, records_in, records_read_as, state_read, turn_in, unread}
 use Rattle.headed.proofs.Groups.{all_grouped, nothing_lost}
 use Rattle.headed.proofs.Header.{body_long, header_back, header_is, header_body}
-use Rattle.headed.proofs.Old.{and_none}
 use Rattle.rules.proofs.Places.{eqb_swap}
 
 -- what was read, by its parts
@@ -229,7 +228,7 @@ unfolding headed_record turn_by
 header_unknown p e fs more =
     let k = 40 + suc (length fs) in
     let z : leb k 36 ≡ false = lt-leb k 36 (omega arith) in
-    turn_stop turn_of image_body p 2 k (header_body (e ∷ fs) ++ more) (rw (z, and_none (leb 32 k)))
+    turn_stop turn_of image_body p 2 k (header_body (e ∷ fs) ++ more) (rw (z, and-false (leb 32 k)))
 
 pub old_stops : (p : Persistent) → Valid p → p.log ≢ [] → read_image (encode_headed p) ≡ Refuses 2
 unfolding encode_headed read_image log_records_from flat

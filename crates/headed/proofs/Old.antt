@@ -1,7 +1,7 @@
 -- Before a record of kind 41 to 47 is met, the reader of both forms does what the old reader does; without these kinds it is the old reader.
 use Prim.Native.Nat.{◌≤◌, suc, zero, ℕ}
 use mathlib.Core.Path.{◌≡◌, ap, refl}
-use mathlib.Core.Bool.{Bool, ◌&&◌, ◌||◌, and-true, cond, false, false≢true, true}
+use mathlib.Core.Bool.{Bool, and-false, and-true, cond, false, false≢true, or-false, true}
 use mathlib.Core.List.{List, [], ◌∷◌}
 use lib.Dec.{eqb, leb}
 use lib.ListN.{length}
@@ -18,30 +18,22 @@ use Rattle.headed.specs.Recovery.{recovery_call_as, restore_as}
 
 -- ---- the seven kinds are none of the five
 
-pub or_none : (b : Bool) → (b || false) ≡ b
-or_none true = refl
-or_none false = refl
-
-pub and_none : (b : Bool) → (b && false) ≡ false
-and_none true = refl
-and_none false = refl
-
 pub header_bounds : (k : ℕ) → is_header k ≡ true → (41 ≤ k) × (k ≤ 47)
 header_bounds k e = let a = and_true (leb 41 k) (leb k 47) e in (leb-true 41 k a.0, leb-true k 47 a.1)
 
 pub not_old : (k : ℕ) → is_header k ≡ true → is_image_kind k ≡ false
 not_old k e =
     let a = (header_bounds k e).0 in
-    test (leb k 36) (λ b. let c = leb-true k 36 b in absurd (omega arith)) (λ b. rw b (and_none (leb 32 k)))
+    test (leb k 36) (λ b. let c = leb-true k 36 b in absurd (omega arith)) (λ b. rw b (and-false (leb 32 k)))
 
 -- ---- a record of one of the five kinds, where no header has been read
 
 module _ (headed : Bool) (s : Progress) (k : ℕ) (plain : is_header s.kind ≡ false) (old : is_header k ≡ false) where
   known_as : is_kind_of headed k ≡ is_image_kind k
-  known_as = rw (old, and_none headed) (or_none (is_image_kind k))
+  known_as = rw (old, and-false headed) (or-false (is_image_kind k))
 
   placed_as : is_placed_in s k ≡ is_placed s.state k
-  placed_as = rw (plain, old, and_none (eqb k 35)) (and-true (is_placed s.state k))
+  placed_as = rw (plain, old, and-false (eqb k 35)) (and-true (is_placed s.state k))
 
   pub old_turn : (bs : List ℕ) → turn_in headed s (k ∷ bs) ≡ onward s k (turn_of s.state (k ∷ bs))
   unfolding turn_by fields_in

@@ -2,7 +2,7 @@
 use Prim.Native.Nat.{◌*◌, ◌+◌, ◌-◌, ◌<◌, ◌≤◌, suc, ℕ}
 use mathlib.Core.Path.{◌∙◌, ◌≡◌, ap, refl, subst, sym}
 use mathlib.Core.Logic.{◌⊎◌, inl, inr}
-use mathlib.Core.Bool.{Bool, ◌&&◌, cond, false, not, true}
+use mathlib.Core.Bool.{Bool, ◌&&◌, cond, false, not, or-false, true}
 use mathlib.Core.List.{List, [], ◌++◌, ◌∷◌, append_assoc, append-nil}
 use lib.Dec.{eqb, leb, ltb}
 use lib.ListN.{drop, length, length-append}
@@ -27,7 +27,7 @@ use Rattle.headed.specs.Reader.{Progress, entry_in, fields_in, headed_body, head
 use Rattle.headed.proofs.Back.{count_same, last_record}
 use Rattle.headed.proofs.Groups.{follows, held_append, one_more, only_records}
 use Rattle.headed.proofs.Header.{header_again, header_is, held_lines, held_long, held_same}
-use Rattle.headed.proofs.Old.{header_bounds, or_none, old_records, old_turn, still_plain}
+use Rattle.headed.proofs.Old.{header_bounds, old_records, old_turn, still_plain}
 
 -- ---- what a header that goes on has shown, and what it adds
 
@@ -172,7 +172,7 @@ module _ (ws : List ℕ) (s q : Progress) (k : ℕ) (bs : List ℕ) (bytes : all
       let z : ltb (length s.state.medium) s.state.lines ≡ false = le-ltb (length s.state.medium) s.state.lines (omega arith) in
       let y : eqb (length s.state.log) 0 ≡ false = ne_eqb (length s.state.log) 0 (λ n. omega arith) in
       let d : leb 35 k ≡ true = rw (z, y) at c in
-      let o : is_image_kind k ≡ true = rw (i, or_none (is_image_kind k)) at kn in
+      let o : is_image_kind k ≡ true = rw (i, or-false (is_image_kind k)) at kn in
       let hi = leb-true k 36 (and_true (leb 32 k) (leb k 36) o).1 in
       let lo = leb-true 35 k d in
       test (eqb k 35)

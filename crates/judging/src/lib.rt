@@ -5,14 +5,14 @@
 // What belongs to one region is tested region by region. Then every dependence is of a listed region, and a table of bits tells which region reaches which:
 // row p has bit q set where the region at place p reaches the region at place q. One pass over the log finds the lines that regions apart from each other
 // logged.
-ghost use Rattle.std.specs.Prelude.{◌<◌, ◌≤◌, ◌+◌, ◌^◌, ◌≡◌, map, get_or, length, drop, take, ℕ};
+ghost use Rattle.std.specs.Prelude.{◌<◌, ◌≤◌, ◌+◌, ◌^◌, ◌≡◌, map, min, get_or, length, drop, take, ℕ};
 ghost use Rattle.rules.specs.Measures.{most_regions};
 ghost use Rattle.std.specs.List.{zip};
 ghost use Rattle.undo.specs.Table.{any};
 ghost use Rattle.rules.specs.Contradiction.{is_broken};
 ghost use Rattle.faults.specs.Faults.{is_faulty};
 ghost use Rattle.judging.specs.Marks.{contradicts_in};
-ghost use Rattle.judging.specs.Reach.{apart_from, bit_if, clashes_in, is_apart, is_round, link_of, links_of, meet};
+ghost use Rattle.judging.specs.Reach.{apart_from, bit_if, clashes_in, is_apart, is_round, link_of, links_of, meet, rows_of};
 ghost use Rattle.judging.specs.Reach.{round_of, rounds_of, row_of, sees_at, step_to, table_by, tangled_by};
 
 use measures::{MOST_DEPS, MOST_LINES, MOST_REGIONS};
@@ -38,8 +38,11 @@ fn any_broken(regions: &[Listed]) -> bool
 }
 
 // ---- which region reaches which
+//
+// Kept: no heap, so rows, links and sets of places stand in arrays of 32, of which as many count as there are regions.
 
-// The place of a dependence; the number of regions for none. Kept: a place behind the rows adds nothing to a row, with no test of its own.
+// The place of a dependence; the number of regions for none.
+// Kept: `link_of` of specs/ tells none so, and `step_to` tests the place in any case.
 fn link_of(regions: &[Listed], dep: u32) -> usize
     ensures { result ≡ link_of regions.now dep }
 {
@@ -55,17 +58,6 @@ fn links_of(regions: &[Listed], region: &Listed) -> [usize; MOST_DEPS]
     region.deps.map(|dep| link_of(regions, dep))
 }
 
-fn all_links(regions: &[Listed]) -> [[usize; MOST_DEPS]; MOST_REGIONS]
-    requires { length regions.now ≤ 32 }
-    ensures { take (length regions.now) result ≡ map (links_of regions.now) regions.now }
-{
-    let mut links = [[0; MOST_DEPS]; MOST_REGIONS];
-    for (place, region) in regions.iter().enumerate() {
-        links[place] = links_of(regions, region);
-    }
-    links
-}
-
 fn bit(place: usize) -> u32
     requires { place < 32 }
     ensures { result ≡ 2 ^ place }
@@ -73,101 +65,170 @@ fn bit(place: usize) -> u32
     1u32 << place
 }
 
-// What one dependence adds to a row: its own place, and what the row of that place has.
-fn step_to(rows: &[u32], link: usize) -> u32
-    requires { length rows.now ≤ 32 }
-    ensures { result ≡ step_to rows.now link }
-{
-    if link < rows.len() {
-        bit(link) | rows[link]
-    } else {
-        0
+// The regions of an image, and a row of bits for each of the first 32.
+#[derive(Clone, Copy)]
+struct BitTable<'r> {
+    regions: &'r [Listed],
+    rows: [u32; MOST_REGIONS],
+}
+
+impl<'r> BitTable<'r> {
+    fn rows(&self) -> &[u32]
+        ensures { result.now ≡ rows_of self.now }
+    {
+        &self.rows[..self.regions.len().min(MOST_REGIONS)]
     }
-}
 
-fn row_of(rows: &[u32], links: &[usize; MOST_DEPS]) -> u32
-    requires { length rows.now ≤ 32 }
-    ensures { result ≡ row_of rows.now links.now }
-{
-    links
-        .iter()
-        .rev()
-        .fold(0, |row, &link| step_to(rows, link) | row)
-}
-
-// The rows for one dependence more.
-fn round(links: &[[usize; MOST_DEPS]], rows: &[u32]) -> [u32; MOST_REGIONS]
-    requires { (length links.now ≡ length rows.now) × (length rows.now ≤ 32) }
-    ensures { take (length rows.now) result ≡ round_of links.now rows.now }
-{
-    let mut wider = [0u32; MOST_REGIONS];
-    for (place, its_links) in links.iter().enumerate() {
-        wider[place] = row_of(rows, its_links);
-    }
-    wider
-}
-
-// Rounds until one adds nothing.
-fn rounds(links: &[[usize; MOST_DEPS]]) -> [u32; MOST_REGIONS]
-    requires { length links.now ≤ 32 }
-    ensures { take (length links.now) result ≡ rounds_of (length links.now) links.now }
-{
-    let n = links.len();
-    let mut rows = [0u32; MOST_REGIONS];
-    for _depth in 0..n {
-        let wider = round(links, &rows[..n]);
-        if wider[..n] == rows[..n] {
-            return rows;
+    // What one dependence adds to a row: its own place, and what the row of that place has.
+    fn step_to(&self, link: usize) -> u32
+        ensures { result ≡ step_to (rows_of self.now) link }
+    {
+        let rows = self.rows();
+        if link < rows.len() {
+            bit(link) | rows[link]
+        } else {
+            0
         }
-        rows = wider;
     }
-    rows
-}
 
-#[tactic(auto, unfolding(crate::specs::Reach::table_by))]
-fn reach_table(regions: &[Listed]) -> [u32; MOST_REGIONS]
-    requires { length regions.now ≤ 32 }
-    ensures { take (length regions.now) result ≡ table_by regions.now regions.now }
-{
-    let links = all_links(regions);
-    rounds(&links[..regions.len()])
-}
+    fn row_of(&self, links: &[usize; MOST_DEPS]) -> u32
+        ensures { result ≡ row_of (rows_of self.now) links.now }
+    {
+        links
+            .iter()
+            .rev()
+            .fold(0, |row, &link| self.step_to(link) | row)
+    }
 
-// Whether the region at place p reaches the region at place q; false for a place behind the list.
-fn sees(rows: &[u32], p: usize, q: usize) -> bool
-    requires { length rows.now ≤ 32 }
-    ensures { result ≡ sees_at rows.now p q }
-{
-    p < rows.len() && q < rows.len() && (rows[p] >> q) % 2 == 1
-}
+    // The rows for one dependence more.
+    fn round(&self, links: &[[usize; MOST_DEPS]]) -> BitTable<'r>
+        requires { length links.now ≡ length (rows_of self.now) }
+        ensures same { result.regions.now ≡ self.now.regions.now }
+        ensures rows { rows_of result ≡ round_of links.now (rows_of self.now) }
+    {
+        let mut rows = [0u32; MOST_REGIONS];
+        for (place, its_links) in links.iter().enumerate() {
+            rows[place] = self.row_of(its_links);
+        }
+        BitTable {
+            regions: self.regions,
+            rows,
+        }
+    }
 
-// ---- circles
+    // Rounds until one adds nothing.
+    fn rounds(regions: &'r [Listed], links: &[[usize; MOST_DEPS]]) -> BitTable<'r>
+        requires { length links.now ≡ min (length regions.now) 32 }
+        ensures same { result.regions.now ≡ regions.now }
+        ensures rows { rows_of result ≡ rounds_of (length links.now) links.now }
+    {
+        let mut table = BitTable {
+            regions,
+            rows: [0; MOST_REGIONS],
+        };
+        for _depth in 0..links.len() {
+            let wider = table.round(links);
+            if wider.rows() == table.rows() {
+                return table;
+            }
+            table = wider;
+        }
+        table
+    }
 
-fn is_round(regions: &[Listed], rows: &[u32], region: &Listed) -> bool
-    requires { (length regions.now ≡ length rows.now) × (length rows.now ≤ 32) }
-    ensures { result ≡ is_round regions.now rows.now region.now }
-{
-    match faults::place_in(regions, region.key) {
-        Some(place) => sees(rows, place, place),
-        None => false,
+    // The table of an image's regions.
+    #[tactic(auto, unfolding(crate::specs::Reach::table_by))]
+    fn of(regions: &'r [Listed]) -> BitTable<'r>
+        requires { length regions.now ≤ 32 }
+        ensures same { result.regions.now ≡ regions.now }
+        ensures rows { rows_of result ≡ table_by regions.now regions.now }
+    {
+        let mut links = [[0; MOST_DEPS]; MOST_REGIONS];
+        for (place, region) in regions.iter().enumerate() {
+            links[place] = links_of(regions, region);
+        }
+        BitTable::rounds(regions, &links[..regions.len()])
+    }
+
+    // Whether the region at place p reaches the region at place q; false for a place behind the list.
+    fn sees(&self, p: usize, q: usize) -> bool
+        ensures { result ≡ sees_at (rows_of self.now) p q }
+    {
+        let rows = self.rows();
+        p < rows.len() && q < rows.len() && (rows[p] >> q) % 2 == 1
+    }
+
+    // Whether the regions at two places may not log one line both: they are one, or neither reaches the other.
+    fn is_apart(&self, p: usize, q: usize) -> bool
+        ensures { result ≡ is_apart (rows_of self.now) p q }
+    {
+        p == q || !(self.sees(p, q) || self.sees(q, p))
+    }
+
+    // The places that are apart from place p, as bits.
+    #[tactic(auto, unfolding(crate::specs::Reach::bits_below))]
+    fn apart_from(&self, p: usize) -> u32
+        ensures { result ≡ apart_from (rows_of self.now) p }
+    {
+        let mut bits = 0;
+        for q in 0..self.rows().len() {
+            bits = bit_if(self.is_apart(p, q), q) | bits;
+        }
+        bits
+    }
+
+    fn all_apart(&self) -> [u32; MOST_REGIONS]
+        ensures { (p : ℕ) → p < length (rows_of self.now) → get_or result p 0 ≡ apart_from (rows_of self.now) p }
+    {
+        let mut apart = [0u32; MOST_REGIONS];
+        for p in 0..self.rows().len() {
+            apart[p] = self.apart_from(p);
+        }
+        apart
+    }
+
+    // Whether a region is on a circle.
+    fn is_round(&self, region: &Listed) -> bool
+        ensures { result ≡ is_round self.now.regions.now (rows_of self.now) region.now }
+    {
+        match faults::place_in(self.regions, region.key) {
+            Some(place) => self.sees(place, place),
+            None => false,
+        }
+    }
+
+    fn any_round(&self) -> bool
+        ensures { result ≡ any (is_round self.now.regions.now (rows_of self.now)) self.now.regions.now }
+    {
+        self.regions.iter().any(|region| self.is_round(region))
+    }
+
+    // Whether a log entry is of a region that is not listed, or a line is logged by two regions that are apart. `seen` has for each line the places of the
+    // regions that logged it among the entries passed, the last ones, as bits.
+    fn any_clash(&self, log: &[Mark]) -> bool
+        requires { length self.now.regions.now ≤ 32 }
+        ensures { result ≡ clashes_in self.now.regions.now (rows_of self.now) log.now }
+    {
+        let apart = self.all_apart();
+        let mut seen = [0u32; MOST_LINES];
+        for mark in log.iter().rev() {
+            let Some(place) = faults::place_in(self.regions, mark.key) else {
+                return true;
+            };
+            let line = mark.line as usize;
+            if meets(apart[place], seen[line]) {
+                return true;
+            }
+            seen[line] = bit(place) | seen[line];
+        }
+        false
     }
 }
 
-fn any_round(regions: &[Listed], rows: &[u32]) -> bool
-    requires { (length regions.now ≡ length rows.now) × (length rows.now ≤ 32) }
-    ensures { result ≡ any (is_round regions.now rows.now) regions.now }
+fn meets(a: u32, b: u32) -> bool
+    ensures { result ≡ meet a b }
 {
-    regions.iter().any(|region| is_round(regions, rows, region))
-}
-
-// ---- lines logged twice
-
-// Whether the regions at two places may not log one line both: they are one, or neither reaches the other.
-fn is_apart(rows: &[u32], p: usize, q: usize) -> bool
-    requires { length rows.now ≤ 32 }
-    ensures { result ≡ is_apart rows.now p q }
-{
-    p == q || !(sees(rows, p, q) || sees(rows, q, p))
+    a & b != 0
 }
 
 fn bit_if(set: bool, place: usize) -> u32
@@ -177,69 +238,7 @@ fn bit_if(set: bool, place: usize) -> u32
     if set { bit(place) } else { 0 }
 }
 
-// The places that are apart from place p, as bits.
-#[tactic(auto, unfolding(crate::specs::Reach::bits_below))]
-fn apart_from(rows: &[u32], p: usize) -> u32
-    requires { length rows.now ≤ 32 }
-    ensures { result ≡ apart_from rows.now p }
-{
-    let mut bits = 0;
-    for q in 0..rows.len() {
-        bits = bit_if(is_apart(rows, p, q), q) | bits;
-    }
-    bits
-}
-
-fn all_apart(rows: &[u32]) -> [u32; MOST_REGIONS]
-    requires { length rows.now ≤ 32 }
-    ensures { (p : ℕ) → p < length rows.now → get_or result p 0 ≡ apart_from rows.now p }
-{
-    let mut apart = [0u32; MOST_REGIONS];
-    for p in 0..rows.len() {
-        apart[p] = apart_from(rows, p);
-    }
-    apart
-}
-
-fn meets(a: u32, b: u32) -> bool
-    ensures { result ≡ meet a b }
-{
-    a & b != 0
-}
-
-// Whether a log entry is of a region that is not listed, or a line is logged by two regions that are apart. `seen` has for each line the places of the
-// regions that logged it among the entries passed, the last ones, as bits.
-fn any_clash(regions: &[Listed], rows: &[u32], log: &[Mark]) -> bool
-    requires { (length regions.now ≡ length rows.now) × (length rows.now ≤ 32) }
-    ensures { result ≡ clashes_in regions.now rows.now log.now }
-{
-    let apart = all_apart(rows);
-    let mut seen = [0u32; MOST_LINES];
-    for i in (0..log.len()).rev() {
-        let Some(place) = faults::place_in(regions, log[i].key) else {
-            return true;
-        };
-        let line = log[i].line as usize;
-        if meets(apart[place], seen[line]) {
-            return true;
-        }
-        seen[line] = bit(place) | seen[line];
-    }
-    false
-}
-
 // ---- the whole
-
-// A circle, a log entry of a region that is not listed, or a line logged twice, where every dependence is of a listed region.
-#[tactic(auto, unfolding(crate::specs::Reach::tangled_by))]
-fn is_tangled(regions: &[Listed], log: &[Mark]) -> bool
-    requires { length regions.now ≤ 32 }
-    ensures { result ≡ tangled_by regions.now regions.now log.now }
-{
-    let table = reach_table(regions);
-    let rows = &table[..regions.len()];
-    any_round(regions, rows) || any_clash(regions, rows, log)
-}
 
 /// Whether the regions and the log entries of an image contradict themselves (8): a region of number 0 or of an unknown state, dependences out of order or on
 /// a region that is not listed, a log entry of such a region, a thread's regions not one behind the other, a circle, a done region without dependences, or one
@@ -248,5 +247,9 @@ pub fn contradicts(regions: &[Listed], log: &[Mark]) -> bool
     ensures { result ≡ contradicts_in (take most_regions regions.now) log.now }
 {
     let regions = &regions[..regions.len().min(MOST_REGIONS)];
-    any_faulty(regions) || (any_broken(regions) || is_tangled(regions, log))
+    if any_faulty(regions) || any_broken(regions) {
+        return true;
+    }
+    let table = BitTable::of(regions);
+    table.any_round() || table.any_clash(log)
 }

@@ -2,4 +2,3 @@ pub mod Lists
 pub mod Search
 pub mod Bounds
 pub mod Bytes
-pub mod Map

@@ -1,44 +1,28 @@
--- One turn and the end of each search over a list, for any element type and any test: a loop at index i still has `drop i xs` before it.
+-- One turn and the end of the search for a place in a list, for any element type and any test: a loop at index i still has `drop i xs` before it.
 use lib.Dec.{ltb, leb-suc-suc}
 use Prim.Native.Nat.{◌+◌, ◌<◌, ◌≤◌, suc, ℕ}
 use mathlib.Core.Path.{◌∙◌, ◌≡◌, refl, sym}
-use mathlib.Core.Bool.{Bool, cond, false, true}
+use mathlib.Core.Bool.{Bool, false, true}
 use mathlib.Core.List.{List, [], ◌∷◌}
 use lib.ListN.{drop, drop_of_length-le, get_or, length}
 use native.Mathlib.Omega.{arith}
 use native.Mathlib.Numerals.{add-one}
 use borrow.Author.Tests.{lt-ltb}
 use lib.Seq.{drop-cons}
-use Rattle.rules.specs.Lists.{count, place}
+use Rattle.rules.specs.Lists.{place}
 use Rattle.undo.proofs.Laws.{test}
 use Rattle.undo.specs.Table.{any}
 
 module _ {A : Type 0} (p : A → Bool) where
-  pub count_le : (xs : List A) → count p xs ≤ length xs
-  unfolding count
-  count_le [] = omega arith
-  count_le (x ∷ xs) = let ih = count_le xs in test (p x) (λ e. rw e (omega arith)) (λ e. rw e (omega arith))
-
   -- some element passes where the place of the first is inside the list
   pub any_place : (xs : List A) → any p xs ≡ ltb (place p xs) (length xs)
   unfolding place
   any_place [] = refl
   any_place (x ∷ xs) = test (p x) (λ e. rw e (sym (lt-ltb 0 (suc (length xs)) (omega arith)))) (λ e. rw e (any_place xs ∙ sym (leb-suc-suc (suc (place p xs)) (length xs))))
 
-  -- so a place r below the length n tells that one does
-  pub found : (xs : List A) (r n : ℕ) → length xs ≡ n → r ≡ place p xs → ltb r n ≡ any p xs
-  found xs r n h e = rw (← h, e) (sym (any_place xs))
-
   pub place_end : (i : ℕ) (xs : List A) → length xs ≤ i → i + place p (drop i xs) ≡ i
   unfolding place
   place_end i xs h = rw (drop_of_length-le xs h) (omega arith)
-
-  pub any_end : (i : ℕ) (xs : List A) → length xs ≤ i → any p (drop i xs) ≡ false
-  any_end i xs h = rw (drop_of_length-le xs h)
-
-  pub count_end : (c i : ℕ) (xs : List A) → length xs ≤ i → c + count p (drop i xs) ≡ c
-  unfolding count
-  count_end c i xs h = rw (drop_of_length-le xs h) (omega arith)
 
   module _ (i : ℕ) (xs : List A) (d : A) (h : i < length xs) where
     pub place_hit : p (get_or xs i d) ≡ true → i + place p (drop i xs) ≡ i
@@ -48,21 +32,6 @@ module _ {A : Type 0} (p : A → Bool) where
     pub place_on : p (get_or xs i d) ≡ false → (i + 1) + place p (drop (i + 1) xs) ≡ i + place p (drop i xs)
     unfolding place
     place_on e = rw (add-one i, drop-cons xs i d h, e) (omega arith)
-
-    pub any_hit : p (get_or xs i d) ≡ true → any p (drop i xs) ≡ true
-    any_hit e = rw (drop-cons xs i d h, e)
-
-    pub any_on : p (get_or xs i d) ≡ false → any p (drop (i + 1) xs) ≡ any p (drop i xs)
-    any_on e = rw (add-one i, drop-cons xs i d h, e)
-
-    pub count_on : (c : ℕ) → (c + cond (p (get_or xs i d)) 1 0) + count p (drop (i + 1) xs) ≡ c + count p (drop i xs)
-    unfolding count
-    count_on c = test (p (get_or xs i d)) (λ e. rw (add-one i, drop-cons xs i d h, e) (omega arith)) (λ e. rw (add-one i, drop-cons xs i d h, e) (omega arith))
-
--- a test counts at most one
-pub one_le : (b : Bool) → cond b 1 0 ≤ 1
-one_le true = omega arith
-one_le false = omega arith
 
 -- ---- lists of four
 

@@ -24,7 +24,7 @@ pub fn in_range(threads: u8, lines: u16) -> bool
 }
 
 // Byte i of a word, byte 0 the low one.
-// Kept: behind the eighth byte the answer is 0, which an index into the word's bytes would have to test as well: no plainer.
+// Kept: `byte_of` of specs/ divides by a power of 256, as this does; a place among the word's bytes would need a law of its own, and is no plainer.
 fn byte_of(word: u64, i: usize) -> u8
     ensures { result ≡ byte_of i word }
 {

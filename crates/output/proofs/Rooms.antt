@@ -3,17 +3,16 @@ use Prim.Native.Nat.{◌%◌, ◌+◌, ◌-◌, ◌/◌, ◌<◌, ◌≤◌, suc
 use mathlib.Core.Path.{◌∙◌, ◌≡◌, ap, refl, sym}
 use mathlib.Core.Bool.{cond, false, true}
 use mathlib.Core.List.{List, [], ◌++◌, ◌∷◌, append_assoc, append-nil}
-use lib.Dec.{leb}
+use lib.Dec.{leb, leb-suc-suc}
 use lib.ListN.{drop, drop_of_length-le, get_or, length, length-append, take}
 use native.Mathlib.Omega.{arith}
 use native.Mathlib.Numerals.{add-one}
-use borrow.Author.Tests.{le-leb, le-ltb, leb-false, leb-true, lt-leb, lt-ltb}
+use borrow.Author.Tests.{le-leb, le-ltb, lt-leb, lt-ltb}
 use lib.Seq.{drop-cons, set-append_seam, take_all, take-append_seam, take-nil}
 use native.Mathlib.Nat.{add-suc, add-zero, suc-add, zero-add}
 use Rattle.output.specs.Room.{Room, filled, put, puts, room}
 use Rattle.output.specs.declared.Cursor.{Cursor}
 use Rattle.rules.specs.Bytes.{bytes_of}
-use Rattle.undo.proofs.Laws.{test}
 
 pub puts_join : (r : Room) (xs ys : List ℕ) → puts r (xs ++ ys) ≡ puts (puts r xs) ys
 unfolding puts
@@ -59,14 +58,11 @@ no_room : (p : List ℕ) (b : ℕ) (bs : List ℕ) → behind p [] (b ∷ bs) �
 unfolding behind
 no_room p b bs = rw (lt-leb (suc (length bs)) 0 (omega arith), append-nil, add-zero)
 
-leb_suc : (n m : ℕ) → leb (suc n) (suc m) ≡ leb n m
-leb_suc n m = test (leb n m) (λ e. rw (le-leb (suc n) (suc m) (omega (arith, leb-true n m e)), e)) (λ e. rw (lt-leb (suc n) (suc m) (omega (arith, leb-false n m e)), e))
-
 one_more : (p : List ℕ) (x : ℕ) (d : List ℕ) (b : ℕ) (bs : List ℕ) → behind p (x ∷ d) (b ∷ bs) ≡ behind (p ++ (b ∷ [])) d bs
 unfolding behind
 one_more p x d b bs =
     let n : length (p ++ (b ∷ [])) ≡ suc (length p) = rw length-append (omega arith) in
-    rw (leb_suc (length bs) (length d), append_assoc p (b ∷ []) (take (length d) bs ++ drop (length bs) d), n, add-suc, add-suc, suc-add, suc-add)
+    rw (leb-suc-suc (length bs) (length d), append_assoc p (b ∷ []) (take (length d) bs ++ drop (length bs) d), n, add-suc, add-suc, suc-add, suc-add)
 
 put_seam : (p : List ℕ) (x : ℕ) (d : List ℕ) (b : ℕ) → put (room (p ++ (x ∷ d)) (record { at = length p; short = false })) b ≡ room ((p ++ (b ∷ [])) ++ d) (record { at = length (p ++ (b ∷ [])); short = false })
 unfolding put room

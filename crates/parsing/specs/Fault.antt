@@ -4,7 +4,7 @@ use Rattle.parsing.specs.Read.{complete, is_digit, kind_of, lines_of, no_word, n
 use Rattle.parsing.specs.declared.Stop.TheVariants.{WordEnd, WordStart}
 use Rattle.rules.specs.Lists.{all, place}
 
--- the number of a kind of fault, 0 for none, and its place
+-- the number of a kind of fault, 0 for none, and its place: by number what `FaultAt` of the source is by name
 pub record Fault : Type 0 where
   pub kind : ℕ
   pub at : ℕ

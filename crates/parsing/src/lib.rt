@@ -1,7 +1,7 @@
 #![tactic(auto)]
 
 // Event files out of their readable form: lines of a word and numbers, spaces, tabs or carriage returns between them, '#' in front of a comment.
-ghost use Rattle.std.specs.Prelude.{◌+◌, ◌≤◌, ◌≡◌, true, length, drop};
+ghost use Rattle.std.specs.Prelude.{◌+◌, ◌≤◌, ◌≡◌, true, length, drop, position};
 ghost use Rattle.rules.specs.Kinds.{is_kind, kind_at};
 ghost use Rattle.rules.specs.Lists.{all, place};
 ghost use Rattle.output.specs.Writer.{Puts};
@@ -14,7 +14,7 @@ ghost use Rattle.parsing.specs.Numbers.{fault_number, line_code, line_number};
 use events::Kind;
 use output::{Cursor, Writer};
 
-// What a line is by its first word: an event of a kind, or bytes as they stand.
+/// What a line is by its first word: an event of a kind, or bytes as they stand.
 // Kept: bytes that are no event are a kind of line, and not the absence of one.
 #[derive(Clone, Copy)]
 pub enum LineKind {
@@ -53,7 +53,8 @@ pub struct FaultAt {
     pub at: usize,
 }
 
-// A part of a line.
+/// A part of a line.
+// Kept: `NextWord` of specs/ has start and end alike for no word: that start is the place of a missing number, so Option would hold a place either way.
 #[derive(Clone, Copy)]
 pub struct Span {
     pub start: usize,
@@ -71,7 +72,7 @@ pub struct TextRead {
     pub ok: bool,
 }
 
-// Where a search of a line or a text stops: at a byte that is no space, at the end of a word, at a newline.
+/// Where a search of a line or a text stops: at a byte that is no space, at the end of a word, at a newline.
 #[derive(Clone, Copy)]
 pub enum Stop {
     WordStart,
@@ -99,18 +100,22 @@ fn is_space(byte: u8) -> bool
     matches!(byte, b' ' | b'\t' | b'\r')
 }
 
+// The place of the first byte at which a search stops.
+fn first_of(bytes: &[u8], stop: Stop) -> Option<usize>
+    ensures { result ≡ position (stops stop) bytes.now }
+{
+    bytes.iter().position(|&byte| stop.is_at(byte))
+}
+
 // The first place from `from` on where a search stops, or the end.
-#[tactic(auto, using(lookup::proofs::Search::place_hit, lookup::proofs::Search::place_on, lookup::proofs::Search::place_end))]
 fn find(bytes: &[u8], from: usize, stop: Stop) -> usize
     requires { from ≤ length bytes.now }
     ensures { result ≡ from + place (stops stop) (drop from bytes.now) }
 {
-    for at in from..bytes.len() {
-        if stop.is_at(bytes[at]) {
-            return at;
-        }
+    match first_of(&bytes[from..], stop) {
+        Some(at) => from + at,
+        None => bytes.len(),
     }
-    bytes.len()
 }
 
 // The first word from `at` on.
@@ -159,6 +164,7 @@ fn kind_line(number: u8) -> Option<LineKind>
 }
 
 // The line that a word begins.
+// Kept: `kind_line` asks for a kind's number, which the test gives where it stands; a number out of `find` would have to be shown a kind's anew: no plainer.
 fn kind_of(word: &[u8]) -> Option<LineKind>
     ensures { line_code result ≡ kind_of word.now }
 {
@@ -205,7 +211,7 @@ fn most(width: usize) -> u64
 }
 
 // A number with one digit more, if it is at most `top`.
-// Kept: the library's `parse` stops at no most, and its errors do not tell the first fault.
+// Kept: the library's `parse` takes a &str and a leading '+', which `with_digit` of specs/ refuses.
 #[tactic(auto, unfolding(crate::specs::Read::with_digit))]
 fn with_digit(top: u64, number: u64, byte: u8) -> Option<u64>
     requires { 9 ≤ top }
@@ -238,7 +244,7 @@ fn number_in(word: &[u8], width: usize) -> Option<u64>
 }
 
 // The fields of a line from `from` on, and whether they are in the form.
-// Kept: what is written is said also where a field is at fault, and the number of a field is asked for its width.
+// Kept: `ReadsAs` tells the bytes put before a fault too, and `width_at` asks for the number of a field: an iterator with a count is no plainer.
 fn read_fields(line: &[u8], from: usize, kind: LineKind, out: &mut Writer<'_>) -> bool
     requires { from ≤ length line.now }
     ensures { ReadsAs (fields_from (line_number kind) 0 (words_in (drop from line.now))) out.old out.new result }
@@ -287,7 +293,7 @@ fn read_line(line: &[u8], out: &mut Writer<'_>) -> bool
 }
 
 /// A text as the bytes of an event file, as many of them as there is room for.
-// Kept: the lines are part of the answer.
+// Kept: `TextReadAs` counts the lines; `enumerate` over lines would need their places as well: no plainer.
 pub fn read_text(text: &[u8], out: &mut [u8]) -> TextRead
     ensures { TextReadAs (bytes_of_text text.now) (good_bytes text.now) out.old out.new result }
 {
@@ -340,7 +346,8 @@ fn word_fault(word: &[u8], width: usize) -> Option<Fault>
 }
 
 // The first fault in the fields of a line from `from` on.
-// Kept: the number of a field is asked for its width and its most.
+// Kept: it walks as `read_fields`, `line_fault` as `read_line` and `first_fault` as `read_text`: those write and these tell a place, from the start of the line as
+// `Finds` of specs/ has it; one walk with a closure would carry a writer and a place: no plainer.
 fn field_fault(line: &[u8], from: usize, kind: LineKind) -> Option<FaultAt>
     requires { from ≤ length line.now }
     ensures { Finds (field_fault (line_number kind) 0 (words_in (drop from line.now))) line.now from (told 0 result) }
@@ -387,6 +394,7 @@ fn line_fault(line: &[u8]) -> Option<FaultAt>
 }
 
 /// The first fault of a text.
+// Kept: as `read_text`, a fault's place is told from the start of the text.
 pub fn first_fault(text: &[u8]) -> Option<FaultAt>
     ensures { told (length text.now) result ≡ fault_of text.now }
 {
@@ -405,6 +413,7 @@ pub fn first_fault(text: &[u8]) -> Option<FaultAt>
 }
 
 /// The end of the last whole line.
+// Kept: `last_line` is the place behind a newline, 0 for none; `rposition` with a `map_or` behind it is no plainer.
 #[tactic(auto, using(crate::proofs::Lines::last_back, crate::proofs::Lines::last_found, crate::proofs::Lines::last_empty))]
 pub fn whole_lines(text: &[u8]) -> usize
     ensures { result ≡ last_line text.now }

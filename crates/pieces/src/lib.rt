@@ -72,7 +72,7 @@ fn put_message(out: &mut [u8; 64], failed: Failed, name: &[u8]) -> usize
 }
 
 // Says so.
-// Kept: no heap, so the message is the front of a buffer.
+// Kept: `message` of specs/ tells the bytes, at most 64; the library's formatter tells none, and no heap holds a String.
 fn complain<E: Write>(errors: &mut E, failed: Failed, name: &[u8]) -> Result<(), Unsent>
     ensures all { OnOk result (Appends (E.contents errors.old) (E.contents errors.new) (message failed name.now)) }
     ensures front { AppendsFront (E.contents errors.old) (E.contents errors.new) (message failed name.now) }
@@ -82,6 +82,7 @@ fn complain<E: Write>(errors: &mut E, failed: Failed, name: &[u8]) -> Result<(),
     write_all(errors, &out[..n])
 }
 
+// Kept: `quiet`, `said` and `kept` stand in each function of `Streams`: each is a promise of its own, by name, and of the reader's or the writer's side.
 impl<'n, R, W: Write, E: Write> Streams<'n, R, W, E> {
     /// Writes bytes. Where the output can't be written, the program says so.
     pub fn send(&mut self, bytes: &[u8]) -> Result<(), Unsent>
@@ -135,6 +136,7 @@ impl<'n, R: Read, W, E: Write> Streams<'n, R, W, E> {
 
     /// Reads on behind the first `have` bytes of a buffer. Answers how many bytes the buffer then holds: no more than before where it is full, or the input has
     /// ended. Where the input can't be read, the program says so.
+    // Kept: `Refilled` of specs/ tells the bytes that are held, and the others, so the whole buffer goes with their number.
     pub fn refill(&mut self, buf: &mut [u8], have: usize) -> usize
         ensures refilled { Refilled buf.old buf.new have result }
         ensures comes { Consumes (R.remaining self.old.input) (R.remaining self.new.input) (drop have (take result buf.new)) }
@@ -165,6 +167,7 @@ impl<'n, R: Read, W, E: Write> Streams<'n, R, W, E> {
 }
 
 /// Moves the bytes from `from` up to n to the front of a buffer. Answers how many they are.
+// Kept: `shifted` of specs/ tells the whole buffer, and `moved` what happens where it is shorter than n.
 pub fn shift(buf: &mut [u8], from: usize, n: usize) -> usize
     ensures { (result ≡ moved buf.old from n) × (buf.new ≡ shifted buf.old from result) }
 {

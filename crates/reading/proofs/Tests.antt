@@ -1,7 +1,7 @@
 -- The kinds of records, and the tests of one record.
 use Prim.Native.Nat.{◌*◌, ◌+◌, ◌-◌, ◌<◌, ◌≤◌, suc, zero, ℕ}
 use mathlib.Core.Path.{◌≡◌, ap, refl, sym}
-use mathlib.Core.Bool.{Bool, ◌&&◌, cond, false, true}
+use mathlib.Core.Bool.{Bool, ◌&&◌, and-false, cond, false, or-false, true}
 use mathlib.Core.List.{List, [], ◌∷◌}
 use lib.Dec.{eqb, leb, ltb}
 use lib.ListN.{drop, get_or, length, take}
@@ -9,7 +9,7 @@ use lib.Seq.{drop-cons, take_all}
 use native.Mathlib.Omega.{arith}
 use borrow.Author.Tests.{eqb-true, leb-true}
 use Rattle.undo.proofs.Laws.{and_true, test}
-use Rattle.headed.proofs.Old.{and_none, header_bounds, or_none}
+use Rattle.headed.proofs.Old.{header_bounds}
 use Rattle.rules.specs.Lists.{all}
 use Rattle.rules.specs.Reader.{is_image_kind}
 use Rattle.headed.specs.Reader.{headed_body, held_from, held_in, is_header, is_kind_of, is_on_board}
@@ -25,11 +25,11 @@ pub kind_low : (headed : Bool) (k : ℕ) → is_kind_of headed k ≡ true → 32
 kind_low headed k e =
     test (is_header k)
     (λ h. omega (arith, header_bounds k h))
-    (λ h. leb-true 32 k (and_true (leb 32 k) (leb k 36) (rw (h, and_none headed, or_none (is_image_kind k)) at e)).0)
+    (λ h. leb-true 32 k (and_true (leb 32 k) (leb k 36) (rw (h, and-false headed, or-false (is_image_kind k)) at e)).0)
 
 -- a log record that is no header is of 35
 plain_log : (k : ℕ) → is_log_kind k ≡ true → is_header k ≡ false → k ≡ 35
-plain_log k e h = eqb-true k 35 (rw (h, or_none (eqb k 35)) at e)
+plain_log k e h = eqb-true k 35 (rw (h, or-false (eqb k 35)) at e)
 
 pub log_high : (k : ℕ) → is_log_kind k ≡ true → 35 ≤ k
 log_high k e = test (is_header k) (λ h. omega (arith, header_bounds k h)) (λ h. omega (arith, plain_log k e h))

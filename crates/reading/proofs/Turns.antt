@@ -1,14 +1,14 @@
 -- A record judged by sizes, counts, last keys and the last log record is judged as by all that was read before it.
 use Prim.Native.Nat.{◌+◌, ◌<◌, ◌≤◌, ℕ}
 use mathlib.Core.Path.{◌≡◌, refl}
-use mathlib.Core.Bool.{Bool, ◌&&◌, ◌||◌, cond, false, false≢true, not, true}
+use mathlib.Core.Bool.{Bool, ◌&&◌, ◌||◌, cond, false, false≢true, not, or-false, true}
 use mathlib.Core.List.{List, [], ◌++◌, ◌∷◌}
 use lib.Dec.{eqb, leb, ltb}
 use lib.ListN.{drop, get_or, length, take}
 use native.Mathlib.Numerals.{add-one}
 use native.Mathlib.Omega.{arith}
 use borrow.Author.Tests.{eqb-false, eqb-true, leb-true, ltb-false, ltb-true, ne_eqb, not-true}
-use Rattle.headed.proofs.Old.{header_bounds, or_none}
+use Rattle.headed.proofs.Old.{header_bounds}
 use Rattle.headed.specs.Reader.{Progress, fields_in, headed_body, header_turn, held_from, held_by, held_in, is_beside, is_header, is_kind_of, is_on_board, is_placed_in, onward, turn_in}
 use Rattle.rules.specs.Bytes.{line_at, num_of}
 use Rattle.rules.specs.Image.{sized, with_listed, with_logged, with_medium}
@@ -108,7 +108,7 @@ module _ (s : Progress) (bs : List ℕ) where
       (λ h. rw h (end_turn_lem k))))))))))
     where
       plain : placed (tally_of s) 35 ≡ true → is_header s.kind ≡ false
-      plain q = rw (or_none (is_header s.kind)) at (not-true (is_header s.kind || false) (and_true (is_placed s.state 35) (not (is_beside s.kind 35)) q).1)
+      plain q = rw (or-false (is_header s.kind)) at (not-true (is_header s.kind || false) (and_true (is_placed s.state 35) (not (is_beside s.kind 35)) q).1)
 
   pub turn_item : (headed : Bool) (k : ℕ) → Few s.state.log → turn_in headed s (k ∷ bs) ≡ turn_from s bs (item_of headed (tally_of s) (k ∷ bs))
   unfolding turn_by item_of tally_of

@@ -15,7 +15,8 @@ use measures::{MOST_DEPS, MOST_ENTRIES, MOST_LOGGED, MOST_REGIONS, NUMBERS};
 use rules::{Listed, Mark, Refusal};
 
 /// What was read of an image: T and L, the number of line records, the regions and the log entries. The first `held` places of `regions` and the first
-/// `logged` of `log` are in use. Kept: fixed memory, and no type of any element can hold an array of it.
+/// `logged` of `log` are in use.
+// Kept: no heap; a generic struct has no array of its type parameter, so the two pairs don't become one type.
 #[derive(Clone, Copy)]
 pub struct Scan {
     pub threads: u8,
@@ -45,6 +46,7 @@ impl Scan {
 
 /// What the next record is judged by: T and L, 0 before the head; how many lines, regions and log entries came before it, the key of the last region and of
 /// the last log entry, how many log entries the thread of the last one has, and the kind of the last log record, 0 before the first.
+// Kept: 0 for none; `placed`, `tally_of` and `is_beside` of specs/ test and tell these numbers.
 #[derive(Clone, Copy)]
 pub struct Tally {
     pub threads: u8,
@@ -89,7 +91,10 @@ const NO_MARK: Mark = Mark {
     at: 0,
 };
 
-// ---- kinds. Kept as bytes: an unknown one is told from one out of its place, and the definitions judge by the byte.
+// ---- kinds
+//
+// Kept as bytes: `placed` of specs/ orders them (`34 <= kind`), `is_beside` has them in a range, and `headed_body` counts with them (`kind - 40`); an enum
+// would be turned back into its byte in each of these tests: no plainer.
 
 // Whether a record is one of 41 to 47.
 fn is_header(kind: u8) -> bool
@@ -300,7 +305,7 @@ fn head(body: &[u8]) -> Result<Item, Refusal>
     }
 }
 
-// Kept: four dependences by their places in the record.
+// Kept: `map` over the four places asks `place + 3 <= 16` of its closure at each turn; tried, and that proof did not close.
 #[tactic(auto, unfolding(rules::specs::Reader::listed_at))]
 fn listed_at(body: &[u8]) -> Listed
     requires { 16 ≤ length body.now }
@@ -441,7 +446,7 @@ fn one_record(src: &[u8], tally: Tally, headed: bool) -> Result<Item, Refusal>
 // ---- the log entries
 
 // The log entry at a spot.
-// Kept: the place is told modulo 65536, as `Mark` of specs/ has it.
+// Kept: `mark_at` of specs/ takes the place modulo 65536; `u16::try_from` would refuse a place that the definition tells.
 #[tactic(auto, using(crate::proofs::Spots::mark_is))]
 fn mark_at(src: &[u8], spot: Spot) -> Mark
     requires { old_at src.now spot + 64 ≤ length src.now }
@@ -496,6 +501,8 @@ fn log_marks(src: &[u8], first: usize, logged: usize) -> [Mark; MOST_LOGGED]
 
 /// Reads an image record for record, until one is refused or the image is whole: 1 for nothing left or a record cut short, 2 for an unknown kind, 3 for a
 /// thread not below T, 4 for a line not below L, 6 for T or L out of range, 7 for a record out of its place. `headed`: of either form.
+// Kept: `headed` beside the bytes, as `records_read_as` of specs/ takes it; a loop by `at`, since a slice that shrinks would measure each record all the
+// same: no plainer.
 pub fn read_records(src: &[u8], headed: bool) -> Result<Scan, Refusal>
     ensures { by_number result ≡ read_of src.now (records_read_as headed src.now) }
 {

@@ -55,14 +55,6 @@ read_records headed bs p e = (accepted (records_read_as headed bs) p e).0
 -- ---- the tables of what was read
 
 module _ (ps : List ℕ) (s : Scan) (p : Persistent) (e : s ≡ scan_of ps p) (few : (length p.regions ≤ 32) × (length p.log ≤ 256)) where
-  pub held_few : s.held ≤ 32
-  unfolding scan_of
-  held_few = rw e few.0
-
-  pub logged_few : s.logged ≤ 256
-  unfolding scan_of
-  logged_few = rw e few.1
-
   pub regions_front : regions_of s ≡ p.regions
   unfolding scan_of
   regions_front = rw e (take_filled 32 free_listed p.regions few.0)

@@ -21,7 +21,7 @@ pub struct Walked {
 }
 
 /// The log entry that a step restores: its region's key, its line and what goes back to it; and whether entries remain after it.
-// Kept: `more` is told of every entry and is no condition of it.
+// Kept: plain state; `next_by` of specs/ tells `more` of every entry.
 #[derive(Clone, Copy)]
 pub struct Next {
     pub key: u32,
@@ -31,6 +31,7 @@ pub struct Next {
 }
 
 // The image's reading: 8 after all other refusals.
+// Kept: here and below `headed` stands beside the image, as `read_as` and `restore_as` of specs/ take it.
 fn read_image(src: &[u8], headed: bool) -> Result<Scan, Refusal>
     ensures { by_number result ≡ read_of src.now (read_as headed src.now) }
 {
@@ -96,6 +97,7 @@ pub fn line_start(line: u8) -> usize
 
 /// A recovery step at a place by value: the entry there goes back to its line, and the place behind it is the next one. Nothing changes where the image is
 /// refused or no entry is left. It answers 1 while entries remain after it, else 0.
+// Kept: an `Answer`, as `restore_as` of specs/ and the C interface have it; so too in `step`.
 pub fn step_at(image: &mut [u8], at: u64, headed: bool) -> Walked
     ensures { restored_of image.new result ≡ restore_as headed (record { bytes = image.old; at = at }) }
 {

@@ -81,8 +81,6 @@ fn lacks_dep(tables: &Tables, key: u32, owner: u32) -> bool
 }
 
 // ---- the tests of each event
-//
-// Kept: each event has its list of tests whole, as document 01 has it, and the check finds each by itself; with the parts that a read and a write share in functions of their own it finds none.
 
 /// A setup of T threads and L lines, where `size` are the numbers before it: 6, 24.
 #[tactic(auto, unfolding(rules::specs::Refusal::refusal, rules::specs::Refusal::tests_of))]
@@ -152,6 +150,7 @@ pub fn test_end(tables: &Tables, thread: u8) -> Result<(), Refusal>
 }
 
 /// A read: 6, 3, 4, 5, 11, 12, 17, 19.
+// Kept: a read and a write have their tests one behind the other, as `tests_of` lists them; with what they share in functions of their own no proof closed by the check's search.
 #[tactic(auto, unfolding(rules::specs::Refusal::refusal, rules::specs::Refusal::tests_of))]
 pub fn test_read(tables: &Tables, thread: u8, line: u8, word: u8) -> Result<(), Refusal>
     ensures code { code_of result ≡ refusal tables.now (Read thread line word) }
@@ -186,6 +185,7 @@ pub fn test_read(tables: &Tables, thread: u8, line: u8, word: u8) -> Result<(), 
 }
 
 /// A write, before its last two tests: 6, 3, 4, 5, 27, 11, 12, 17, 25, 18, 19. Where it passes them, its refusal is what the last two say.
+// Kept: as `test_read`.
 #[tactic(auto, unfolding(rules::specs::Refusal::refusal, rules::specs::Refusal::tests_of, rules::specs::Access::needs_log))]
 pub fn test_write(
     tables: &Tables,

@@ -77,7 +77,7 @@ pub fn renewed(recent: [u8; MOST_RECENT], line: u8) -> [u8; MOST_RECENT]
 }
 
 // The place of a line among the last four, 4 if it is not there: how many other lines were written since.
-// Kept: a search by `position` takes three functions in place of this one, and is no plainer.
+// Kept: four comparisons without a branch, for each of eight slots at each write; a search by `position` wants a function for `position`, one for `place` and this one, and is no plainer.
 fn place_in(recent: &[u8; MOST_RECENT], line: u8) -> u8
     ensures { result ≡ place (eqb line) recent.now }
 {
@@ -103,10 +103,7 @@ fn or_at(found: Option<usize>, hit: bool, i: usize) -> Option<usize>
     ensures first { result ≡ or_at found hit i }
     ensures within { IfSome found (λ at. at < 8) → i < 8 → IfSome result (λ at. at < 8) }
 {
-    match found {
-        Some(at) => Some(at),
-        None => if hit { Some(i) } else { None },
-    }
+    found.or(hit.then_some(i))
 }
 
 // The slot that names the line, else the first empty one.
@@ -114,10 +111,7 @@ fn or_else(named: Option<usize>, free: Option<usize>) -> Option<usize>
     ensures first { result ≡ or_else named free }
     ensures within { IfSome named (λ at. at < 8) → IfSome free (λ at. at < 8) → IfSome result (λ at. at < 8) }
 {
-    match named {
-        Some(at) => Some(at),
-        None => free,
-    }
+    named.or(free)
 }
 
 /// The one pass over a region's slots for a write of a line, the newest of its last four different lines: the slot that the write takes, or that none is free,
@@ -133,7 +127,7 @@ pub fn one_pass(
     let mut named = None;
     let mut free = None;
     let mut i: usize = 0;
-    // Kept: document 01's list of forms by place asks for a slot search that yields its index by break.
+    // Kept: the list of forms by place (docs/DECISIONS.md) asks for a slot search that is a loop and yields its index by break.
     loop {
         if MOST_SLOTS <= i {
             break or_else(named, free);
@@ -146,7 +140,7 @@ pub fn one_pass(
 }
 
 /// What a write of a line does to its region: the last four different lines, every count, and the line's slot, which waits with count 0. Refusal 20 where no
-/// slot is free.
+/// slot is free: then the region is changed all the same, and its caller lets it go.
 pub fn take_slot(region: &mut Region, line: u8) -> Result<(), Refusal>
     ensures taken { OnOk result (region.new ≡ wrote_line line region.old) }
     ensures code { code_of result ≡ cond (is_full (slot_for line region.old.slots)) 20 0 }
@@ -173,6 +167,7 @@ fn drop_slot(slot: &mut Slot, line: u8)
     }
 }
 
+// Kept: each loop that takes a step at every element stands beside its step, here and in crates commits and ends; one loop over any step would owe what its closure writes, and is no plainer.
 #[tactic(auto, using(lookup::proofs::Lists::turn))]
 fn drop_slots(slots: &mut [Slot; MOST_SLOTS], line: u8)
     ensures { slots.new ≡ map (dropped_slot line) slots.old }

@@ -19,6 +19,7 @@ use rules::{Board, Region, Shares, Tables, Thread};
 // ---- one thread
 
 // The length of an array of structs is known where it is lent alone.
+// Kept: what changes a thread tests its index and takes it, here and in the crates above: `get_mut` of the library says nothing of what the slice ends as, so that no proof closed with it.
 pub fn threads_are_eight(threads: &[Thread; MOST_THREADS])
     ensures { length threads.now ≡ 8 }
 {}
@@ -233,6 +234,7 @@ pub fn has_other(regions: &[Region; MOST_REGIONS], thread: u8, key: u32) -> bool
     regions.iter().any(|region| is_other(region, thread, key))
 }
 
+// Kept: a count by the library and one in the word of crate rules, `count`, since a chain has to stand alone in its function.
 fn number_held(regions: &[Region; MOST_REGIONS]) -> usize
     ensures count { result ≡ count_by is_held regions.now }
     ensures within { result ≤ 32 }
@@ -255,6 +257,7 @@ fn is_modified(region: &Region, thread: u8) -> bool
     is_of_thread(region, thread) && !region.done
 }
 
+// Kept: as `number_held`.
 fn number_modified(regions: &[Region; MOST_REGIONS], thread: u8) -> usize
     ensures count { result ≡ count_by (is_modified thread) regions.now }
     ensures within { result ≤ 32 }
@@ -280,6 +283,7 @@ fn is_in_channel(region: &Region, channel: u8) -> bool
     region.key != 0 && region.channel == channel
 }
 
+// Kept: as `number_held`.
 fn number_in_channel(regions: &[Region; MOST_REGIONS], channel: u8) -> usize
     ensures count { result ≡ count_by (in_channel channel) regions.now }
     ensures within { result ≤ 32 }
@@ -305,6 +309,7 @@ fn is_of_party(region: &Region, shares: Shares, channel: u8, party: u8) -> bool
     is_in_channel(region, channel) && lookup::party_of(shares, region.key / NUMBERS) == party
 }
 
+// Kept: as `number_held`.
 fn number_of_party(
     regions: &[Region; MOST_REGIONS],
     shares: Shares,

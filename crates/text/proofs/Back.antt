@@ -1,4 +1,5 @@
 -- Numbers and words are read back.
+use Rattle.rules.proofs.Codec.Bytes.{all_append}
 use borrow.Author.Tests.{not-true, le-ltb, lt-ltb, ltb-false, ltb-true, ne_eqb}
 use Prim.Native.Nat.{◌%◌, ◌*◌, ◌+◌, ◌-◌, ◌/◌, ◌<◌, ◌^◌, ◌≤◌, suc, zero, ℕ}
 use mathlib.Core.Path.{◌∙◌, ◌≡◌, refl, sym}
@@ -78,10 +79,6 @@ plain_line c e = not-true (eqb c 10) (and_true (not (is_break c)) (not (eqb c 10
 plain_digit : (d : ℕ) → plain (48 + d) ≡ true
 unfolding plain
 plain_digit d = rw (ne_eqb (48 + d) 32 (λ e. omega arith), ne_eqb (48 + d) 9 (λ e. omega arith), ne_eqb (48 + d) 13 (λ e. omega arith), ne_eqb (48 + d) 35 (λ e. omega arith), ne_eqb (48 + d) 10 (λ e. omega arith))
-
-all_append : (p : ℕ → Bool) (xs ys : List ℕ) → all p xs ≡ true → all p ys ≡ true → all p (xs ++ ys) ≡ true
-all_append p [] ys e f = f
-all_append p (x ∷ xs) ys e f = let h = and_true (p x) (all p xs) e in rw h.0 (all_append p xs ys h.1 f)
 
 digits_none : (n : ℕ) → digits zero n ≡ []
 unfolding digits

@@ -19,7 +19,7 @@ const BYTES: usize = 4 * PIECE;
 
 // What a piece leaves: how many bytes at the front of the buffer are not yet read, how many lines are, whether all were in the form, whether their bytes went
 // out, and whether nothing more came.
-// Kept as flags: `Ran` says what holds of each, also where the bytes did not go out.
+// Kept as flags: `Pieced` tells `form` and `last`, `RanOver` tells `sent`, also where the bytes did not go out. No heap, so `held` counts bytes of a buffer.
 #[derive(Clone, Copy)]
 struct Left {
     held: usize,
@@ -108,8 +108,7 @@ impl Stage for Lines {
     ghost follows_sent = { λ s e. sent_all s.left (length s.text) e };
 }
 
-// Reads piece by piece, as long as lines are in the form.
-// Kept: `RanOver` is said of this program's text, and `run` is said of any.
+// Reads piece by piece, as long as lines are in the form. `RanOver` is said of this program's text, `run` of any.
 fn put_lines<R: Read, W: Write, E: Write>(lines: &mut Lines, streams: &mut Streams<'_, R, W, E>)
     requires { lines.old.left ≡ start }
     ensures { RanOver (R.remaining streams.old.input) (R.remaining streams.new.input) (W.contents streams.old.output) (W.contents streams.new.output)
@@ -130,7 +129,7 @@ fn put_complaint(out: &mut [u8; 64], line: u64) -> usize
 }
 
 // Says so.
-// Kept: no heap, so the message is the front of a buffer.
+// Kept: `complaint` of specs/ tells the bytes, at most 64; the library's formatter tells none, and no heap holds a String.
 fn complain<E: Write>(errors: &mut E, line: u64) -> Result<(), Unsent>
     ensures { AppendsFront (E.contents errors.old) (E.contents errors.new) (complaint line) }
 {

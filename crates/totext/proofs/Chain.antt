@@ -74,11 +74,6 @@ run_over d d' s r i i' o o' e chained =
 pub text_out : (d d' bs : List ℕ) (r : Room) (c : Cursor) → r ≡ room d (record { at = 0; short = false }) → room d' c ≡ puts r bs → length bs ≤ length d → take c.at d' ≡ bs
 text_out d d' bs r c e₀ e h = put_front d d' bs c (e ∙ ap (λ (x : Room). puts x bs) e₀) h
 
--- nothing is left
-pub empty_kind : (rest : List ℕ) → length rest ≡ 0 → get_or rest 0 0 ≡ 0
-empty_kind [] e = refl
-empty_kind (b ∷ bs) e = absurd (omega arith)
-
 -- ---- the rest of a file
 
 pub rest_right : {d : List ℕ} {held n : ℕ} {came sent : List ℕ} {r : Rest} → Chain is_left Parted (rest d held) n came sent r → take held d ++ came ≡ sent ++ take r.count r.buffer

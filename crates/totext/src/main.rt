@@ -19,7 +19,7 @@ const TEXT: usize = 32 * PIECE;
 
 // What a piece leaves: how many bytes at the front of the buffer are no whole record, whether a whole record may still come, whether its lines went out,
 // and whether nothing more came.
-// Kept as flags: `Ran` says what holds of each, also where the lines did not go out.
+// Kept as flags: `Pieced` tells `more` and `last`, `RanOver` tells `sent`, also where the lines did not go out. No heap, so `held` counts bytes of a buffer.
 #[derive(Clone, Copy)]
 struct Left {
     held: usize,
@@ -131,8 +131,7 @@ impl Stage for Numbers {
     ghost follows_sent = { λ s e. (and_true s.0.left.sent (is_left (rest s.0.file s.0.left.held)) e).0 };
 }
 
-// Writes records as long as they are whole: none is at the front of what is left.
-// Kept: `RanOver` is said of this program's file, and `run` is said of any.
+// Writes records as long as they are whole: none is at the front of what is left. `RanOver` is said of this program's file, `run` of any.
 fn put_records<R: Read, W: Write, E: Write>(
     records: &mut Records,
     streams: &mut Streams<'_, R, W, E>,

@@ -18,7 +18,7 @@ const TEXT: usize = 2 * tracing::LONGEST_TEXT;
 
 // What stands between two pieces: how many bytes at the front of the buffer are not yet run, whether the input has ended, whether the next record found no room,
 // and whether all text went out.
-// Kept: conditions of a run that hold or not each by itself.
+// Kept as flags: `Between` and `TracesOver` of specs/ tell each by itself. No heap, so `held` counts bytes of a buffer.
 #[derive(Clone, Copy)]
 struct State {
     held: usize,

@@ -1,4 +1,5 @@
 -- The records of a piece, run one after the other into a buffer.
+use Rattle.rules.proofs.Sim.Logged.{no_length}
 use Prim.Native.Nat.{◌+◌, ◌<◌, ◌≤◌, suc, zero, ℕ}
 use mathlib.Core.Path.{◌∙◌, ◌≡◌, ap, refl, sym}
 use mathlib.Core.Bool.{Bool, cond, false, true}
@@ -27,10 +28,6 @@ use Rattle.undo.proofs.Laws.{test}
 abbrev pub is_due : Bool → List ℕ → Bool
 is_due last x = cond last (ltb 0 (length x)) (ltb 0 (record_length x))
 
-none : (x : List ℕ) → length x ≤ 0 → x ≡ []
-none [] h = refl
-none (b ∷ bs) h = absurd (omega arith)
-
 whole_records : (x : List ℕ) → 0 < record_length x → records_of x ≡ x ∷ records_of (drop (record_length x) x)
 unfolding records_from
 whole_records [] h = absurd (omega (arith, length_empty [] refl))
@@ -43,7 +40,7 @@ no_record (b ∷ bs) h e = rw (not_whole (b ∷ bs) e)
 
 pub due_none : (last : Bool) (x : List ℕ) → is_due last x ≡ false → due_in last x ≡ []
 unfolding due_in records_from
-due_none true x e = rw (none x (ltb-false 0 (length x) e))
+due_none true x e = rw (no_length x (ltb-false 0 (length x) e))
 due_none false [] e = refl
 due_none false (b ∷ bs) e = rw (not_whole (b ∷ bs) (omega (arith, ltb-false 0 (record_length (b ∷ bs)) e)))
 
@@ -137,9 +134,6 @@ pub record Runs (last : Bool) (piece : List ℕ) (b₀ : Board) (d₀ : List ℕ
   pub same : run_into b d p (due_in last (drop i piece)) ≡ run_into b₀ d₀ at₀ (due_in last piece)
   pub behind : i + whole_length (drop i piece) ≡ whole_length piece
 
-pub starts : (last : Bool) (piece : List ℕ) (b : Board) (d : List ℕ) (at : ℕ) → Runs last piece b d at b d at 0
-starts last piece b d at = record { inside = omega arith; sized = refl; same = refl; behind = omega arith }
-
 abbrev end_of : Bool → List ℕ → List ℕ
 end_of last piece = cond last [] (drop (whole_length piece) piece)
 
@@ -172,7 +166,7 @@ module _ (last : Bool) (piece : List ℕ) (b₀ : Board) (d₀ : List ℕ) (at�
         answers b d p i false [] s v.inside (left_end last e) refl
       where
         left_end : (z : Bool) → is_due z (drop i piece) ≡ false → drop i piece ≡ end_of z piece
-        left_end true e = none (drop i piece) (ltb-false 0 (length (drop i piece)) e)
+        left_end true e = no_length (drop i piece) (ltb-false 0 (length (drop i piece)) e)
         left_end false e =
             let o : record_length (drop i piece) ≡ 0 = omega (arith, ltb-false 0 (record_length (drop i piece)) e) in
             let w : whole_length piece ≡ i = omega (arith, v.behind, length_off (drop i piece) o) in

@@ -20,11 +20,8 @@ const LONGEST_IMAGE: usize = 34853;
 /// The longest text of an event, in bytes: a line of 63, and behind a cut 256 lines of eight words, 65 bytes each.
 pub const LONGEST_TEXT: usize = 133183;
 
-// The kind of a cut.
-const CUT: u8 = 8;
-
 // The recovered words of the image that is saved into a lent buffer; none where the save is refused.
-// Kept: a save answers as the C call does.
+// Kept: `save` of specs/ gives an `Answer`.
 #[tactic(auto, using(crate::proofs::Saved::some_saved))]
 fn saved_words(out: &mut Writer<'_>, board: &Board, image: &mut [u8])
     ensures { Puts out.old (recovered_text board.now.tables.size.lines (save board.now image.old)) out.new }
@@ -46,12 +43,12 @@ fn cut_words(out: &mut Writer<'_>, board: &Board)
 }
 
 // What stands behind the line of an answer: the recovered words if a cut is accepted.
-// Kept: an event answers as the C call does, and a kind is asked of bytes that may be no record.
+// Kept: `step` of specs/ gives an `Answer`, and a kind is asked of bytes that may be no record: `behind_text` takes any number.
 #[tactic(auto, using(output::proofs::Rooms::puts_none), unfolding(crate::specs::Text::behind_text))]
 fn behind_words(out: &mut Writer<'_>, kind: u8, answer: Answer, board: &Board)
     ensures { Puts out.old (behind_text kind (record { board = board.now; answer = answer })) out.new }
 {
-    if kind == CUT && answer.refusal == 0 {
+    if kind == events::Kind::Cut.number() && answer.refusal == 0 {
         cut_words(out, board);
     }
 }
@@ -74,7 +71,8 @@ fn kind_of(bytes: &[u8]) -> u8
     bytes.first().copied().unwrap_or(0)
 }
 
-// What an event leaves: the place behind its text, and the bytes of its record, 0 for one that ends its file.
+/// What an event leaves: the place behind its text, and the bytes of its record, 0 for one that ends its file.
+// Kept as a number: `passes` of `TracedEvent` is `record_length`, 0 for a record that is not whole.
 #[derive(Clone, Copy)]
 pub struct Traced {
     pub at: usize,
@@ -110,7 +108,7 @@ fn is_due(rest: &[u8], last: bool) -> bool
 }
 
 /// What a piece leaves: the place behind its text, the bytes that are run, and whether the next record found no room.
-// Kept: `full` tells why the piece ended; what stands beside it holds either way.
+// Kept: `told` of `RanPiece` says it beside `stands`, `written` and `leaves`, which hold either way.
 #[derive(Clone, Copy)]
 pub struct TracedPiece {
     pub at: usize,
@@ -120,6 +118,7 @@ pub struct TracedPiece {
 
 /// The records of a piece of a file, one after the other, as long as there is room for their text, which stands in `dst` from `at` on. More bytes may come behind
 /// a piece, unless it is the last one.
+// Kept: `Ran` of specs/ speaks of the buffer and the place, so no writer stands for both.
 pub fn trace_piece(
     board: &mut Board,
     piece: &[u8],

@@ -12,6 +12,7 @@ use borrow.Author.Tests.{ltb-false, ltb-true}
 use Rattle.std.proofs.Common.{Some, None, position}
 use Rattle.std.specs.List.{position_or_len}
 use Rattle.std.proofs.lemmas.List.Recursion.{is_position_or_len}
+use Rattle.rules.proofs.Lists.{place_le}
 use Rattle.rules.specs.Lists.{place}
 use Rattle.undo.proofs.Laws.{test}
 use Rattle.trying.specs.Line.{row_byte, row_from}
@@ -39,11 +40,6 @@ module _ {A : Type 0} (p : A → Bool) where
   place_is : (xs : List A) → place p xs ≡ position_or_len p xs
   place_is xs = is_position_or_len (place p) p place-none place-step xs
 
-  place_within : (xs : List A) → place p xs ≤ length xs
-  unfolding place
-  place_within [] = omega arith
-  place_within (x ∷ xs) = test (p x) (λ e. rw e (omega arith)) (λ e. let h = place_within xs in rw e (omega arith))
-
   -- the place of the first, or the end
   pub place_found : (xs : List A) (i : ℕ) → Some i ≡ position p xs → (i ≡ place p xs) × (i < length xs)
   place_found xs i e =
@@ -55,7 +51,7 @@ module _ {A : Type 0} (p : A → Bool) where
   place_missing xs e =
       test (ltb (position_or_len p xs) (length xs))
       (λ h. let f : None ≡ Some (position_or_len p xs) = rw h at e in cc)
-      (λ h. let k = ltb-false _ _ h in let w = place_within xs in let q = place_is xs in omega arith)
+      (λ h. let k = ltb-false _ _ h in let w = place_le p xs in let q = place_is xs in omega arith)
 
   -- from a place past the end on there is nothing
   pub place_behind : (xs : List A) (i : ℕ) → length xs ≤ i → i ≡ i + place p (drop i xs)

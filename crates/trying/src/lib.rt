@@ -34,7 +34,7 @@ pub fn find(line: &[u8], from: usize, byte: u8) -> usize
 pub const MOST_NUMBERS: usize = 20;
 
 /// The numbers of a line as far as it is read, at most 20 of them: how many are whole, how many stand before the '=', and whether one is being read.
-// Kept: fixed memory, so the numbers stand in an array with their count beside it.
+// Kept: fixed memory, so the numbers stand in an array with their count beside it; `row_digit` and `row_gap` of specs/ name the flag.
 #[derive(Clone, Copy)]
 pub struct Row {
     pub numbers: [u64; MOST_NUMBERS],
@@ -144,8 +144,8 @@ pub fn number_count(line: &[u8]) -> usize
 // ---- an answer
 
 /// The refusal and the value that an answer must have.
-// Kept: a case says its refusal by number, 0 for none, and numbers are compared.
-#[derive(Clone, Copy)]
+// Kept as a number: a case may ask for one that is no refusal; `agree` of specs/ compares numbers.
+#[derive(Clone, Copy, PartialEq, Eq)]
 pub struct Due {
     pub refusal: u64,
     pub value: u64,
@@ -192,7 +192,7 @@ pub fn due_of(line: &[u8]) -> Due
 pub fn agrees(answer: Answer, due: Due) -> bool
     ensures { result ≡ agree answer due }
 {
-    u64::from(answer.refusal) == due.refusal && answer.value == due.value
+    Due::from(answer) == due
 }
 
 // ---- the cases

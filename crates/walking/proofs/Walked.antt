@@ -1,4 +1,5 @@
 -- The entries of the walk are those at the indices of the walk.
+use Rattle.std.proofs.lemmas.List.{drop-map}
 use Rattle.std.specs.Prelude.{None, Some}
 use Prim.Native.Nat.{◌-◌, ◌<◌, ◌≤◌, suc, zero, ℕ}
 use mathlib.Core.Path.{◌∙◌, ◌≡◌, ap, ap₂, refl, sym}
@@ -21,11 +22,6 @@ use Rattle.walking.specs.Indices.{indices_of, last_first, nth, walk_indices}
 keep_snoc : {A : Type 0} (p : A → Bool) (xs : List A) (x : A) → keep p (xs ++ (x ∷ [])) ≡ keep p xs ++ cond (p x) (x ∷ []) []
 keep_snoc p [] x = test (p x) (λ e. rw e) (λ e. rw e)
 keep_snoc p (y ∷ ys) x = test (p y) (λ e. rw e (ap (λ l. y ∷ l) (keep_snoc p ys x))) (λ e. rw e (keep_snoc p ys x))
-
-map_drop : {A B : Type 0} (f : A → B) (n : ℕ) (xs : List A) → drop n (map f xs) ≡ map f (drop n xs)
-map_drop f zero xs = refl
-map_drop f (suc n) [] = refl
-map_drop f (suc n) (x ∷ xs) = map_drop f n xs
 
 -- ---- one region, then all
 
@@ -81,13 +77,13 @@ module _ (p : Persistent) (n : ℕ) where
   entry_found i e =
       rw (
         walk_entries_lem p,
-        map_drop (λ j. get_or p.log j no_logged) n (indices_in p),
-        map_drop (λ j. get_or p.log j no_logged) (suc n) (indices_in p),
+        drop-map (λ j. get_or p.log j no_logged) n (indices_in p),
+        drop-map (λ j. get_or p.log j no_logged) (suc n) (indices_in p),
         nth_drop (indices_in p) n i e,
       )
 
   pub entry_none : nth (indices_in p) n ≡ None → drop n (walk_entries p) ≡ []
-  entry_none e = rw (walk_entries_lem p, map_drop (λ j. get_or p.log j no_logged) n (indices_in p), nth_none (indices_in p) n e)
+  entry_none e = rw (walk_entries_lem p, drop-map (λ j. get_or p.log j no_logged) n (indices_in p), nth_none (indices_in p) n e)
 
 -- ---- an entry found is one of the log
 

@@ -10,7 +10,8 @@ ghost use Rattle.walking.specs.Indices.{entry_at, held_order, indices_of, nth, o
 use measures::{MOST_DEPS, MOST_REGIONS};
 use rules::{Listed, Mark};
 
-/// The keys of the regions in the order of the walk: the first `count` of them. Kept: fixed memory.
+/// The keys of the regions in the order of the walk: the first `count` of them.
+// Kept: no heap.
 #[derive(Clone, Copy)]
 pub struct Order {
     pub count: usize,
@@ -84,7 +85,8 @@ pub fn walk_order(regions: &[Listed]) -> Order
 // ---- the log entry at a place of the walk
 
 // How many log entries region `key` has.
-// Kept: a chain of `filter` and `count` runs mark by mark and makes a recovery step half as slow again: it misses the speed of the step that docs/SPEED.md has.
+// Kept: a chain of `filter` and `count` runs mark by mark and makes a recovery step half as slow again: it misses the
+// bar of a whole recovery of the largest image in docs/SPEED.md.
 fn count_of(log: &[Mark], key: u32) -> usize
     ensures { result ≡ count_by (λ m. eqb m.key key) log.now }
 {
@@ -98,7 +100,7 @@ fn count_of(log: &[Mark], key: u32) -> usize
 }
 
 // The index of number n of the entries of region `key`, last entry first.
-// Kept: the place in the order of writing is what is left to count down to.
+// Kept: the answer is an index, and entries are counted from the last; `enumerate`, `rev`, `filter` and `nth` would be four adapters for one loop: no plainer.
 fn entry_in(log: &[Mark], key: u32, n: usize) -> Option<usize>
     ensures { result ≡ nth (indices_of (map (λ m. m.key) log.now) key) n }
 {

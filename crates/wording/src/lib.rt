@@ -75,7 +75,7 @@ fn memory_words(out: &mut Writer<'_>, image: &[u8], lines: u16)
 const MOST_STEPS: usize = MOST_LOGGED + 1;
 
 // Recovery steps over an image until one does not answer 'more'.
-// Kept: a step answers as the C call does, 1 for more.
+// Kept: `recovery::step_at` gives an `Answer` (`restore_as` of specs/), 1 for 'more'.
 #[tactic(auto, using(crate::proofs::Finish::finish_none))]
 fn recover(image: &mut [u8])
     ensures { image.new ≡ recovered image.old }

@@ -11,7 +11,7 @@ use Rattle.text.proofs.Calls.{bytes_refused, bytes_written, fault_refused, says_
 use Rattle.text.proofs.read_bytes.Goals as goal
 
 pub returns-then-file-text : goal.returns-then-file-text
-returns-then-file-text c = says_refused c.refused.result 6 c.args.file.now _ (search rules) (bytes_refused c.args.text.now c.args.file.now (omega arith))
+returns-then-file-text c = says_refused c.from.result 6 c.args.file.now _ (search rules) (bytes_refused c.args.text.now c.args.file.now (omega arith))
 
 pub returns-in-Some : goal.returns-in-Some
 returns-in-Some c =
@@ -19,7 +19,7 @@ returns-in-Some c =
     let d = c.args.file.now in
     let f = c.in-Some.found.fault in
     let k : fault_number f ≡ (fault_of t).kind = ap (λ (q : Fault). q.kind) c.in-Some.ensures in
-    says_refused c.refused-in-Some.result (fault_number f) d _ (search rules) (fault_refused t d (omega arith) (λ z. never_none f (k ∙ z)) ∙ ap (λ n. refused_by n d) (sym k))
+    says_refused c.refused.result (fault_number f) d _ (search rules) (fault_refused t d (omega arith) (λ z. never_none f (k ∙ z)) ∙ ap (λ n. refused_by n d) (sym k))
 
 pub returns : goal.returns
 returns c =
@@ -27,4 +27,4 @@ returns c =
     let d = c.args.file.now in
     let r = c.read_text-read in
     let k : 0 ≡ (fault_of t).kind = ap (λ (q : Fault). q.kind) c.in_default.ensures in
-    rw c.accepted.ensures (wrote_back d r.new.out (bytes_of_text t).bytes r.result.cursor r.ensures.written (omega (arith, text_short t)) ∙ sym (bytes_written t d (omega arith) (sym k)))
+    rw c.from-2.ensures (wrote_back d r.new.out (bytes_of_text t).bytes r.result.cursor r.ensures.written (omega (arith, text_short t)) ∙ sym (bytes_written t d (omega arith) (sym k)))

@@ -9,7 +9,7 @@ use Rattle.text.proofs.Calls.{says_refused, text_filled, text_refused, text_writ
 use Rattle.text.proofs.write_text.Goals as goal
 
 pub returns-then-text-file : goal.returns-then-text-file
-returns-then-text-file c = says_refused c.refused.result 6 c.args.text.now _ (search rules) (text_refused c.args.file.now c.args.text.now (omega arith))
+returns-then-text-file c = says_refused c.from.result 6 c.args.text.now _ (search rules) (text_refused c.args.file.now c.args.text.now (omega arith))
 
 pub slice_bounds-put_rest-count : goal.slice_bounds-put_rest-count
 slice_bounds-put_rest-count c = omega (arith, c.put_whole-passed.ensures.passed, whole_in c.args.file.now)
@@ -25,4 +25,4 @@ returns c =
     let w = c.put_rest.new.out in
     let start = rw c.new-writer.ensures.empty at p.ensures.text.1 in
     let e : room_of w ≡ filled t (text_of file) = text_filled file t p.new.out p.result _ p.ensures.passed start c.put_rest.ensures.1 in
-    rw c.accepted.ensures (wrote_all t _ (text_of file) w (search rules) e (omega (arith, text_short file)) ∙ sym (text_written file t (omega arith)))
+    rw c.from-2.ensures (wrote_all t _ (text_of file) w (search rules) e (omega (arith, text_short file)) ∙ sym (text_written file t (omega arith)))
