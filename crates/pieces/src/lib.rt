@@ -82,6 +82,111 @@ fn complain<E: Write>(errors: &mut E, failed: Failed, name: &[u8]) -> Result<(),
     write_all(errors, &out[..n])
 }
 
+// ---- over a reader and writers that are lent one by one
+//
+// Beside the methods of `Streams`, which call these: a caller that has a reader or a writer only on loan learns here what became of it. Of a `Streams` made over
+// such loans no clause can say that it still holds the same ones: a type parameter doesn't name a loan.
+
+// Reads once, to the front of a buffer. Answers how many bytes are read: none where the input has ended, or can't be read, which is said.
+fn take_in<R: Read, E: Write>(input: &mut R, errors: &mut E, buf: &mut [u8], name: &[u8]) -> usize
+    ensures fits { result ≤ length buf.new }
+    ensures comes { Consumes (R.remaining input.old) (R.remaining input.new) (take result buf.new) }
+    ensures quiet { 0 < result → Keeps (E.contents errors.old) (E.contents errors.new) }
+    ensures said { AppendsFront (E.contents errors.old) (E.contents errors.new) (message Failed.Input name.now) }
+{
+    match input.read(buf) {
+        Ok(n) => n,
+        Err(_) => {
+            let _ = complain(errors, Failed::Input, name);
+            0
+        }
+    }
+}
+
+/// Reads on behind the first `have` bytes of a buffer. Answers how many bytes the buffer then holds: no more than before where it is full, or the input has ended.
+/// Where the input can't be read, the program of this name says so.
+// Kept: `Refilled` of specs/ tells the bytes that are held, and the others, so the whole buffer goes with their number.
+pub fn refill<R: Read, E: Write>(
+    input: &mut R,
+    errors: &mut E,
+    buf: &mut [u8],
+    have: usize,
+    name: &[u8],
+) -> usize
+    ensures refilled { Refilled buf.old buf.new have result }
+    ensures comes { Consumes (R.remaining input.old) (R.remaining input.new) (drop have (take result buf.new)) }
+    ensures quiet { have < result → Keeps (E.contents errors.old) (E.contents errors.new) }
+    ensures said { AppendsFront (E.contents errors.old) (E.contents errors.new) (message Failed.Input name.now) }
+{
+    if buf.len() <= have {
+        return buf.len();
+    }
+    have + take_in(input, errors, &mut buf[have..], name)
+}
+
+/// The same where the input has not ended; where it has, nothing is read.
+// Kept: whether the input has ended is a value that goes on changing; a closure or two functions would be chosen by it at each call, which is no plainer.
+pub fn fill<R: Read, E: Write>(
+    input: &mut R,
+    errors: &mut E,
+    buf: &mut [u8],
+    have: usize,
+    last: bool,
+    name: &[u8],
+) -> usize
+    ensures filled { Filled buf.old buf.new have last result }
+    ensures comes { Consumes (R.remaining input.old) (R.remaining input.new) (drop have (take result buf.new)) }
+    ensures quiet { have < result → Keeps (E.contents errors.old) (E.contents errors.new) }
+    ensures said { AppendsFront (E.contents errors.old) (E.contents errors.new) (message Failed.Input name.now) }
+{
+    if last {
+        return buf.len().min(have);
+    }
+    refill(input, errors, buf, have, name)
+}
+
+// Writes bytes. Where the output can't be written, the program of this name says so.
+fn send<W: Write, E: Write>(
+    output: &mut W,
+    errors: &mut E,
+    bytes: &[u8],
+    name: &[u8],
+) -> Result<(), Unsent>
+    ensures all { OnOk result (Appends (W.contents output.old) (W.contents output.new) bytes.now) }
+    ensures front { AppendsFront (W.contents output.old) (W.contents output.new) bytes.now }
+    ensures quiet { OnOk result (Keeps (E.contents errors.old) (E.contents errors.new)) }
+    ensures said { AppendsFront (E.contents errors.old) (E.contents errors.new) (message Failed.Output name.now) }
+{
+    let sent = write_all(output, bytes);
+    if sent.is_err() {
+        let _ = complain(errors, Failed::Output, name);
+    }
+    sent
+}
+
+/// Writes the first n bytes of a buffer; nothing where it is shorter. Where the output can't be written, the program of this name says so.
+// Kept: clause `fits` says what happens where the buffer is shorter; a slice would leave that to each caller.
+pub fn flush<W: Write, E: Write>(
+    output: &mut W,
+    errors: &mut E,
+    buf: &[u8],
+    n: usize,
+    name: &[u8],
+) -> Result<(), Unsent>
+    ensures fits { OnOk result (n ≤ length buf.now) }
+    ensures all { OnOk result (Appends (W.contents output.old) (W.contents output.new) (take n buf.now)) }
+    ensures front { AppendsFront (W.contents output.old) (W.contents output.new) (take n buf.now) }
+    ensures quiet { OnOk result (Keeps (E.contents errors.old) (E.contents errors.new)) }
+    ensures said { AppendsFront (E.contents errors.old) (E.contents errors.new) (message Failed.Output name.now) }
+{
+    if buf.len() < n {
+        return Err(Unsent);
+    }
+    send(output, errors, &buf[..n], name)
+}
+
+// ---- over streams held together
+
 // Kept: `quiet`, `said` and `kept` stand in each function of `Streams`: each is a promise of its own, by name, and of the reader's or the writer's side.
 impl<'n, R, W: Write, E: Write> Streams<'n, R, W, E> {
     /// Writes bytes. Where the output can't be written, the program says so.
@@ -92,15 +197,10 @@ impl<'n, R, W: Write, E: Write> Streams<'n, R, W, E> {
         ensures said { AppendsFront (E.contents self.old.errors) (E.contents self.new.errors) (message Failed.Output self.old.name.now) }
         ensures kept { (self.new.input ≡ self.old.input) × (self.new.name ≡ self.old.name) }
     {
-        let sent = write_all(&mut self.output, bytes);
-        if sent.is_err() {
-            let _ = complain(&mut self.errors, Failed::Output, self.name);
-        }
-        sent
+        send(&mut self.output, &mut self.errors, bytes, self.name)
     }
 
-    /// Writes the first n bytes of a buffer; nothing where it is shorter.
-    // Kept: clause `fits` says what happens where the buffer is shorter; a slice would leave that to each caller.
+    /// `flush` to the output of these streams.
     pub fn flush(&mut self, buf: &[u8], n: usize) -> Result<(), Unsent>
         ensures fits { OnOk result (n ≤ length buf.now) }
         ensures all { OnOk result (Appends (W.contents self.old.output) (W.contents self.new.output) (take n buf.now)) }
@@ -109,34 +209,12 @@ impl<'n, R, W: Write, E: Write> Streams<'n, R, W, E> {
         ensures said { AppendsFront (E.contents self.old.errors) (E.contents self.new.errors) (message Failed.Output self.old.name.now) }
         ensures kept { (self.new.input ≡ self.old.input) × (self.new.name ≡ self.old.name) }
     {
-        if buf.len() < n {
-            return Err(Unsent);
-        }
-        self.send(&buf[..n])
+        flush(&mut self.output, &mut self.errors, buf, n, self.name)
     }
 }
 
 impl<'n, R: Read, W, E: Write> Streams<'n, R, W, E> {
-    // Reads once, to the front of a buffer. Answers how many bytes are read: none where the input has ended, or can't be read, which is said.
-    fn take_in(&mut self, buf: &mut [u8]) -> usize
-        ensures fits { result ≤ length buf.new }
-        ensures comes { Consumes (R.remaining self.old.input) (R.remaining self.new.input) (take result buf.new) }
-        ensures quiet { 0 < result → Keeps (E.contents self.old.errors) (E.contents self.new.errors) }
-        ensures said { AppendsFront (E.contents self.old.errors) (E.contents self.new.errors) (message Failed.Input self.old.name.now) }
-        ensures kept { (self.new.output ≡ self.old.output) × (self.new.name ≡ self.old.name) }
-    {
-        match self.input.read(buf) {
-            Ok(n) => n,
-            Err(_) => {
-                let _ = complain(&mut self.errors, Failed::Input, self.name);
-                0
-            }
-        }
-    }
-
-    /// Reads on behind the first `have` bytes of a buffer. Answers how many bytes the buffer then holds: no more than before where it is full, or the input has
-    /// ended. Where the input can't be read, the program says so.
-    // Kept: `Refilled` of specs/ tells the bytes that are held, and the others, so the whole buffer goes with their number.
+    /// `refill` from the input of these streams.
     pub fn refill(&mut self, buf: &mut [u8], have: usize) -> usize
         ensures refilled { Refilled buf.old buf.new have result }
         ensures comes { Consumes (R.remaining self.old.input) (R.remaining self.new.input) (drop have (take result buf.new)) }
@@ -144,14 +222,10 @@ impl<'n, R: Read, W, E: Write> Streams<'n, R, W, E> {
         ensures said { AppendsFront (E.contents self.old.errors) (E.contents self.new.errors) (message Failed.Input self.old.name.now) }
         ensures kept { (self.new.output ≡ self.old.output) × (self.new.name ≡ self.old.name) }
     {
-        if buf.len() <= have {
-            return buf.len();
-        }
-        have + self.take_in(&mut buf[have..])
+        refill(&mut self.input, &mut self.errors, buf, have, self.name)
     }
 
-    /// The same where the input has not ended; where it has, nothing is read.
-    // Kept: whether the input has ended is a value that goes on changing; a closure or two functions would be chosen by it at each call, which is no plainer.
+    /// `fill` from the input of these streams.
     pub fn fill(&mut self, buf: &mut [u8], have: usize, last: bool) -> usize
         ensures filled { Filled buf.old buf.new have last result }
         ensures comes { Consumes (R.remaining self.old.input) (R.remaining self.new.input) (drop have (take result buf.new)) }
@@ -159,10 +233,14 @@ impl<'n, R: Read, W, E: Write> Streams<'n, R, W, E> {
         ensures said { AppendsFront (E.contents self.old.errors) (E.contents self.new.errors) (message Failed.Input self.old.name.now) }
         ensures kept { (self.new.output ≡ self.old.output) × (self.new.name ≡ self.old.name) }
     {
-        if last {
-            return buf.len().min(have);
-        }
-        self.refill(buf, have)
+        fill(
+            &mut self.input,
+            &mut self.errors,
+            buf,
+            have,
+            last,
+            self.name,
+        )
     }
 }
 
