@@ -19,7 +19,8 @@
 // Prints a line for each case, then how many there are and how many are right. A line in no form makes its case wrong. What can't be written is passed over.
 ghost use Rattle.std.specs.Prelude.{◌≡◌, ◌≤◌, ◌&&◌, length, take};
 ghost use Rattle.std.specs.Io.KnownBytes.{Consumes};
-ghost use Rattle.trying.specs.Score.{agree};
+ghost use Rattle.std.specs.Option.{option_map_or};
+ghost use Rattle.trying.specs.Score.{agree, counted};
 
 use rules::{Answer, Board};
 use std::io::{Read, Write};
@@ -214,26 +215,16 @@ fn seen(value: u64) -> Answer {
     Answer::from(Ok(value))
 }
 
-impl Case<'_> {
-    // Over lent memory, or over zero.
-    fn new(lent: Option<&[u8]>) -> Case<'_> {
-        Case {
-            memory: lent.unwrap_or(&[]),
-            board: match lent {
-                Some(memory) => starting::fresh(memory),
-                None => starting::zero(),
-            },
-            file: [0; EVENTS],
-            filled: 0,
-            whole: true,
-            buffer: [0; BUFFER],
-            image: 0,
-            place: [0; 16],
-            answers: 0,
-            right: true,
-        }
-    }
+// A wrong answer and the one that is due, behind the name of the case. Each part is tried, whether or not the one before it went out.
+fn print_wrong<W: Write>(to: &mut W, answers: u64, answer: Answer, due: Due) {
+    let _ = write!(to, ": answer {answers} is ");
+    let _ = write!(to, "{}", Due::from(answer));
+    let _ = to.write_all(b", not ");
+    let _ = write!(to, "{due}");
+    let _ = to.write_all(b"\n");
+}
 
+impl Case<'_> {
     // A case stays right as long as each answer is the one that is due. The first wrong one is printed.
     fn judge<W: Write>(&mut self, to: &mut W, answer: Answer, due: Due)
         ensures { self.new.right ≡ self.old.right && agree answer due }
@@ -243,12 +234,7 @@ impl Case<'_> {
             return;
         }
         if self.right {
-            let _ = writeln!(
-                to,
-                ": answer {} is {}, not {due}",
-                self.answers,
-                Due::from(answer)
-            );
+            print_wrong(to, self.answers, answer, due);
         }
         self.right = false;
     }
@@ -374,7 +360,22 @@ struct Done {
 
 // The lines of a case, from `from` on, over lent memory or over zero. No run uses up the count of lines.
 fn run_lines<W: Write>(to: &mut W, text: &[u8], from: usize, lent: Option<&[u8]>) -> Done {
-    let mut case = Case::new(lent);
+    // A case is large: it is made where it stands.
+    let mut case = Case {
+        memory: lent.unwrap_or(&[]),
+        board: starting::zero(),
+        file: [0; EVENTS],
+        filled: 0,
+        whole: true,
+        buffer: [0; BUFFER],
+        image: 0,
+        place: [0; 16],
+        answers: 0,
+        right: true,
+    };
+    if let Some(memory) = lent {
+        starting::lend(&mut case.board, memory);
+    }
     let mut spot = Spot::at(from);
     for _ in 0..u64::MAX {
         let Some(line) = line_at(text, spot.at) else {
@@ -408,6 +409,25 @@ fn run_case<W: Write>(to: &mut W, text: &[u8], from: usize) -> Done {
     }
 }
 
+// A line that begins a case, and the case behind it; `None` where it begins none.
+fn run_line<W: Write>(to: &mut W, text: &[u8], line: Line) -> Option<Done> {
+    if word_of(line.text) != Some(Word::Case) {
+        return None;
+    }
+    let _ = to.write_all(line.text.get(5..).unwrap_or(&[]));
+    Some(run_case(to, text, line.next))
+}
+
+// The total behind a line.
+fn with_case(total: Total, done: Option<Done>) -> Total
+    ensures { result ≡ option_map_or (λ d. counted total d.right) done total }
+{
+    match done {
+        Some(done) => trying::count(total, done.right),
+        None => total,
+    }
+}
+
 // The lines one by one; those before the first case are passed over. No run uses up the count of lines.
 fn run_text<W: Write>(to: &mut W, text: &[u8]) -> Total {
     let mut total = Total { cases: 0, right: 0 };
@@ -416,13 +436,9 @@ fn run_text<W: Write>(to: &mut W, text: &[u8]) -> Total {
         let Some(line) = line_at(text, at) else {
             break;
         };
-        at = line.next;
-        if word_of(line.text) == Some(Word::Case) {
-            let _ = to.write_all(line.text.get(5..).unwrap_or(&[]));
-            let done = run_case(to, text, line.next);
-            total = trying::count(total, done.right);
-            at = done.at;
-        }
+        let done = run_line(to, text, line);
+        total = with_case(total, done);
+        at = done.map_or(line.next, |done| done.at);
     }
     total
 }
