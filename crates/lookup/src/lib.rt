@@ -130,9 +130,9 @@ pub fn join(deps: &mut [u32; MOST_DEPS], dep: u32)
 
 // ---- slots
 
-/// Whether the slot is in flight with the line.
+/// Whether the slot is in flight with the line. The line is asked for first: it differs in most slots.
 pub fn carries(slot: &Slot, line: u8) -> bool
     ensures { result ≡ carries line slot.now }
 {
-    slot.state == SlotState::InFlight && slot.line == line
+    slot.line == line && slot.state == SlotState::InFlight
 }

@@ -3,10 +3,10 @@
 // Which refusal an event meets: its tests, in the order of document 01. Nothing here changes a table, and every test has its answer for every content of the tables. The
 // last two tests of a write, 20 and 21, stand with its step, which makes the one pass over the slots.
 ghost use Rattle.std.specs.Prelude.{◌≡◌, ◌<◌, ◌≤◌, ◌&&◌, cond, eqb, IfErr, IsTrue, OnOk};
-ghost use Rattle.rules.specs.Access.{needs_log};
+ghost use Rattle.rules.specs.Access.{dependence, needs_log};
 ghost use Rattle.rules.specs.Codes.{code, code_of};
 ghost use Rattle.rules.specs.Refusal.{depth_of, first_bad, fits, is_foreign_open, is_set_up, no_room_for, no_room_for_dep, other_party, refusal, tests_of};
-ghost use Rattle.rules.specs.Tables.{locked, region_at, thread_at};
+ghost use Rattle.rules.specs.Tables.{current, locked, owner_of, region_at, thread_at};
 ghost use Rattle.rules.specs.declared.Tables.{Tables};
 ghost use Rattle.rules.specs.declared.Event.TheVariants.{Begin, Cut, DataAck, End, Fence, LogAck, Read, Setup, Write};
 ghost use Rattle.refusals.specs.Order.{before, late};
@@ -30,6 +30,19 @@ fn is_set_up(tables: &Tables) -> bool
     ensures within { IsTrue result → tables.now.size.threads ≤ 8 }
 {
     lookup::in_range(tables.size.threads, tables.size.lines)
+}
+
+// The line's owner, where that is another region than the thread's own; 0 where it is this one, and then nothing is searched.
+#[tactic(auto, using(crate::proofs::Owner::own), unfolding(rules::specs::Tables::owner_of))]
+fn other_owner(tables: &Tables, thread: u8, line: u8) -> u32
+    ensures foreign { is_foreign_open thread result tables.now ≡ is_foreign_open thread (owner_of line tables.now) tables.now }
+    ensures dependence { result ≡ dependence (current thread tables.now) line tables.now }
+{
+    if tables.owner[line as usize] == tables::current(tables, thread) {
+        0
+    } else {
+        tables::owner_of(tables, line)
+    }
 }
 
 // The owner is an open region of another thread.
@@ -174,7 +187,7 @@ pub fn test_read(tables: &Tables, thread: u8, line: u8, word: u8) -> Result<(), 
     if tables::depth_of(tables, thread) == 0 {
         return Err(Refusal::NoOpenRegion);
     }
-    let owner = tables::owner_of(tables, line);
+    let owner = other_owner(tables, thread, line);
     if is_foreign_open(tables, thread, owner) {
         return Err(Refusal::Owned);
     }
@@ -220,7 +233,7 @@ pub fn test_write(
     if tables::depth_of(tables, thread) == 0 {
         return Err(Refusal::NoOpenRegion);
     }
-    let owner = tables::owner_of(tables, line);
+    let owner = other_owner(tables, thread, line);
     if is_foreign_open(tables, thread, owner) {
         return Err(Refusal::Owned);
     }

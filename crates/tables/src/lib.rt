@@ -2,7 +2,7 @@
 
 // The tables where they stand: the searches over them, what they tell of one thread or region, and a region's flight. Every function answers for every value of its
 // arguments: a thread above 7 has no depth, number, log or marks.
-ghost use Rattle.std.specs.Prelude.{◌≡◌, ◌<◌, ◌≤◌, ◌&&◌, cond, eqb, not, position, length, set, count_by, IfSome};
+ghost use Rattle.std.specs.Prelude.{◌/◌, ◌≡◌, ◌<◌, ◌≤◌, ◌&&◌, cond, eqb, not, position, length, set, count_by, IfSome};
 ghost use Rattle.undo.specs.Table.{any};
 ghost use Rattle.rules.specs.Lists.{count};
 ghost use Rattle.rules.specs.Tables.{current, free_place, in_channel, is_held, is_key, is_placed, listed, owner_of, region_at, thread_at, with_region};
@@ -48,7 +48,8 @@ pub fn last_of(tables: &Tables, thread: u8) -> u16
 
 /// The key of a thread's last region, which is the open one at any depth but 0.
 pub fn current(tables: &Tables, thread: u8) -> u32
-    ensures { result ≡ current thread tables.now }
+    ensures key { result ≡ current thread tables.now }
+    ensures thread { result / 65536 ≡ thread }
 {
     NUMBERS * thread as u32 + last_of(tables, thread) as u32
 }
@@ -205,10 +206,13 @@ pub fn owner_of(tables: &Tables, line: u8) -> u32
     uncommitted(&tables.regions, tables.owner[line as usize])
 }
 
-/// The dependence that an access by region `key` brings of a line whose last writer is `owner`; 0 if none.
+/// The dependence that an access by region `key` brings of a line whose last writer is `owner`; 0 if none. Where the writer is the region itself nothing is searched.
 pub fn dependence(regions: &[Region; MOST_REGIONS], owner: u32, key: u32) -> u32
     ensures { result ≡ cond (eqb (cond (listed owner regions.now) owner 0) key) 0 (cond (listed owner regions.now) owner 0) }
 {
+    if owner == key {
+        return 0;
+    }
     let writer = uncommitted(regions, owner);
     if writer == key { 0 } else { writer }
 }
@@ -341,14 +345,21 @@ pub fn count_party(
 
 // ---- flights
 
-/// Whether a slot of some region is in flight with the line.
+fn has_flight(regions: &[Region; MOST_REGIONS], line: u8) -> bool
+    ensures { result ≡ any (λ r. any (carries line) r.slots) regions.now }
+{
+    regions.iter().any(|region| slots::has_flight(region, line))
+}
+
+/// Whether a slot of some region is in flight with the line. Mostly it is one of the line's last writer, which is asked first.
+#[tactic(auto, using(std::proofs::lemmas::List::Folds::list_any_at))]
 pub fn is_in_flight(tables: &Tables, line: u8) -> bool
     ensures { result ≡ in_flight line tables.now }
 {
-    tables
-        .regions
-        .iter()
-        .any(|region| slots::has_flight(region, line))
+    match place_of(&tables.regions, tables.owner[line as usize]) {
+        Some(at) if slots::has_flight(&tables.regions[at], line) => true,
+        _ => has_flight(&tables.regions, line),
+    }
 }
 
 fn first_flight(regions: &[Region; MOST_REGIONS], line: u8) -> Option<usize>

@@ -9,4 +9,4 @@ unfolding opened
 returns c =
     let ths = c.args.tables.now.threads in
     let t = c.args.thread in
-    rw (c.next_number.ensures, c.enter.ensures, c.begun-region.ensures, c.current-before.ensures, get_or_default ths t _ no_thread (omega arith), add_assoc (65536 * t) (get_or ths t no_thread).last 1)
+    rw (c.next_number.ensures, c.enter.ensures, c.begun-region.ensures, c.current-before.ensures.key, get_or_default ths t _ no_thread (omega arith), add_assoc (65536 * t) (get_or ths t no_thread).last 1)
