@@ -1,14 +1,15 @@
 -- Bytes put into a room, one behind the other.
+use borrow.Rule.Slice.PartMut.{put_mid}
 use Prim.Native.Nat.{◌%◌, ◌+◌, ◌-◌, ◌/◌, ◌<◌, ◌≤◌, suc, ℕ}
 use mathlib.Core.Path.{◌∙◌, ◌≡◌, ap, refl, sym}
-use mathlib.Core.Bool.{cond, false, true}
+use mathlib.Core.Bool.{Bool, cond, false, true}
 use mathlib.Core.List.{List, [], ◌++◌, ◌∷◌, append_assoc, append-nil}
 use lib.Dec.{leb, leb-suc-suc}
-use lib.ListN.{drop, drop_of_length-le, get_or, length, length-append, take}
+use lib.ListN.{drop, drop_of_length-le, get_or, length, length-append, length-set, set, take}
 use native.Mathlib.Omega.{arith}
 use native.Mathlib.Numerals.{add-one}
 use borrow.Author.Tests.{le-leb, le-ltb, lt-leb, lt-ltb}
-use lib.Seq.{drop-cons, set-append_seam, take_all, take-append_seam, take-nil}
+use lib.Seq.{drop-cons, drop-drop, set-append_seam, sets, sets-eq, take_all, take-append_seam, take-nil}
 use native.Mathlib.Nat.{add-suc, add-zero, suc-add, zero-add}
 use Rattle.output.specs.Room.{Room, filled, put, puts, room}
 use Rattle.output.specs.declared.Cursor.{Cursor}
@@ -43,6 +44,22 @@ full : (d : List ℕ) (at : ℕ) (bs : List ℕ) → length d ≤ at → puts (r
 unfolding puts put room
 full d at [] h = refl
 full d at (b ∷ bs) h = rw (le-ltb at (length d) h) (full d at bs h)
+
+-- where there is room the bytes stand in a row
+in_row : (d : List ℕ) (at : ℕ) (s : Bool) (bs : List ℕ) → at + length bs ≤ length d
+    → puts (room d (record { at = at; short = s })) bs ≡ room (sets d at bs) (record { at = at + length bs; short = s })
+unfolding puts put room
+in_row d at s [] h = rw (add-zero)
+in_row d at s (b ∷ bs) h =
+    let n : suc at + length bs ≤ length (set d at b) = rw length-set (omega (arith, h)) in
+    rw (lt-ltb at (length d) (omega (arith, h)), add-one at, in_row (set d at b) (suc at) s bs n, suc-add, add-suc)
+
+-- and so they are put where a part of the buffer is lent and they are copied into it
+pub puts_whole : (d : List ℕ) (c : Cursor) (bs : List ℕ) → c.at + length bs ≤ length d
+    → room (put_mid c.at (c.at + length bs - c.at) d bs) (record { at = c.at + length bs; short = c.short }) ≡ puts (room d c) bs
+puts_whole d c bs h =
+    let k : c.at + length bs - c.at ≡ length bs = omega arith in
+    rw (in_row d c.at c.short bs h, sets-eq bs d c.at h, append_assoc (take c.at d) bs (drop (c.at + length bs) d), k, drop-drop (length bs) c.at d)
 
 -- a buffer filled behind the bytes p, from the cursor at its end
 behind : List ℕ → List ℕ → List ℕ → Room

@@ -1,7 +1,7 @@
 #![tactic(auto)]
 
 // Bytes, and numbers in decimal or in bytes, into a lent buffer, one behind the other. Bytes that find no room are dropped, and the cursor says so.
-ghost use Rattle.std.specs.Prelude.{◌%◌, ◌+◌, ◌≡◌, false, [], ◌∷◌};
+ghost use Rattle.std.specs.Prelude.{◌%◌, ◌+◌, ◌≡◌, ◌≤◌, false, [], ◌∷◌, length};
 ghost use Rattle.rules.specs.Bytes.{bytes_of};
 ghost use Rattle.output.specs.Room.{room};
 ghost use Rattle.output.specs.Writer.{Puts, room_of};
@@ -54,6 +54,30 @@ impl<'a> Writer<'a> {
     {
         for byte in bytes {
             self.put_byte(*byte);
+        }
+    }
+
+    // Bytes that have room behind the cursor.
+    #[inline(always)]
+    fn put_whole(&mut self, bytes: &[u8])
+        requires { self.old.cursor.at + length bytes.now ≤ length self.old.out.now }
+        ensures { Puts self.old bytes.now self.new }
+    {
+        let end = self.cursor.at + bytes.len();
+        self.out[self.cursor.at..end].copy_from_slice(bytes);
+        self.cursor.at = end;
+    }
+
+    /// The same as `put_all`, for bytes whose number is known where it is called: those that have room are copied at once, in line.
+    #[inline(always)]
+    pub fn put_block(&mut self, bytes: &[u8])
+        ensures { Puts self.old bytes.now self.new }
+    {
+        let room = self.out.len();
+        if self.cursor.at <= room && bytes.len() <= room - self.cursor.at {
+            self.put_whole(bytes);
+        } else {
+            self.put_all(bytes);
         }
     }
 

@@ -20,7 +20,8 @@ const REGION: u8 = 34;
 
 const ENTRY: u8 = 35;
 
-// Bytes, where there is room for all of them.
+// Bytes, where there is room for all of them. In line, so that their number is known.
+#[inline(always)]
 #[tactic(auto, unfolding(output::specs::Room::puts))]
 fn put(out: &mut Writer<'_>, bytes: &[u8])
     ensures { PutsWhole out.old bytes.now out.new }
@@ -28,7 +29,7 @@ fn put(out: &mut Writer<'_>, bytes: &[u8])
     if !lines::has_room(out.out.len(), out.cursor.at, bytes.len()) {
         return;
     }
-    out.put_all(bytes);
+    out.put_block(bytes);
 }
 
 // ---- records and their parts as bytes
