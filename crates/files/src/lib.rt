@@ -7,8 +7,8 @@ ghost use Rattle.std.proofs.lemmas.List.Edits.{sets};
 ghost use Rattle.headed.specs.Image.{image_headed_call};
 ghost use Rattle.listing.specs.Layout.{tables_call};
 ghost use Rattle.rules.specs.Image.{image_call};
-ghost use Rattle.rules.specs.Run.{answers_bytes, events_call, run_file};
-ghost use Rattle.rules.specs.Tables.{Lent};
+ghost use Rattle.rules.specs.Run.{answers_bytes, events_call, run, run_file};
+ghost use Rattle.rules.specs.Tables.{Lent, Zero, fresh};
 ghost use Rattle.rules.specs.Record.{records_of};
 ghost use Rattle.files.specs.Parts.{size_of, wrote};
 
@@ -62,19 +62,28 @@ fn record_count(file: &[u8]) -> usize
 
 // ---- the run
 
-// The run of a file over lent memory, on a board whatever it held. The answers are written if there is room for all.
+// The records of a file one by one. The answers are written if there is room for all.
 #[tactic(auto, using(crate::proofs::Runs::end_board, crate::proofs::Runs::end_bytes))]
-fn run_records(board: &mut Board, file: &[u8], memory: &[u8], answers: &mut [u8])
-    ensures board { board.new ≡ (run_file (Lent memory.now) file.now).board }
-    ensures answers { 9 * length (records_of file.now) ≤ length answers.old → answers.new ≡ sets answers.old 0 (answers_bytes (run_file (Lent memory.now) file.now).answers) }
+fn run_records(board: &mut Board, file: &[u8], answers: &mut [u8])
+    ensures board { board.new ≡ (run board.old (records_of file.now)).board }
+    ensures answers { 9 * length (records_of file.now) ≤ length answers.old → answers.new ≡ sets answers.old 0 (answers_bytes (run board.old (records_of file.now)).answers) }
 {
-    starting::reset(board, memory);
     let mut at = 0;
     for record in Records(file) {
         let answer = engine::event(board, record);
         lines::put_answer(answers, at, answer.refusal, answer.value);
         at = at.saturating_add(ANSWER_BYTES);
     }
+}
+
+// The run of a file over lent memory, on a board before setup over zero memory, which the caller makes: a board is large.
+fn run_lent(board: &mut Board, file: &[u8], memory: &[u8], answers: &mut [u8])
+    requires { board.old ≡ fresh Zero }
+    ensures board { board.new ≡ (run_file (Lent memory.now) file.now).board }
+    ensures answers { 9 * length (records_of file.now) ≤ length answers.old → answers.new ≡ sets answers.old 0 (answers_bytes (run_file (Lent memory.now) file.now).answers) }
+{
+    starting::lend(board, memory);
+    run_records(board, file, answers);
 }
 
 // ---- the calls
@@ -91,7 +100,7 @@ pub fn run_file(file: &[u8], memory: &[u8], answers: &mut [u8]) -> Answer
         return Answer::from(Err(Refusal::OutOfRange));
     }
     let mut board = starting::zero();
-    run_records(&mut board, file, memory, answers);
+    run_lent(&mut board, file, memory, answers);
     Answer::from(Ok(count as u64))
 }
 
@@ -103,7 +112,7 @@ pub fn run_image(file: &[u8], memory: &[u8], image: &mut [u8]) -> Answer
     ensures { wrote result image.new ≡ image_call file.now memory.now image.old }
 {
     let mut board = starting::zero();
-    run_records(&mut board, file, memory, &mut []);
+    run_lent(&mut board, file, memory, &mut []);
     saving::save(&board, image)
 }
 
@@ -114,7 +123,7 @@ pub fn run_image_headed(file: &[u8], memory: &[u8], image: &mut [u8]) -> Answer
     ensures { wrote result image.new ≡ image_headed_call file.now memory.now image.old }
 {
     let mut board = starting::zero();
-    run_records(&mut board, file, memory, &mut []);
+    run_lent(&mut board, file, memory, &mut []);
     saving::save_headed(&board, image)
 }
 
@@ -126,6 +135,6 @@ pub fn run_tables(file: &[u8], memory: &[u8], tables: &mut [u8]) -> Answer
     ensures { wrote result tables.new ≡ tables_call file.now memory.now tables.old }
 {
     let mut board = starting::zero();
-    run_records(&mut board, file, memory, &mut []);
+    run_lent(&mut board, file, memory, &mut []);
     listing::put_tables(&board.tables, tables)
 }

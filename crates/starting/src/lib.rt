@@ -3,6 +3,7 @@
 //! The board before setup, over zero or lent starting memory.
 ghost use Rattle.std.specs.Prelude.{◌≡◌};
 ghost use Rattle.rules.specs.Tables.{fresh, fresh_tables, no_entry, no_region, no_thread, start_lines, Lent, Zero};
+ghost use Rattle.starting.specs.Lend.{lent};
 
 use measures::{
     LINE_BYTES, LINE_WORDS, Lines, MOST_ENTRIES, MOST_LINES, MOST_LOGGED, MOST_REGIONS,
@@ -81,17 +82,28 @@ pub fn zero() -> Board
     }
 }
 
-/// Resets a board, whatever it held, to the one before setup over lent memory: current memory and the medium "both begin as it". A board is large; this one stays
-/// where it stands.
+/// Lends starting memory to a board: current memory and the medium "both begin as it". Where the board stands before setup over zero memory, that is all there is to
+/// do; log and carried lines stay as they are.
+#[tactic(auto, unfolding(rules::specs::Tables::fresh))]
+pub fn lend(board: &mut Board, memory: &[u8])
+    ensures all { board.new ≡ lent memory.now board.old }
+    ensures fresh { board.old ≡ fresh Zero → board.new ≡ fresh (Lent memory.now) }
+{
+    board.tables.size.zero = false;
+    board.tables.size.lent = memory.len() as u64;
+    load(memory, &mut board.cur);
+    board.med = board.cur;
+}
+
+/// Resets a board, whatever it held, to the one before setup over lent memory. A board is large; this one stays where it stands.
 #[tactic(auto, unfolding(rules::specs::Tables::fresh))]
 pub fn reset(board: &mut Board, memory: &[u8])
     ensures { board.new ≡ fresh (Lent memory.now) }
 {
     board.tables = fresh_tables(false, memory.len() as u64);
-    load(memory, &mut board.cur);
-    board.med = board.cur;
     board.log_lines = [[0; LINE_WORDS]; MOST_LOGGED];
     board.car = [[0; LINE_WORDS]; MOST_LINES];
+    lend(board, memory);
 }
 
 /// The board before setup over lent memory.
