@@ -3,7 +3,7 @@
 // Reads an event file in the readable form on standard input and writes its bytes. The text may have any length: it is read in pieces.
 // The first line that is not in the form is named on standard error: the bytes of all lines before it go out, and nothing after them.
 // In whatever pieces a text comes, the bytes that go out are its (`Ran`). The contracts say what is read and what goes out where a reader's and a writer's bytes
-// are known (`RanOver`); of standard input and output no contract can: there the functions that write ask it of their callers.
+// are known (`RanOver`); of standard input and output no contract can: each turn's contract says what it hands over.
 ghost use Rattle.std.specs.Prelude.{◌≡◌, ◌≤◌, length, take};
 ghost use Rattle.pieces.specs.Streams.{AppendsFront};
 ghost use Rattle.tobytes.specs.Results.{RanOver, Turned, between, complaint, goes_on, is_bad, line_end, sent_all, start};

@@ -2,7 +2,7 @@
 
 // Reads an event file on standard input and writes it in the readable form. The file may have any length: it is read in pieces.
 // In whatever pieces a file comes, the text that goes out is its (`Ran`). The contracts say what is read and what goes out where a reader's and a writer's bytes
-// are known (`RanOver`); of standard input and output no contract can: there the functions that write ask it of their callers.
+// are known (`RanOver`); of standard input and output no contract can: each turn's contract says what it hands over.
 ghost use Rattle.std.specs.Prelude.{◌≡◌, ◌&&◌, true, take, OnOk};
 ghost use Rattle.events.specs.Whole.{record_length};
 ghost use Rattle.totext.specs.Results.{Numbered, RanOver, RestedOver, Turned, between, goes_on, is_left, may_come, rest, sent_all, start};
@@ -167,9 +167,10 @@ fn main(rt: HostRuntime) {
         errors: rt.stderr(),
         name: b"totext",
     };
-    let mut records = Records::new();
-    put_records(&mut records, &mut streams);
-    if records.left.sent && 0 < records.left.held {
-        let _ = put_rest(&mut Numbers(records), &mut streams);
+    // The rest stands where the records stood: a file's buffers are large, and there is one set of them.
+    let mut rest = Numbers(Records::new());
+    put_records(&mut rest.0, &mut streams);
+    if rest.0.left.sent && 0 < rest.0.left.held {
+        let _ = put_rest(&mut rest, &mut streams);
     }
 }

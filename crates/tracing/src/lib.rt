@@ -33,7 +33,8 @@ fn saved_words(out: &mut Writer<'_>, board: &Board, image: &mut [u8])
     }
 }
 
-// The same of the image that a cut leaves.
+// The same of the image that a cut leaves. A call of its own: in line, each event would pay for the image's buffer.
+#[inline(never)]
 #[tactic(auto, unfolding(wording::specs::Text::cut_text, wording::specs::Text::image_buffer))]
 fn cut_words(out: &mut Writer<'_>, board: &Board)
     ensures { Puts out.old (cut_text board.now) out.new }

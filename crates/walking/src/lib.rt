@@ -85,8 +85,8 @@ pub fn walk_order(regions: &[Listed]) -> Order
 // ---- the log entry at a place of the walk
 
 // How many log entries region `key` has.
-// Kept: a chain of `filter` and `count` runs mark by mark and makes a recovery step half as slow again: it misses the
-// bar of a whole recovery of the largest image in docs/SPEED.md.
+// Kept: a chain of `filter` and `count` runs mark by mark, and a recovery step takes more than twice as long (docs/SPEED.md,
+// "What was tried").
 fn count_of(log: &[Mark], key: u32) -> usize
     ensures { result ≡ count_by (λ m. eqb m.key key) log.now }
 {
